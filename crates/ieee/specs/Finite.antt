@@ -1,0 +1,112 @@
+-- What a float that a format holds is in units: a whole number of at most prec bits, below 2 ^ (emax + 1). It is determined by its sign and its units.
+-- Assumes nothing.
+use mathlib.Core.Path.{_≡_, refl, sym, ap, _∙_}
+use mathlib.Core.Bool.{Bool, true, false, _&&_, cond}
+use Prim.Native.Nat.{ℕ, zero, suc, _+_, _-_, _*_, _/_, _%_, _^_, _≤_, _<_}
+use native.Mathlib.Nat.{le-of-lt, zero-mul, mul-one, one-mul, mul-assoc, mul-comm, mul-right-comm, mul-div-cancel, mul-lt-mul-of-pos-right, lt-of-mul-lt-mul-right}
+use native.Mathlib.Omega.{arith}
+use lib.IntN.{ℤ, pos, negsuc}
+use lib.Dec.{T, leb, ltb, eqb, leb→le, ltb→lt, eqb→eq}
+use lib.Pow.{pow-add, pow-pos}
+use lib.Ieee.{Float, nan, inf, fin, Format, prec, emax, low, up, down, size, fits, toBits, ofBits, top, hid}
+use lib.Ieee.Digits.{back}
+use lib.Ieee.Fits.{down-pos, and-l, and-r}
+use lib.Ieee.Exact.{HasValue}
+use lib.Ieee.Scale.{finite}
+use lib.Ieee.Bits.{ofBits-toBits}
+use Rattle.units.specs.Rounding.{Short}
+use Rattle.units.specs.Powers.{pow-le-back}
+use Rattle.ieee.specs.Units.{negative, magnitude, beyond}
+
+-- x is ±n units
+abbrev pub Is : Format → Float → Bool → ℕ → Type 0
+Is f x s n = HasValue x s n (2 ^ low f)
+
+pub is-units : (f : Format) (x : Float) (s : Bool) (n : ℕ) → Is f x s n → (negative x ≡ s) × (magnitude f x ≡ n)
+unfolding negative magnitude
+is-units f nan s n h = absurd h
+is-units f (inf t) s n h = absurd h
+is-units f (fin t m e) s n h = (h .0, ap (λ (x : ℕ). x / down e) (h .1) ∙ mul-div-cancel n (down-pos e))
+
+pub is-finite : (f : Format) (x : Float) (s : Bool) (n : ℕ) → Is f x s n → T (finite x)
+is-finite f nan s n h = h
+is-finite f (inf t) s n h = h
+is-finite f (fin t m e) s n h = tt
+
+-- ---- what `fits` says of a float that is not zero
+record Parts (f : Format) (m : ℕ) (e : ℤ) : Type 0 where
+  pub small : m < 2 ^ prec f
+  pub deep : down e ≤ 2 ^ low f
+  pub far : m * up e < 2 ^ suc (emax f) * down e
+
+parts : (f : Format) (s : Bool) (m : ℕ) (e : ℤ) → T (fits f (fin s (suc m) e)) → Parts f (suc m) e
+unfolding fits
+parts f s m e h =
+    let A = eqb (suc m % 2) 1 in
+    let B = ltb (suc m) (2 ^ prec f) in
+    let C = leb (down e) (2 ^ low f) in
+    let D = ltb (suc m * up e) (2 ^ suc (emax f) * down e) in
+    record {
+      small = ltb→lt (suc m) (2 ^ prec f) (and-r A B (and-l (A && B) C (and-l (A && B && C) D h)));
+      deep = leb→le (down e) (2 ^ low f) (and-r (A && B) C (and-l (A && B && C) D h));
+      far = ltb→lt (suc m * up e) (2 ^ suc (emax f) * down e) (and-r (A && B && C) D h);
+    }
+
+-- 2 ^ e is a whole number of units, 2 ^ j of them
+place : (l : ℕ) (e : ℤ) → down e ≤ 2 ^ l → (j : ℕ) × (up e * 2 ^ l ≡ 2 ^ j * down e)
+place l (pos a) h = (a + l, sym (pow-add 2 a l) ∙ sym (mul-one (2 ^ (a + l))))
+place l (negsuc a) h =
+    let g : suc a ≤ l = pow-le-back (suc a) l h in
+    (l - suc a, one-mul (2 ^ l) ∙ ap (λ (x : ℕ). 2 ^ x) (sym (back l (suc a) g)) ∙ pow-add 2 (l - suc a) (suc a))
+
+-- ---- the facts
+pub record Facts (f : Format) (x : Float) : Type 0 where
+  pub is : Is f x (negative x) (magnitude f x)
+  pub below : magnitude f x < beyond f
+  pub short : Short (prec f) (magnitude f x)
+
+facts-at : (f : Format) (s : Bool) (m : ℕ) (e : ℤ) (n : ℕ) → m * up e * 2 ^ low f ≡ n * down e → n < beyond f → Short (prec f) n → Facts f (fin s m e)
+unfolding negative magnitude
+facts-at f s m e n h b c =
+    let k : m * up e * 2 ^ low f / down e ≡ n = ap (λ (x : ℕ). x / down e) h ∙ mul-div-cancel n (down-pos e) in
+    record { is = (refl, h ∙ ap (λ (x : ℕ). x * down e) (sym k)); below = rw k b; short = rw k c }
+
+pub facts : (f : Format) (x : Float) → T (fits f x) → T (finite x) → Facts f x
+facts f nan h t = absurd t
+facts f (inf s) h t = absurd t
+facts f (fin s zero e) h t =
+    facts-at f s 0 e 0 (ap (λ (x : ℕ). x * 2 ^ low f) (zero-mul (up e)) ∙ zero-mul (2 ^ low f) ∙ sym (zero-mul (down e))) (pow-pos (low f + suc (emax f)))
+    (record { exp = 0; sig = 0; is = omega arith; small = omega arith })
+facts f (fin s (suc m) e) h t = facts-at f s (suc m) e (suc m * 2 ^ j .0) units far (record { exp = j .0; sig = suc m; is = refl; small = le-of-lt (p .small) })
+  where
+    p : Parts f (suc m) e
+    p = parts f s m e h
+
+    j : (j : ℕ) × (up e * 2 ^ low f ≡ 2 ^ j * down e)
+    j = place (low f) e (p .deep)
+
+    units : suc m * up e * 2 ^ low f ≡ suc m * 2 ^ j .0 * down e
+    units = mul-assoc (suc m) (up e) (2 ^ low f) ∙ ap (λ (x : ℕ). suc m * x) (j .1) ∙ sym (mul-assoc (suc m) (2 ^ j .0) (down e))
+
+    -- 2 ^ (emax + 1) is `beyond` units
+    beyond-is : 2 ^ suc (emax f) * down e * 2 ^ low f ≡ beyond f * down e
+    beyond-is =
+        mul-right-comm (2 ^ suc (emax f)) (down e) (2 ^ low f)
+        ∙ ap (λ (x : ℕ). x * down e) (mul-comm (2 ^ suc (emax f)) (2 ^ low f) ∙ sym (pow-add 2 (low f) (suc (emax f))))
+
+    far : suc m * 2 ^ j .0 < beyond f
+    far = lt-of-mul-lt-mul-right (down e) (rw (← units, ← beyond-is) (mul-lt-mul-of-pos-right (p .far) (pow-pos (low f))))
+
+-- ---- one sign and one number of units are one float
+pub bits-are : (f : Format) (x : Float) → T (finite x) →
+    toBits f x ≡ cond (negative x) (top f) 0 + (size (magnitude f x) - prec f) * hid f + magnitude f x / 2 ^ (size (magnitude f x) - prec f)
+unfolding negative magnitude toBits
+bits-are f nan t = absurd t
+bits-are f (inf s) t = absurd t
+bits-are f (fin s m e) t = refl
+
+pub unique : (f : Format) (x y : Float) → T (fits f x) → T (finite x) → T (fits f y) → T (finite y) → negative x ≡ negative y → magnitude f x ≡ magnitude f y → x ≡ y
+unique f x y p u q v s n =
+    sym (ofBits-toBits f x p)
+    ∙ ap (ofBits f) (bits-are f x u ∙ (λ i. cond (s i) (top f) 0 + (size (n i) - prec f) * hid f + n i / 2 ^ (size (n i) - prec f)) ∙ sym (bits-are f y v))
+    ∙ ofBits-toBits f y q

@@ -1,0 +1,3 @@
+-- Floats and their bit patterns as whole numbers of units, over lib.Ieee's formats.
+pub mod Units
+pub mod Finite

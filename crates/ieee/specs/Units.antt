@@ -1,0 +1,60 @@
+-- A finite float as a whole number of units, and the float nearest to a whole number of units. Definitions only.
+-- A unit is 2 ^ -low, the format's smallest positive value: 2 ^ -1074 at binary64, 2 ^ -149 at binary32.
+use mathlib.Core.Path.{_≡_}
+use mathlib.Core.Bool.{Bool, true, false, cond}
+use Prim.Native.Nat.{ℕ, zero, suc, _+_, _-_, _*_, _/_, _%_, _^_}
+use lib.IntN.{ℤ, pos, negsuc, negℤ}
+use lib.Ieee.{Float, nan, inf, fin, Format, prec, emax, low, up, down, round}
+use Rattle.units.specs.Whole.{Whole, nat, neg}
+
+-- the sign, and the magnitude in units. The division leaves no remainder at a float that the format holds.
+unfoldable pub negative : Float → Bool
+negative nan = false
+negative (inf s) = s
+negative (fin s m e) = s
+
+unfoldable pub magnitude : Format → Float → ℕ
+magnitude f nan = 0
+magnitude f (inf s) = 0
+magnitude f (fin s m e) = m * up e * 2 ^ low f / down e
+
+-- ±n, as one of the language's integers and as a difference of naturals
+abbrev pub signed : Bool → ℕ → ℤ
+signed false n = pos n
+signed true n = negℤ (pos n)
+
+abbrev pub signedWhole : Bool → ℕ → Whole
+signedWhole false n = nat n
+signedWhole true n = neg (nat n)
+
+-- how many units a finite float is, in either way of writing
+unfoldable pub value : Format → Float → ℤ
+unfolding negative magnitude
+value f x = signed (negative x) (magnitude f x)
+
+unfoldable pub whole : Format → Float → Whole
+unfolding negative magnitude
+whole f x = signedWhole (negative x) (magnitude f x)
+
+-- the float nearest to S units, a tie to the even significand: lib.Ieee's own rounding of S / 2 ^ low. A zero gets the sign z.
+unfoldable pub nearestFloat : Format → Bool → ℤ → Float
+unfolding round
+nearestFloat f z (pos zero) = round f z 0 (2 ^ low f)
+nearestFloat f z (pos (suc n)) = round f false (suc n) (2 ^ low f)
+nearestFloat f z (negsuc n) = round f true (suc n) (2 ^ low f)
+
+-- 2 ^ (emax + 1) in units, which no finite float reaches, and the least number of units whose nearest float is an infinity
+abbrev pub beyond : Format → ℕ
+beyond f = 2 ^ (low f + suc (emax f))
+
+abbrev pub limit : Format → ℕ
+limit f = beyond f - 2 ^ (low f + emax f - prec f)
+
+-- ---- bit patterns. r is a pattern without its sign, `b % top f`
+-- the units that an exponent's field x and the digits t below the leading one stand for: a field of 0 has no leading digit, and counts as a field of 1
+abbrev pub fieldUnits : Format → ℕ → ℕ → ℕ
+fieldUnits f zero t = t
+fieldUnits f (suc x) t = (2 ^ (prec f - 1) + t) * 2 ^ x
+
+unfoldable pub patternUnits : Format → ℕ → ℕ
+patternUnits f r = fieldUnits f (r / 2 ^ (prec f - 1)) (r % 2 ^ (prec f - 1))
