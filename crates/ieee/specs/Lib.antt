@@ -1,3 +1,4 @@
 -- Floats and their bit patterns as whole numbers of units, over lib.Ieee's formats.
 pub mod Units
 pub mod Finite
+pub mod Rounded
