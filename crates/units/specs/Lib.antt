@@ -3,3 +3,7 @@ pub mod Whole
 pub mod Rounding
 pub mod Powers
 pub mod NaturalRounding
+pub mod Multiples
+pub mod SignedRounding
+pub mod Ties
+pub mod Scaling

@@ -1,0 +1,71 @@
+-- Rounding to p bits has no preferred scale: a power of two goes through it. Assumes nothing.
+use mathlib.Core.Path.{_≡_, refl, sym, ap, _∙_}
+use mathlib.Core.Logic.{inl, inr}
+use Prim.Native.Nat.{ℕ, suc, _+_, _-_, _*_, _^_, _≤_, _<_}
+use native.Mathlib.Nat.{le-antisymm, le-trans, le-of-eq, le-of-lt, lt-of-le-of-lt, lt-of-lt-of-le, mul-le-mul-right, mul-assoc, mul-comm, mul-sub}
+use native.Mathlib.Omega.{arith}
+use lib.Pow.{pow-add, pow-pos, pow-mono, shl-lt}
+use lib.Ieee.{size}
+use lib.Ieee.Digits.{size-lt, size-le, size-reaches}
+use lib.Ieee.Nearest.{closest, closest-same}
+use Rattle.units.specs.Whole.{Whole, _⊗_}
+use Rattle.units.specs.Rounding.{dropped, rnd, fl, Short}
+use Rattle.units.specs.Powers.{le-or-lt, pow-le-back}
+use Rattle.units.specs.NaturalRounding.{exact, rnd-is}
+
+-- n above 0 has j digits more when it is multiplied by 2 ^ j
+size-scale : (n j : ℕ) → 0 < n → size (n * 2 ^ j) ≡ size n + j
+size-scale n j N = le-antisymm (size-le (n * 2 ^ j) (size n + j) (shl-lt (size n) j (size-lt n))) (elim (le-or-lt (size n + j) (size (n * 2 ^ j))) [
+  | inl l ↦ l
+  | inr l ↦ absurd (omega (arith, size-lt (n * 2 ^ j), pow-mono (most l), pow-add 2 (size n - 1) j, mul-le-mul-right (2 ^ j) (size-reaches n (size n - 1) last)))
+])
+  where
+    some : 0 < size n
+    some = elim (le-or-lt (size n) 0) [ inl l ↦ absurd (omega (arith, size-lt n, pow-mono l)) | inr l ↦ l ]
+
+    last : size n - 1 < size n
+    last = omega (arith, some)
+
+    most : size (n * 2 ^ j) < size n + j → size (n * 2 ^ j) ≤ size n - 1 + j
+    most l = omega (arith, some)
+
+module _ (p : ℕ) (P : 0 < p) where
+  pub rnd-scale : (n j : ℕ) → rnd p (n * 2 ^ j) ≡ rnd p n * 2 ^ j
+  unfolding dropped
+  rnd-scale n j = elim (le-or-lt (size n) p) [ inl l ↦ exact p P (scaled l) ∙ ap (λ (x : ℕ). x * 2 ^ j) (sym (exact p P (short l))) | inr l ↦ long l ]
+    where
+      small : size n ≤ p → n ≤ 2 ^ p
+      small l = omega (arith, size-lt n, pow-mono l)
+
+      short : size n ≤ p → Short p n
+      short l = record { exp = 0; sig = n; is = omega arith; small = small l }
+
+      scaled : size n ≤ p → Short p (n * 2 ^ j)
+      scaled l = record { exp = j; sig = n; is = refl; small = small l }
+
+      k : ℕ
+      k = dropped p n
+
+      long : p < size n → rnd p (n * 2 ^ j) ≡ rnd p n * 2 ^ j
+      long l =
+          rnd-is p (n * 2 ^ j)
+          ∙ ap (λ (x : ℕ). closest (n * 2 ^ j) (2 ^ x) * 2 ^ x) more
+          ∙ (λ i. closest-same (n * 2 ^ j) (2 ^ (k + j)) n (2 ^ k) (pow-pos (k + j)) (pow-pos k) swap i * pow-add 2 k j i)
+          ∙ sym (mul-assoc (closest n (2 ^ k)) (2 ^ k) (2 ^ j))
+          ∙ ap (λ (x : ℕ). x * 2 ^ j) (sym (rnd-is p n))
+        where
+          some : 0 < n
+          some = elim (le-or-lt n 0) [ inl z ↦ absurd (omega (arith, size-le n 0 (omega arith))) | inr s ↦ s ]
+
+          more : dropped p (n * 2 ^ j) ≡ k + j
+          more = omega (arith, size-scale n j some)
+
+          swap : n * 2 ^ j * 2 ^ k ≡ n * 2 ^ (k + j)
+          swap = mul-assoc n (2 ^ j) (2 ^ k) ∙ ap (λ (x : ℕ). n * x) (mul-comm (2 ^ j) (2 ^ k) ∙ sym (pow-add 2 k j))
+
+  pub fl-scale : (z : Whole) (j : ℕ) → fl p (2 ^ j ⊗ z) ≡ 2 ^ j ⊗ fl p z
+  unfolding fl
+  fl-scale z j = λ i. record { up = part (z .up) (z .dn) i; dn = part (z .dn) (z .up) i }
+    where
+      part : (a b : ℕ) → rnd p (2 ^ j * a - 2 ^ j * b) ≡ 2 ^ j * rnd p (a - b)
+      part a b = ap (rnd p) (sym (mul-sub (2 ^ j) a b) ∙ mul-comm (2 ^ j) (a - b)) ∙ rnd-scale (a - b) j ∙ mul-comm (rnd p (a - b)) (2 ^ j)
