@@ -7,3 +7,6 @@ pub mod Multiples
 pub mod SignedRounding
 pub mod Ties
 pub mod Scaling
+pub mod Distance
+pub mod TwoSum
+pub mod Extraction
