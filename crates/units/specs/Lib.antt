@@ -10,3 +10,5 @@ pub mod Scaling
 pub mod Distance
 pub mod TwoSum
 pub mod Extraction
+pub mod Faithful
+pub mod FaithfulLaws
