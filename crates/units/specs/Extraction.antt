@@ -8,17 +8,11 @@ use native.Mathlib.Omega.{arith}
 use lib.Pow.{pow-add, pow-mono, pow-lt}
 use Rattle.units.specs.Whole.{Whole, nat, _⊕_, _⊖_, _⊗_, _≈_, Within, Multiple}
 use Rattle.units.specs.Rounding.{fl, Representable}
+use Rattle.units.specs.Walk.{high, remainder}
 use Rattle.units.specs.Powers.{le-or-lt, pow-split, cover}
 use Rattle.units.specs.Multiples.{multiple-sub, multiple-same, multiple-one, multiple-pow}
 use Rattle.units.specs.SignedRounding.{rep-same, rep-pow, fl-exact, fl-below, fl-above, fl-half, fl-coarse}
 use Rattle.units.specs.Distance.{error-rep}
-
--- (sigma + x) - sigma, and x less that, each operation rounded
-abbrev pub high : (p k : ℕ) → Whole → Whole
-high p k x = fl p (fl p (nat (2 ^ k) ⊕ x) ⊖ nat (2 ^ k))
-
-abbrev pub remainder : (p k : ℕ) → Whole → Whole
-remainder p k x = fl p (x ⊖ high p k x)
 
 -- q is (sigma + x rounded) less sigma, a multiple of 2 ^ -p sigma and at most 2 ^ e; the remainder is x less q and at most 2 ^ -p sigma, which is said
 -- twice over, so that it comes to 0 where 2 ^ -p sigma is below a unit

@@ -12,3 +12,5 @@ pub mod TwoSum
 pub mod Extraction
 pub mod Faithful
 pub mod FaithfulLaws
+pub mod Walk
+pub mod Turns
