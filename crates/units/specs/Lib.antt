@@ -14,3 +14,5 @@ pub mod Faithful
 pub mod FaithfulLaws
 pub mod Walk
 pub mod Turns
+pub mod RemainderSum
+pub mod Finish
