@@ -16,3 +16,5 @@ pub mod Walk
 pub mod Turns
 pub mod RemainderSum
 pub mod Finish
+pub mod Closing
+pub mod WalkLaws

@@ -1,0 +1,40 @@
+-- The walk answers a faithful rounding of S, and each further round lowers e by p - M or more, which bounds the rounds. Document 000's Algorithms 4.4 and
+-- 4.8, whatever the order in which a round takes its numbers. Assumes nothing.
+use mathlib.Core.Path.{_≡_}
+use mathlib.Core.Logic.{inl, inr}
+use mathlib.Core.List.{List}
+use Prim.Native.Nat.{ℕ, suc, _+_, _-_, _*_, _^_, _≤_, _<_}
+use native.Mathlib.Nat.{suc-mul}
+use native.Mathlib.Omega.{arith}
+use Rattle.units.specs.Whole.{Whole, nat, _≈_, total}
+use Rattle.units.specs.Faithful.{Faithful}
+use Rattle.units.specs.Walk.{highs, remainders, Gathered, Opened, Closed, Walk, nothing, restart, finished, further}
+use Rattle.units.specs.Powers.{le-or-lt}
+use Rattle.units.specs.FaithfulLaws.{faithful-same, zero-faithful}
+use Rattle.units.specs.Turns.{round-closes}
+use Rattle.units.specs.Closing.{left-small, left-none, close-nothing, close-restart, close-finish, close-further}
+
+module _ (p M n : ℕ) (two : 2 ≤ M) (fit : M + M < p) (few : n + 2 ≤ 2 ^ M) where
+  closes : {e : ℕ} {S t tau : Whole} {xs : List Whole} → Opened p M n e S t xs → Gathered p (M + e) xs tau → Closed p M n e S t tau (remainders p (M + e) xs)
+  closes {e} O g = round-closes p (omega arith) M e (omega arith) (omega arith) O (omega arith) g
+
+  pub walk-faithful : {e : ℕ} {S t : Whole} {xs : List Whole} {m : ℕ} {r : Whole} → Opened p M n e S t xs → Walk p M e t xs m r → Faithful p r S
+  walk-faithful {S = S} O (nothing g z h) = let x = close-nothing p M n two fit few (closes O g) z h in faithful-same (nat 0) S (omega arith) (zero-faithful p)
+  walk-faithful O (restart e' g z o h c w) = walk-faithful (close-restart p M n two fit few (closes O g) e' z h) w
+  walk-faithful O (finished g h) = close-finish p M n two fit few (closes O g) h
+  walk-faithful O (further g l h w) = walk-faithful (close-further p M n two fit few (closes O g) l h) w
+
+  lowered : (m : ℕ) {e e' : ℕ} → m * (p - M) ≤ e' → e' + (p - M) ≤ e → suc m * (p - M) ≤ e
+  lowered m h l = rw (suc-mul m (p - M)) (omega arith)
+
+  -- m further rounds
+  pub walk-rounds : {e : ℕ} {S t : Whole} {xs : List Whole} {m : ℕ} {r : Whole} → Opened p M n e S t xs → Walk p M e t xs m r → m * (p - M) ≤ e
+  walk-rounds O (nothing g z h) = omega arith
+  walk-rounds {e} O (restart {m = m} e' g z o h c w) = elim (le-or-lt p (M + e)) [
+    | inl l ↦
+        let i = c (M + e - p) (left-small p M n two fit few (closes O g) l) in
+        lowered m (walk-rounds (close-restart p M n two fit few (closes O g) e' z h) w) (omega arith)
+    | inr l ↦ absurd (o (left-none p M n two fit few (closes O g) l))
+  ]
+  walk-rounds O (finished g h) = omega arith
+  walk-rounds O (further {m = m} g l h w) = lowered m (walk-rounds (close-further p M n two fit few (closes O g) l h) w) (omega arith)
