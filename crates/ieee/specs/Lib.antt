@@ -2,3 +2,4 @@
 pub mod Units
 pub mod Finite
 pub mod Rounded
+pub mod Pattern
