@@ -3,3 +3,4 @@ pub mod Units
 pub mod Finite
 pub mod Rounded
 pub mod Pattern
+pub mod Exponent

@@ -9,7 +9,7 @@ use native.Mathlib.Nat.{mul-one, mul-comm, mul-pos, mul-le-mul-left, mul-le-mul-
 use native.Mathlib.Nat.{mod-lt, mod-eq-of-lt, div-add-mod', mod-mod-of-dvd, dvd-mul-right, div-lt-iff-lt-mul, le-div-iff-mul-le}
 use native.Mathlib.Omega.{arith}
 use lib.Dec.{T, leb, ltb, eqb, eqb→eq, lt→ltb, ltb→lt}
-use lib.Arith.{le→nltb, lt→nleb, digits-div, digits-mod}
+use lib.Arith.{le→nltb, lt→nleb}
 use lib.Pow.{pow-pos, pow-mono}
 use lib.Ieee.{nan, inf, Format, prec, low, odd, hid, ones, top, ofFields, ofBits}
 use lib.Ieee.Fits.{eq→eqb}
@@ -50,11 +50,6 @@ module _ (f : Format) where
       let l : r < top f = omega arith in
       let m : r % top f ≡ r = mod-eq-of-lt l in
       rw (is-false (leb (top f) r) (lt→nleb (top f) r l), m) at (pattern-is r (rw m h))
-
-  -- the pattern with the field x and the digits t
-  pub pattern-fields : (x : ℕ) {t : ℕ} → t < hid f → patternUnits f (x * hid f + t) ≡ fieldUnits f x t
-  unfolding patternUnits
-  pattern-fields x h = λ i. fieldUnits f (digits-div x h i) (digits-mod x h i)
 
   -- ---- which patterns are finite: those below the infinity's
 
