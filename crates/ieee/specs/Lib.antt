@@ -4,3 +4,4 @@ pub mod Finite
 pub mod Rounded
 pub mod Pattern
 pub mod Exponent
+pub mod Product

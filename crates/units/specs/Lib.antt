@@ -4,3 +4,4 @@ pub mod Rounding
 pub mod Powers
 pub mod NaturalRounding
 pub mod Ceiling
+pub mod Scaling
