@@ -5,3 +5,4 @@ pub mod Rounded
 pub mod Pattern
 pub mod Exponent
 pub mod Product
+pub mod Write
