@@ -2,3 +2,7 @@
 pub mod Units
 pub mod Finite
 pub mod Rounded
+pub mod Pattern
+pub mod Exponent
+pub mod Product
+pub mod Write

@@ -1,10 +1,11 @@
 -- A finite float as a whole number of units, and the float nearest to a whole number of units. Definitions only.
 -- A unit is 2 ^ -low, the format's smallest positive value: 2 ^ -1074 at binary64, 2 ^ -149 at binary32.
-use mathlib.Core.Path.{_≡_}
 use mathlib.Core.Bool.{Bool, true, false, cond}
 use Prim.Native.Nat.{ℕ, zero, suc, _+_, _-_, _*_, _/_, _%_, _^_}
 use lib.IntN.{ℤ, pos, negsuc, negℤ}
-use lib.Ieee.{Float, nan, inf, fin, Format, prec, emax, low, up, down, round}
+use lib.Ieee.{Float, nan, inf, fin, Format, prec, emax, low, up, down, round, hid, top}
+use lib.Ieee.Nearest.{closest}
+use Rattle.units.specs.Rounding.{dropped}
 use Rattle.units.specs.Whole.{Whole, nat, neg}
 
 -- the sign, and the magnitude in units. The division leaves no remainder at a float that the format holds.
@@ -58,3 +59,7 @@ fieldUnits f (suc x) t = (2 ^ (prec f - 1) + t) * 2 ^ x
 
 unfoldable pub patternUnits : Format → ℕ → ℕ
 patternUnits f r = fieldUnits f (r / 2 ^ (prec f - 1)) (r % 2 ^ (prec f - 1))
+
+-- the pattern of ±n units, rounded: the digits dropped, times the weight of the exponent's field, plus the rounded quotient
+abbrev pub roundedBits : Format → Bool → ℕ → ℕ
+roundedBits f s n = cond s (top f) 0 + (dropped (prec f) n * hid f + closest n (2 ^ dropped (prec f) n))

@@ -18,3 +18,4 @@ pub mod RemainderSum
 pub mod Finish
 pub mod Closing
 pub mod WalkLaws
+pub mod Ceiling

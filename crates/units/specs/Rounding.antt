@@ -6,6 +6,10 @@ use lib.Ieee.{size}
 use lib.Ieee.Nearest.{closest}
 use Rattle.units.specs.Whole.{Whole, Within, Multiple}
 
+-- the exponent of the least power of two at or above n; of 0 as of 1 it is 0
+unfoldable pub ceil : ℕ → ℕ
+ceil n = size (n - 1)
+
 -- how many low digits of n a significand of p bits has no room for; the last place that is kept stands for 2 ^ dropped
 unfoldable pub dropped : ℕ → ℕ → ℕ
 dropped p n = size n - p

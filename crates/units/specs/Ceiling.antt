@@ -1,0 +1,26 @@
+-- The least power of two at or above a natural number, by its exponent. Assumes nothing.
+use mathlib.Core.Path.{_≡_}
+use Prim.Native.Nat.{ℕ, suc, _-_, _^_, _≤_, _<_}
+use native.Mathlib.Nat.{le-refl, le-trans, le-antisymm, lt-of-not-le, not-le-of-lt}
+use native.Mathlib.Omega.{arith}
+use lib.Pow.{pow-pos, pow-mono}
+use lib.Ieee.Digits.{size-lt, size-le}
+use Rattle.units.specs.Rounding.{ceil}
+use Rattle.units.specs.Powers.{pow-le-back}
+
+pub ceil-ge : (n : ℕ) → n ≤ 2 ^ ceil n
+unfolding ceil
+ceil-ge n = omega (arith, size-lt (n - 1))
+
+pub ceil-least : {n j : ℕ} → n ≤ 2 ^ j → ceil n ≤ j
+unfolding ceil
+ceil-least {n} {j} h = size-le (n - 1) j (omega (arith, pow-pos j))
+
+pub ceil-mono : {a b : ℕ} → a ≤ b → ceil a ≤ ceil b
+ceil-mono {a} {b} h = ceil-least (le-trans h (ceil-ge b))
+
+pub ceil-at : {n : ℕ} (j : ℕ) → 2 ^ j < n → n ≤ 2 ^ suc j → ceil n ≡ suc j
+ceil-at {n} j lo hi = le-antisymm (ceil-least hi) (lt-of-not-le (λ g. not-le-of-lt lo (le-trans (ceil-ge n) (pow-mono g))))
+
+pub ceil-power : (j : ℕ) → ceil (2 ^ j) ≡ j
+ceil-power j = le-antisymm (ceil-least (le-refl (2 ^ j))) (pow-le-back j (ceil (2 ^ j)) (ceil-ge (2 ^ j)))
