@@ -19,3 +19,4 @@ pub mod Finish
 pub mod Closing
 pub mod WalkLaws
 pub mod Ceiling
+pub mod Threshold
