@@ -3,3 +3,4 @@ pub mod Whole
 pub mod Rounding
 pub mod Powers
 pub mod NaturalRounding
+pub mod Integers
