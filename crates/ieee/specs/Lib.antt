@@ -2,3 +2,5 @@
 pub mod Units
 pub mod Finite
 pub mod Rounded
+pub mod Fractions
+pub mod Sum
