@@ -4,3 +4,4 @@ pub mod Finite
 pub mod Rounded
 pub mod Fractions
 pub mod Sum
+pub mod Compare
