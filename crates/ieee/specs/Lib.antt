@@ -1,8 +1,11 @@
--- Floats and their bit patterns as whole numbers of units, over lib.Ieee's formats.
+-- Floats and their bit patterns as whole numbers of units, over lib.Ieee's formats. Definitions first, then laws, each file over those above it.
 pub mod Units
 pub mod Finite
 pub mod Rounded
+pub mod Fractions
+pub mod Sum
+pub mod Compare
+pub mod Product
 pub mod Pattern
 pub mod Exponent
-pub mod Product
 pub mod Write

@@ -1,22 +1,23 @@
--- The arithmetic of whole units at p significant bits.
+-- The arithmetic of whole units at p significant bits. Definitions first, then laws, each file over those above it.
 pub mod Whole
 pub mod Rounding
+pub mod Faithful
+pub mod Walk
 pub mod Powers
+pub mod Ceiling
 pub mod NaturalRounding
+pub mod Scaling
 pub mod Multiples
 pub mod SignedRounding
 pub mod Ties
-pub mod Scaling
+pub mod Threshold
 pub mod Distance
 pub mod TwoSum
 pub mod Extraction
-pub mod Faithful
 pub mod FaithfulLaws
-pub mod Walk
 pub mod Turns
 pub mod RemainderSum
 pub mod Finish
 pub mod Closing
 pub mod WalkLaws
-pub mod Ceiling
-pub mod Threshold
+pub mod Integers

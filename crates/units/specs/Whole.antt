@@ -3,7 +3,8 @@
 -- facts about naturals, so that `omega arith` proves what is linear in signed numbers with no lemma. `Integers` crosses to the language's own ℤ.
 use mathlib.Core.Path.{_≡_}
 use mathlib.Core.List.{List, [], _∷_}
-use Prim.Native.Nat.{ℕ, _+_, _-_, _*_, _^_, _≤_, _<_}
+use Prim.Native.Nat.{ℕ, suc, _+_, _-_, _*_, _^_, _≤_, _<_}
+use lib.IntN.{ℤ, pos, negsuc, subℕ}
 
 pub record Whole : Type 0 where
   pub up : ℕ
@@ -46,6 +47,14 @@ Within a c = (a .up ≤ a .dn + c) × (a .dn ≤ a .up + c)
 
 abbrev pub Under : Whole → ℕ → Type 0
 Under a c = (a .up < a .dn + c) × (a .dn < a .up + c)
+
+-- the same number as one of the language's own integers, and an integer as a difference
+unfoldable pub int : Whole → ℤ
+int a = subℕ (a .up) (a .dn)
+
+abbrev pub difference : ℤ → Whole
+difference (pos n) = nat n
+difference (negsuc n) = neg (nat (suc n))
 
 -- a is `count` times 2 ^ j
 pub record Multiple (j : ℕ) (a : Whole) : Type 0 where
