@@ -21,3 +21,4 @@ pub mod Finish
 pub mod Closing
 pub mod WalkLaws
 pub mod Integers
+pub mod ExactSum

@@ -1,7 +1,7 @@
 -- What rounding a signed whole number to p bits does, from what it does to naturals: odd symmetry, exact at numbers of p bits, monotone, no number of p
 -- bits nearer, the error against the last place and against the number, multiples, and zero only from zero. Assumes nothing.
 use mathlib.Core.Path.{_≡_, refl, ap, _∙_}
-use mathlib.Core.Logic.{inl, inr}
+use mathlib.Core.Logic.{_⊎_, inl, inr}
 use Prim.Native.Nat.{ℕ, zero, suc, _+_, _-_, _*_, _^_, _≤_, _<_}
 use native.Mathlib.Nat.{mul-le-mul-right, le-of-mul-le-mul-right, mul-sub, eq-of-mul-eq-mul-left}
 use native.Mathlib.Omega.{arith}
@@ -76,6 +76,10 @@ module _ (p : ℕ) (P : 0 < p) where
       none : {n : ℕ} → n ≡ 0 → rnd p n ≡ 0
       none e = ap (rnd p) e ∙ N.rnd-zero p P
 
+  pub fl-nat : (n : ℕ) → fl p (nat n) ≡ nat (rnd p n)
+  unfolding fl
+  fl-nat n = let d : n - 0 ≡ n = omega arith in let z : 0 - n ≡ 0 = omega arith in rw (d, z, N.rnd-zero p P)
+
   pub fl-exact : {z : Whole} → Representable p z → fl p z ≈ z
   unfolding fl
   fl-exact R = omega (arith, N.exact p P (rep-short R), N.exact p P (rep-short (rep-neg R)))
@@ -123,15 +127,17 @@ module _ (p : ℕ) (P : 0 < p) where
   scaled : {x y : ℕ} → x ≡ y → 2 ^ p * x ≡ 2 ^ p * y
   scaled e = ap (λ (x : ℕ). 2 ^ p * x) e
 
-  relative : (z : Whole) → Side z → (c : ℕ) → (Within z c → Within (2 ^ p ⊗ (fl p z ⊖ z)) c) × (Within (fl p z) c → Within (2 ^ p ⊗ (fl p z ⊖ z)) c)
-  relative z (plus n e u d) c = (λ h. omega (arith, N.relative p P n, scaled u, scaled d, scaled e), λ h. omega (arith, N.relative p P n, scaled u, scaled d, scaled e))
-  relative z (minus n e u d) c = (λ h. omega (arith, N.relative p P n, scaled u, scaled d, scaled e), λ h. omega (arith, N.relative p P n, scaled u, scaled d, scaled e))
+  relative : (z : Whole) → Side z → (c : ℕ) → (Within z c ⊎ Within (fl p z) c) → Within (2 ^ p ⊗ (fl p z ⊖ z)) c
+  relative z (plus n e u d) c (inl h) = omega (arith, N.relative p P n, scaled u, scaled d, scaled e)
+  relative z (plus n e u d) c (inr h) = omega (arith, N.relative p P n, scaled u, scaled d, scaled e)
+  relative z (minus n e u d) c (inl h) = omega (arith, N.relative p P n, scaled u, scaled d, scaled e)
+  relative z (minus n e u d) c (inr h) = omega (arith, N.relative p P n, scaled u, scaled d, scaled e)
 
   pub fl-relative : (z : Whole) (c : ℕ) → Within z c → Within (2 ^ p ⊗ (fl p z ⊖ z)) c
-  fl-relative z c h = relative z (side z) c .0 h
+  fl-relative z c h = relative z (side z) c (inl h)
 
   pub fl-relative-result : (z : Whole) (c : ℕ) → Within (fl p z) c → Within (2 ^ p ⊗ (fl p z ⊖ z)) c
-  fl-relative-result z c h = relative z (side z) c .1 h
+  fl-relative-result z c h = relative z (side z) c (inr h)
 
   -- a multiple of 2 ^ j rounds to one, and so does a number of p + j digits or more
   pub fl-multiple : {j : ℕ} {z : Whole} → Multiple j z → Multiple j (fl p z)

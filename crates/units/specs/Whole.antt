@@ -2,9 +2,9 @@
 -- One number has many such writings, and `a ≈ b` says that a and b are the same number. Sums, orders and bounds are abbreviations that come to linear
 -- facts about naturals, so that `omega arith` proves what is linear in signed numbers with no lemma. `Integers` crosses to the language's own ℤ.
 use mathlib.Core.Path.{_≡_}
-use mathlib.Core.List.{List, [], _∷_}
+use mathlib.Core.List.{List, [], _∷_, foldr}
 use Prim.Native.Nat.{ℕ, suc, _+_, _-_, _*_, _^_, _≤_, _<_}
-use lib.IntN.{ℤ, pos, negsuc, subℕ}
+use lib.IntN.{ℤ, pos, negsuc, subℕ, _+ℤ_}
 
 pub record Whole : Type 0 where
   pub up : ℕ
@@ -61,7 +61,10 @@ pub record Multiple (j : ℕ) (a : Whole) : Type 0 where
   pub count : Whole
   pub is : a ≈ 2 ^ j ⊗ count
 
--- the exact sum of a list
+-- the exact sum of a list, of integers and of differences
+abbrev pub exactSum : List ℤ → ℤ
+exactSum zs = foldr _+ℤ_ (pos 0) zs
+
 abbrev pub total : List Whole → Whole
 total [] = nat 0
 total (x ∷ xs) = x ⊕ total xs
