@@ -2,7 +2,7 @@
 -- A unit is 2 ^ -low, the format's smallest positive value: 2 ^ -1074 at binary64, 2 ^ -149 at binary32.
 use mathlib.Core.Bool.{Bool, true, false, cond}
 use Prim.Native.Nat.{ℕ, zero, suc, _+_, _-_, _*_, _/_, _%_, _^_}
-use lib.IntN.{ℤ, pos, negsuc, negℤ}
+use lib.IntN.{ℤ, pos, negsuc, negℤ, natAbs}
 use lib.Ieee.{Float, nan, inf, fin, Format, prec, emax, low, up, down, round, hid, top}
 use lib.Ieee.Nearest.{closest}
 use Rattle.units.specs.Rounding.{dropped}
@@ -38,11 +38,14 @@ unfolding negative magnitude
 whole f x = signedWhole (negative x) (magnitude f x)
 
 -- the float nearest to S units, a tie to the even significand: lib.Ieee's own rounding of S / 2 ^ low. A zero gets the sign z.
+abbrev pub signOf : Bool → ℤ → Bool
+signOf z (pos zero) = z
+signOf z (pos (suc n)) = false
+signOf z (negsuc n) = true
+
 unfoldable pub nearestFloat : Format → Bool → ℤ → Float
 unfolding round
-nearestFloat f z (pos zero) = round f z 0 (2 ^ low f)
-nearestFloat f z (pos (suc n)) = round f false (suc n) (2 ^ low f)
-nearestFloat f z (negsuc n) = round f true (suc n) (2 ^ low f)
+nearestFloat f z S = round f (signOf z S) (natAbs S) (2 ^ low f)
 
 -- 2 ^ (emax + 1) in units, which no finite float reaches, and the least number of units whose nearest float is an infinity
 abbrev pub beyond : Format → ℕ
