@@ -14,3 +14,4 @@ pub mod Overflow
 pub mod Nearest
 pub mod FaithfulFloat
 pub mod InRange
+pub mod Instances

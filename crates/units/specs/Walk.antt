@@ -3,7 +3,7 @@
 use mathlib.Core.Path.{_≡_}
 use mathlib.Core.Logic.{_⊎_}
 use mathlib.Core.List.{List, [], _∷_}
-use Prim.Native.Nat.{ℕ, suc, _+_, _-_, _*_, _^_, _≤_, _<_}
+use Prim.Native.Nat.{ℕ, suc, _+_, _-_, _*_, _/_, _^_, _≤_, _<_}
 use lib.ListN.{length}
 use Rattle.units.specs.Whole.{Whole, nat, _⊕_, _⊖_, _⊗_, _≈_, Within, mag, Multiple, total, All}
 use Rattle.units.specs.Rounding.{fl, Representable}
@@ -42,6 +42,10 @@ answer p t tau xs = fl p (fl p (t ⊕ tau) ⊕ fl p (tau2 p t tau ⊕ summed p (
 -- 2 ^ (2 M + 1) eps sigma, from which t' is large enough to finish
 abbrev pub enough : (p M e : ℕ) → ℕ
 enough p M e = 2 * (2 ^ M * 2 ^ M * 2 ^ (M + e - p))
+
+-- a / b, rounded up
+abbrev pub roundedUp : ℕ → ℕ → ℕ
+roundedUp a b = (a + (b - 1)) / b
 
 -- ---- a round
 
