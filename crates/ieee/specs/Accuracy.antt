@@ -1,17 +1,10 @@
 -- A float that is a faithful rounding of S units, and one that is nearest to S units. Definitions only.
 use mathlib.Core.Path.{_≡_}
-use Prim.Native.Nat.{ℕ, _%_, _≤_}
+use Prim.Native.Nat.{_%_, _≤_}
 use lib.IntN.{ℤ, _-ℤ_, natAbs}
 use lib.Signed.{_<ℤ_}
-use lib.Dec.{T}
-use lib.Ieee.{Float, Format, fits, toBits}
-use lib.Ieee.Scale.{finite}
-use Rattle.ieee.specs.Units.{value}
-
--- x is a number of the format f: held by it, no NaN and no infinity
-pub record Number (f : Format) (x : Float) : Type 0 where
-  pub fit : T (fits f x)
-  pub fini : T (finite x)
+use lib.Ieee.{Float, Format, toBits}
+use Rattle.ieee.specs.Units.{Number, value}
 
 -- no number of the format lies strictly between x and S, and x is S where S is one
 pub record FaithfulTo (f : Format) (S : ℤ) (x : Float) : Type 0 where

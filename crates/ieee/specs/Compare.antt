@@ -8,13 +8,12 @@ use native.Mathlib.Omega.{arith}
 use lib.Dec.{T, leb, ltb, eqb, leb→le, le→leb, ltb→lt, lt→ltb, eqb→eq, leb·zero, leb·suc-zero, leb·suc-suc, eqb·suc-zero, eqb·suc-suc}
 use lib.Arith.{le→nltb}
 use lib.Signed.{_≤ℤ_, _<ℤ_}
-use lib.Ieee.{Float, Format, fits, lt, le, eq, below, level}
+use lib.Ieee.{Float, Format, lt, le, eq, below, level}
 use lib.Ieee.Fits.{eq→eqb, and-i, and-l, and-r}
 use lib.Ieee.Bits.{is-false}
-use lib.Ieee.Scale.{finite}
 use Rattle.units.specs.Whole.{Whole, int}
 use Rattle.units.specs.Integers.{int-same, int-back, int-le, int-lt}
-use Rattle.ieee.specs.Units.{negative, magnitude, signedWhole, value, whole}
+use Rattle.ieee.specs.Units.{Number, negative, magnitude, signedWhole, value, whole}
 use Rattle.ieee.specs.Fractions.{same-test, eqb-same, eqb-scale, ltb-scale, over-units}
 use Rattle.ieee.specs.Sum.{value-int}
 
@@ -73,17 +72,17 @@ or-leb zero (suc b) = rw (leb·suc-suc 0 b, leb·zero b, leb·zero (suc b))
 or-leb (suc a) zero = rw (leb·suc-zero (suc a), leb·suc-zero a, eqb·suc-zero a)
 or-leb (suc a) (suc b) = rw (leb·suc-suc (suc a) b, leb·suc-suc a b, eqb·suc-suc a b) (or-leb a b)
 
-module _ (f : Format) (x y : Float) (p : T (fits f x)) (u : T (finite x)) (q : T (fits f y)) (v : T (finite y)) where
+module _ (f : Format) (x y : Float) (X : Number f x) (Y : Number f y) where
   pub lt-units : lt x y ≡ ltb (whole f x .up + whole f y .dn) (whole f y .up + whole f x .dn)
   unfolding lt whole
   lt-units =
-      over-units f lt (λ s a t b c. below s a t b) (λ s t m n e d. refl) below-scale x y p u q v
+      over-units f lt (λ s a t b c. below s a t b) (λ s t m n e d. refl) below-scale x y X Y
       ∙ below-is (negative x) (magnitude f x) (negative y) (magnitude f y)
 
   pub eq-units : eq x y ≡ eqb (whole f x .up + whole f y .dn) (whole f y .up + whole f x .dn)
   unfolding eq whole
   eq-units =
-      over-units f eq (λ s a t b c. level s a t b) (λ s t m n e d. refl) level-scale x y p u q v
+      over-units f eq (λ s a t b c. level s a t b) (λ s t m n e d. refl) level-scale x y X Y
       ∙ level-is (negative x) (magnitude f x) (negative y) (magnitude f y)
 
   pub le-units : le x y ≡ leb (whole f x .up + whole f y .dn) (whole f y .up + whole f x .dn)

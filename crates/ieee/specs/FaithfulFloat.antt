@@ -1,17 +1,16 @@
 -- A float whose units are a faithful rounding of S at prec bits is a faithful rounding of S in its format. Assumes nothing.
-use mathlib.Core.Path.{_≡_, sym, ap, _∙_}
+use mathlib.Core.Path.{_≡_, sym, _∙_}
 use native.Mathlib.Omega.{arith}
 use lib.IntN.{ℤ}
 use lib.Signed.{_<ℤ_}
 use lib.Ieee.{Float, Format, prec}
 use Rattle.units.specs.Whole.{Whole, _≈_, _≺_, int, difference}
-use Rattle.units.specs.Rounding.{Representable}
 use Rattle.units.specs.Faithful.{Faithful}
 use Rattle.units.specs.SignedRounding.{rep-same}
 use Rattle.units.specs.FaithfulLaws.{faithful-exact}
 use Rattle.units.specs.Integers.{int-lt, int-same, int-back, int-difference}
-use Rattle.ieee.specs.Units.{value, whole}
-use Rattle.ieee.specs.Accuracy.{Number, FaithfulTo}
+use Rattle.ieee.specs.Units.{Number, whole}
+use Rattle.ieee.specs.Accuracy.{FaithfulTo}
 use Rattle.ieee.specs.Sum.{value-int}
 use Rattle.ieee.specs.Nearest.{number-rep}
 

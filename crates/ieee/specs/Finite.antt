@@ -1,12 +1,13 @@
 -- What a float that a format holds is in units: a whole number of at most prec bits, below 2 ^ (emax + 1). It is determined by its sign and its units.
 -- Assumes nothing.
 use mathlib.Core.Path.{_≡_, refl, sym, ap, _∙_}
-use mathlib.Core.Bool.{Bool, true, false, _&&_, cond}
+use mathlib.Core.Bool.{Bool, _&&_, cond}
 use Prim.Native.Nat.{ℕ, zero, suc, _+_, _-_, _*_, _/_, _%_, _^_, _≤_, _<_}
-use native.Mathlib.Nat.{le-of-lt, zero-mul, mul-one, one-mul, mul-assoc, mul-comm, mul-right-comm, mul-div-cancel, mul-lt-mul-of-pos-right, lt-of-mul-lt-mul-right}
+use native.Mathlib.Nat.{le-of-lt, zero-mul, mul-one, one-mul, mul-assoc, mul-comm, mul-right-comm, mul-div-cancel}
+use native.Mathlib.Nat.{mul-lt-mul-of-pos-right, lt-of-mul-lt-mul-right}
 use native.Mathlib.Omega.{arith}
 use lib.IntN.{ℤ, pos, negsuc}
-use lib.Dec.{T, leb, ltb, eqb, leb→le, ltb→lt, eqb→eq}
+use lib.Dec.{T, leb, ltb, eqb, leb→le, ltb→lt}
 use lib.Pow.{pow-add, pow-pos}
 use lib.Ieee.{Float, nan, inf, fin, Format, prec, emax, low, up, down, size, fits, toBits, ofBits, top, hid}
 use lib.Ieee.Digits.{back}
@@ -16,7 +17,7 @@ use lib.Ieee.Scale.{finite}
 use lib.Ieee.Bits.{ofBits-toBits}
 use Rattle.units.specs.Rounding.{Short}
 use Rattle.units.specs.Powers.{pow-le-back}
-use Rattle.ieee.specs.Units.{negative, magnitude, beyond}
+use Rattle.ieee.specs.Units.{Number, negative, magnitude, beyond}
 
 -- x is ±n units
 abbrev pub Is : Format → Float → Bool → ℕ → Type 0
@@ -71,16 +72,16 @@ facts-at f s m e n h b c =
     let k : m * up e * 2 ^ low f / down e ≡ n = ap (λ (x : ℕ). x / down e) h ∙ mul-div-cancel n (down-pos e) in
     record { is = (refl, h ∙ ap (λ (x : ℕ). x * down e) (sym k)); below = rw k b; short = rw k c }
 
-pub facts : (f : Format) (x : Float) → T (fits f x) → T (finite x) → Facts f x
-facts f nan h t = absurd t
-facts f (inf s) h t = absurd t
-facts f (fin s zero e) h t =
+pub facts : (f : Format) (x : Float) → Number f x → Facts f x
+facts f nan X = absurd (X .fini)
+facts f (inf s) X = absurd (X .fini)
+facts f (fin s zero e) X =
     facts-at f s 0 e 0 (ap (λ (x : ℕ). x * 2 ^ low f) (zero-mul (up e)) ∙ zero-mul (2 ^ low f) ∙ sym (zero-mul (down e))) (pow-pos (low f + suc (emax f)))
     (record { exp = 0; sig = 0; is = omega arith; small = omega arith })
-facts f (fin s (suc m) e) h t = facts-at f s (suc m) e (suc m * 2 ^ j .0) units far (record { exp = j .0; sig = suc m; is = refl; small = le-of-lt (p .small) })
+facts f (fin s (suc m) e) X = facts-at f s (suc m) e (suc m * 2 ^ j .0) units far (record { exp = j .0; sig = suc m; is = refl; small = le-of-lt (p .small) })
   where
     p : Parts f (suc m) e
-    p = parts f s m e h
+    p = parts f s m e (X .fit)
 
     j : (j : ℕ) × (up e * 2 ^ low f ≡ 2 ^ j * down e)
     j = place (low f) e (p .deep)
@@ -105,8 +106,8 @@ bits-are f nan t = absurd t
 bits-are f (inf s) t = absurd t
 bits-are f (fin s m e) t = refl
 
-pub unique : (f : Format) (x y : Float) → T (fits f x) → T (finite x) → T (fits f y) → T (finite y) → negative x ≡ negative y → magnitude f x ≡ magnitude f y → x ≡ y
-unique f x y p u q v s n =
-    sym (ofBits-toBits f x p)
-    ∙ ap (ofBits f) (bits-are f x u ∙ (λ i. cond (s i) (top f) 0 + (size (n i) - prec f) * hid f + n i / 2 ^ (size (n i) - prec f)) ∙ sym (bits-are f y v))
-    ∙ ofBits-toBits f y q
+pub unique : (f : Format) (x y : Float) → Number f x → Number f y → negative x ≡ negative y → magnitude f x ≡ magnitude f y → x ≡ y
+unique f x y X Y s n = sym (ofBits-toBits f x (X .fit)) ∙ ap (ofBits f) same ∙ ofBits-toBits f y (Y .fit)
+  where
+    same : toBits f x ≡ toBits f y
+    same = rw (bits-are f x (X .fini), bits-are f y (Y .fini), s, n)

@@ -8,10 +8,9 @@ use native.Mathlib.Omega.{arith}
 use lib.IntN.{ℤ}
 use lib.Dec.{T, ltb, eqb, ltb→lt, lt→ltb, eqb→eq}
 use lib.Pow.{pow-pos}
-use lib.Ieee.{Float, nan, inf, fin, Format, low, up, down, fits}
+use lib.Ieee.{Float, nan, inf, fin, Format, low, up, down}
 use lib.Ieee.Fits.{down-pos, eq→eqb}
-use lib.Ieee.Scale.{finite}
-use Rattle.ieee.specs.Units.{negative, magnitude}
+use Rattle.ieee.specs.Units.{Number, negative, magnitude}
 use Rattle.ieee.specs.Finite.{facts}
 
 -- ---- tests, and that a common factor does not change them
@@ -38,22 +37,22 @@ module _ (a b : ℕ) {k : ℕ} (K : 0 < k) where
 module _ {X : Type 0} (f : Format) (G : Float → Float → X) (F : Bool → ℕ → Bool → ℕ → ℕ → X)
     (opens : (s t : Bool) (m n : ℕ) (e d : ℤ) → G (fin s m e) (fin t n d) ≡ F s (m * up e * down d) t (n * up d * down e) (down e * down d))
     (scale : (s t : Bool) (a b c k : ℕ) → 0 < c → 0 < k → F s (a * k) t (b * k) (c * k) ≡ F s a t b c) where
-  pub over-units : (x y : Float) → T (fits f x) → T (finite x) → T (fits f y) → T (finite y) →
+  pub over-units : (x y : Float) → Number f x → Number f y →
       G x y ≡ F (negative x) (magnitude f x) (negative y) (magnitude f y) (2 ^ low f)
   unfolding negative
-  over-units nan y p u q v = absurd u
-  over-units (inf s) y p u q v = absurd u
-  over-units (fin s m e) nan p u q v = absurd v
-  over-units (fin s m e) (inf t) p u q v = absurd v
-  over-units (fin s m e) (fin t n d) p u q v =
+  over-units nan y X Y = absurd (X .fini)
+  over-units (inf s) y X Y = absurd (X .fini)
+  over-units (fin s m e) nan X Y = absurd (Y .fini)
+  over-units (fin s m e) (inf t) X Y = absurd (Y .fini)
+  over-units (fin s m e) (fin t n d) X Y =
       let l = 2 ^ low f in
       let c = down e * down d in
       let L = pow-pos (low f) in
       let C = mul-pos (down-pos e) (down-pos d) in
       let A = magnitude f (fin s m e) in
       let B = magnitude f (fin t n d) in
-      let a : m * up e * down d * l ≡ A * c = omega (arith, ap (λ (x : ℕ). x * down d) (facts f (fin s m e) p u .is .1)) in
-      let b : n * up d * down e * l ≡ B * c = omega (arith, ap (λ (x : ℕ). x * down e) (facts f (fin t n d) q v .is .1)) in
+      let a : m * up e * down d * l ≡ A * c = omega (arith, ap (λ (x : ℕ). x * down d) (facts f (fin s m e) X .is .1)) in
+      let b : n * up d * down e * l ≡ B * c = omega (arith, ap (λ (x : ℕ). x * down e) (facts f (fin t n d) Y .is .1)) in
       opens s t m n e d
       ∙ sym (scale s t (m * up e * down d) (n * up d * down e) c l C L)
       ∙ (λ i. F s (a i) t (b i) (mul-comm c l i))

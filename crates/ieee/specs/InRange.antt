@@ -1,21 +1,19 @@
 -- Sums and differences that stay within 2 ^ emax do not overflow: in units they are the exact ones, rounded to prec bits, and a zero is -0 only where IEEE
 -- 754 has it so. The walk's extraction in floats is its extraction in units. Assumes nothing.
-use mathlib.Core.Path.{_≡_, refl, sym, ap, _∙_}
-use mathlib.Core.Bool.{Bool, true, false, not, _&&_}
+use mathlib.Core.Path.{_≡_, sym, ap, _∙_}
+use mathlib.Core.Bool.{Bool, not, _&&_}
 use Prim.Native.Nat.{ℕ, _+_, _*_, _^_, _≤_, _<_}
 use native.Mathlib.Nat.{mul-comm}
 use native.Mathlib.Omega.{arith}
-use lib.IntN.{ℤ, natAbs, _+ℤ_, _-ℤ_}
+use lib.IntN.{natAbs}
 use lib.Pow.{pow-add}
 use lib.Ieee.{Float, Format, prec, emax, low, add, sub}
-use Rattle.units.specs.Whole as W
-use Rattle.units.specs.Whole.{Whole, nat, _⊕_, _⊖_, _≈_, Within, mag, int, difference}
+use Rattle.units.specs.Whole.{Whole, nat, _⊕_, _⊖_, Within, int, difference}
 use Rattle.units.specs.Rounding.{fl}
-use Rattle.units.specs.Walk.{high, remainder}
+use Rattle.units.specs.Walk.{high}
 use Rattle.units.specs.SignedRounding.{rep-pow, fl-same, fl-within}
 use Rattle.units.specs.Integers.{int-is, int-plus, int-minus, int-mag}
-use Rattle.ieee.specs.Units.{negative, value, whole, signOf, nearestFloat, limit}
-use Rattle.ieee.specs.Accuracy.{Number}
+use Rattle.ieee.specs.Units.{Number, negative, whole, signOf, nearestFloat, limit}
 use Rattle.ieee.specs.Rounded.{prec-pos}
 use Rattle.ieee.specs.Sum.{value-int, add-nearest, sub-nearest}
 use Rattle.ieee.specs.Overflow.{power-below, nearest-negative, nearest-whole}
@@ -39,11 +37,11 @@ module _ {f : Format} {x y : Float} (X : Number f x) (Y : Number f y) (k : ℕ) 
       small = omega (arith, int-mag z, power-below f K)
 
   pub add-rounds : Within (whole f x ⊕ whole f y) (2 ^ k) → Rounds f (negative x && negative y) (whole f x ⊕ whole f y) (add f x y)
-  add-rounds h = rw (add-nearest f x y (X .fit) (X .fini) (Y .fit) (Y .fini), value-int f x, value-int f y, ← (int-plus (whole f x) (whole f y)))
+  add-rounds h = rw (add-nearest f x y X Y, value-int f x, value-int f y, ← (int-plus (whole f x) (whole f y)))
       (nearest (negative x && negative y) (whole f x ⊕ whole f y) h)
 
   pub sub-rounds : Within (whole f x ⊖ whole f y) (2 ^ k) → Rounds f (negative x && not (negative y)) (whole f x ⊖ whole f y) (sub f x y)
-  sub-rounds h = rw (sub-nearest f x y (X .fit) (X .fini) (Y .fit) (Y .fini), value-int f x, value-int f y, ← (int-minus (whole f x) (whole f y)))
+  sub-rounds h = rw (sub-nearest f x y X Y, value-int f x, value-int f y, ← (int-minus (whole f x) (whole f y)))
       (nearest (negative x && not (negative y)) (whole f x ⊖ whole f y) h)
 
 -- ---- one extraction: sigma is 2 ^ k units and x is no larger, so nothing passes 2 ^ (k + 3) units
@@ -62,8 +60,10 @@ module _ {f : Format} {sigma x : Float} (S : Number f sigma) (X : Number f x) (k
   raised-small : Within (fl (prec f) (nat (2 ^ k) ⊕ whole f x)) (2 * 2 ^ k)
   raised-small = rw (pow-add 2 k 1, mul-comm (2 ^ k) 2) at (capped (nat (2 ^ k) ⊕ whole f x) (k + 1) (rw (pow-add 2 k 1) (omega (arith, small))))
 
-  pub high-rounds : Rounds f (negative (add f sigma x) && not (negative sigma)) (fl (prec f) (nat (2 ^ k) ⊕ whole f x) ⊖ nat (2 ^ k)) (sub f (add f sigma x) sigma)
-  high-rounds = rw (raised-units, power) at (sub-rounds (raised .number) S (k + 2) (omega arith) (rw (raised-units, power, pow-add 2 k 2) (omega (arith, raised-small))))
+  pub high-rounds : Rounds f (negative (add f sigma x) && not (negative sigma)) (fl (prec f) (nat (2 ^ k) ⊕ whole f x) ⊖ nat (2 ^ k))
+      (sub f (add f sigma x) sigma)
+  high-rounds = rw (raised-units, power) at
+      (sub-rounds (raised .number) S (k + 2) (omega arith) (rw (raised-units, power, pow-add 2 k 2) (omega (arith, raised-small))))
 
   high-small : Within (high (prec f) k (whole f x)) (4 * 2 ^ k)
   high-small = rw (pow-add 2 k 2, mul-comm (2 ^ k) 4) at

@@ -3,7 +3,7 @@
 use mathlib.Core.Path.{_≡_, refl}
 use mathlib.Core.Logic.{_↔_}
 use mathlib.Core.List.{List}
-use Prim.Native.Nat.{ℕ, suc, _+_, _-_, _*_, _%_, _^_, _≤_, _<_}
+use Prim.Native.Nat.{ℕ, suc, _+_, _-_, _%_, _^_, _≤_}
 use native.Mathlib.Omega.{arith}
 use lib.Dec.{T, lit<}
 use lib.Ieee.{binary32, binary64, emax, low, ofBits}
@@ -11,7 +11,7 @@ use lib.Ieee.Scale.{finite}
 use Rattle.units.specs.Whole.{Whole}
 use Rattle.units.specs.Faithful.{Faithful}
 use Rattle.units.specs.Walk.{roundedUp, Opened, Walk}
-use Rattle.units.specs.WalkLaws.{walk-faithful, walk-rounds-most, walk-rounds-below}
+use Rattle.units.specs.WalkLaws.{walk-bounds}
 use Rattle.ieee.specs.Units.{magnitude, limit, patternUnits}
 use Rattle.ieee.specs.Pattern.{pattern-within}
 
@@ -48,12 +48,8 @@ room-32 h k = omega arith
 module _ {M e : ℕ} {S t : Whole} {xs : List Whole} {m : ℕ} {r : Whole} (n : ℕ) (two : 2 ≤ M) (few : n + 2 ≤ 2 ^ M) where
   pub walk-64 : M ≤ 12 → e ≤ 2074 → Opened 53 M n e S t xs → Walk 53 M e t xs m r
       → Faithful 53 r S × (suc m ≤ 1 + roundedUp (2022 + M) (53 - M)) × (suc m ≤ 51)
-  walk-64 h k O w =
-      let fit : M + M < 53 = omega arith in
-      (walk-faithful 53 M n two fit few O w, walk-rounds-most 53 M n two fit few 2022 2074 refl k O w, walk-rounds-below 53 M n two fit few 12 2074 51 h (lit< tt) k O w)
+  walk-64 h k O w = walk-bounds 53 M n two (omega arith) few 2022 12 2074 51 refl h (lit< tt) k O w
 
   pub walk-32 : M ≤ 11 → e ≤ 249 → Opened 24 M n e S t xs → Walk 24 M e t xs m r
       → Faithful 24 r S × (suc m ≤ 1 + roundedUp (226 + M) (24 - M)) × (suc m ≤ 20)
-  walk-32 h k O w =
-      let fit : M + M < 24 = omega arith in
-      (walk-faithful 24 M n two fit few O w, walk-rounds-most 24 M n two fit few 226 249 refl k O w, walk-rounds-below 24 M n two fit few 11 249 20 h (lit< tt) k O w)
+  walk-32 h k O w = walk-bounds 24 M n two (omega arith) few 226 11 249 20 refl h (lit< tt) k O w

@@ -6,20 +6,20 @@ use Prim.Native.Nat.{ℕ, suc, _+_, _-_, _*_, _%_, _^_, _≤_, _<_}
 use native.Mathlib.Nat.{mul-assoc, mul-sub, eq-of-mul-eq-mul-right, pow-succ'}
 use native.Mathlib.Omega.{arith}
 use lib.IntN.{ℤ, _-ℤ_, natAbs}
-use lib.Dec.{T, ltb, lt→ltb}
+use lib.Dec.{lt→ltb}
 use lib.Pow.{pow-pos}
-use lib.Ieee.{Float, Format, prec, low, hid, ones, top, toBits}
+use lib.Ieee.{Float, Format, prec, hid, ones, top, toBits}
 use lib.Ieee.Fits.{two}
 use lib.Ieee.Nearest.{closest}
-use Rattle.units.specs.Whole.{Whole, nat, _⊖_, _≈_, mag, Multiple, int, difference}
+use Rattle.units.specs.Whole.{_⊖_, _≈_, mag, Multiple, int, difference}
 use Rattle.units.specs.Rounding.{dropped, rnd, fl, Representable}
 use Rattle.units.specs.Powers.{pow-pred}
 use Rattle.units.specs.NaturalRounding.{rnd-is}
 use Rattle.units.specs.SignedRounding.{rep-neg, short-rep, fl-best}
 use Rattle.units.specs.Ties.{fl-tie}
 use Rattle.units.specs.Integers.{int-same, int-minus, int-mag, int-difference, mag-difference}
-use Rattle.ieee.specs.Units.{negative, magnitude, signedWhole, value, whole, signOf, nearestFloat, limit}
-use Rattle.ieee.specs.Accuracy.{Number, NearestTo}
+use Rattle.ieee.specs.Units.{Number, negative, magnitude, signedWhole, value, whole, signOf, nearestFloat, limit}
+use Rattle.ieee.specs.Accuracy.{NearestTo}
 use Rattle.ieee.specs.Finite.{is-units, facts}
 use Rattle.ieee.specs.Rounded.{prec-pos}
 use Rattle.ieee.specs.Sum.{value-int}
@@ -32,8 +32,8 @@ unfolding whole
 number-rep {f} {x} X = signed (negative x)
   where
     signed : (s : Bool) → Representable (prec f) (signedWhole s (magnitude f x))
-    signed false = short-rep (facts f x (X .fit) (X .fini) .short)
-    signed true = rep-neg (short-rep (facts f x (X .fit) (X .fini) .short))
+    signed false = short-rep (facts f x X .short)
+    signed true = rep-neg (short-rep (facts f x X .short))
 
 -- how far a float is from S
 distance : (f : Format) (x : Float) (S : ℤ) → natAbs (value f x -ℤ S) ≡ mag (whole f x ⊖ difference S)
@@ -81,8 +81,7 @@ module _ (f : Format) (z : Bool) (S : ℤ) (l : natAbs S < limit f) where
   even-pattern : Multiple (suc (dropped (prec f) (natAbs S))) (whole f (nearestFloat f z S)) → toBits f (nearestFloat f z S) % 2 ≡ 0
   unfolding whole
   even-pattern A =
-      ap (λ (b : ℕ). b % 2) (ap (toBits f) (nearest-round f z S) ∙ round-bits f (signOf z S) n (rnd-finite f l) ∙ ap (λ (q : ℕ). cond (signOf z S) (top f) 0 + (k * hid f + q)) quotient)
-      ∙ last-digit f (signOf z S) k (v .0)
+      rw (nearest-round f z S, round-bits f (signOf z S) n (rnd-finite f l), quotient) (last-digit f (signOf z S) k (v .0))
     where
       n : ℕ
       n = natAbs S
@@ -113,7 +112,10 @@ module _ (f : Format) (z : Bool) (S : ℤ) (l : natAbs S < limit f) where
 
       tie : (y : Float) → Number f y → natAbs (value f y -ℤ S) ≡ natAbs (value f (nearestFloat f z S) -ℤ S)
           → (value f y ≡ value f (nearestFloat f z S) → ⊥) → toBits f (nearestFloat f z S) % 2 ≡ 0
-      tie y Y e d = even-pattern (rw (nearest-whole f z S l, ← (mag-difference S)) (fl-tie (prec f) (prec-pos f) (difference S) (whole f y) (number-rep Y) apart (λ i. d (same y i))))
+      tie y Y e d = even-pattern (rw (nearest-whole f z S l, ← (mag-difference S)) tied)
         where
           apart : mag (whole f y ⊖ difference S) ≡ mag (fl (prec f) (difference S) ⊖ difference S)
           apart = rw (distance f y S, distance f (nearestFloat f z S) S, nearest-whole f z S l) at e
+
+          tied : Multiple (suc (dropped (prec f) (mag (difference S)))) (fl (prec f) (difference S))
+          tied = fl-tie (prec f) (prec-pos f) (difference S) (whole f y) (number-rep Y) apart (λ i. d (same y i))

@@ -9,7 +9,7 @@ use lib.IntN.{ℤ, pos, negsuc, natAbs}
 use lib.Dec.{T, ltb, lt→ltb, lit<}
 use lib.Arith.{le→nltb}
 use lib.Pow.{pow-add, pow-mono, pow-lt}
-use lib.Ieee.{Float, Format, binary32, binary64, prec, emax, low, round, fits}
+use lib.Ieee.{Format, binary32, binary64, prec, emax, low, round, fits}
 use lib.Ieee.Fits.{round-fits}
 use lib.Ieee.Bits.{is-true, is-false}
 use lib.Ieee.Scale.{finite}

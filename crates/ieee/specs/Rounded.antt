@@ -1,12 +1,12 @@
 -- lib.Ieee's rounding of a whole number of units is `rnd` at the format's precision, or an infinity from 2 ^ (emax + 1) on. Assumes nothing.
-use mathlib.Core.Path.{_≡_, refl, ap, _∙_, sym}
-use mathlib.Core.Bool.{Bool, true, false, not, cond}
+use mathlib.Core.Path.{_≡_, refl, ap, _∙_}
+use mathlib.Core.Bool.{Bool, true, false, cond}
 use Prim.Native.Nat.{ℕ, suc, _-_, _*_, _^_, _≤_, _<_}
 use native.Mathlib.Nat.{not-le-of-lt, mul-assoc, mul-div-cancel, mul-pos}
 use lib.Dec.{T, ltb, ltb→lt}
 use lib.Pow.{pow-pos}
-use lib.Ieee.{Float, inf, Format, prec, low, size, odd, units, round, fits}
-use lib.Ieee.Fits.{core, round-is, round-fits}
+use lib.Ieee.{inf, Format, prec, low, size, odd, units, round}
+use lib.Ieee.Fits.{core, round-is}
 use lib.Ieee.Exact.{units-val}
 use lib.Ieee.Nearest.{closest, closest-same}
 use Rattle.units.specs.Rounding.{dropped, rnd, Short}

@@ -9,7 +9,7 @@ use native.Mathlib.Omega.{arith}
 use lib.IntN.{pos, negℤ, _+ℤ_, _-ℤ_}
 use lib.Dec.{T, ltb, lt→ltb}
 use lib.Arith.{le→nltb}
-use lib.Ieee.{Float, nan, inf, fin, Format, low, round, neg, sum, add, sub, fits}
+use lib.Ieee.{Float, nan, inf, fin, Format, low, round, neg, sum, add, sub}
 use lib.Ieee.Fits.{neg-fits}
 use lib.Ieee.Bits.{is-true, is-false}
 use lib.Ieee.Scale.{finite, round-same}
@@ -17,7 +17,7 @@ use Rattle.units.specs.Whole as W
 use Rattle.units.specs.Whole.{Whole, _⊕_, _≈_, int}
 use Rattle.units.specs.Powers.{le-or-lt}
 use Rattle.units.specs.Integers.{int-same, int-plus, int-neg, int-difference}
-use Rattle.ieee.specs.Units.{negative, magnitude, signed, signedWhole, value, whole, nearestFloat}
+use Rattle.ieee.specs.Units.{Number, negative, magnitude, signed, signedWhole, value, whole, nearestFloat}
 use Rattle.ieee.specs.Fractions.{ltb-scale, over-units}
 
 -- ---- the two ways of writing a float's units
@@ -42,11 +42,14 @@ neg-magnitude f nan = refl
 neg-magnitude f (inf s) = refl
 neg-magnitude f (fin s m e) = refl
 
-pub neg-finite : (x : Float) → T (finite x) → T (finite (neg x))
+neg-finite : (x : Float) → T (finite x) → T (finite (neg x))
 unfolding neg
 neg-finite nan u = u
 neg-finite (inf s) u = u
 neg-finite (fin s m e) u = u
+
+pub neg-number : (f : Format) (x : Float) → Number f x → Number f (neg x)
+neg-number f x X = record { fit = neg-fits f x (X .fit); fini = neg-finite x (X .fini) }
 
 pub neg-whole : (f : Format) (x : Float) → T (finite x) → whole f (neg x) ≡ W.neg (whole f x)
 unfolding whole
@@ -108,17 +111,15 @@ sum-nearest f true a false b = elim (le-or-lt b a) [
   ]
 ]
 
-pub add-nearest : (f : Format) (x y : Float) → T (fits f x) → T (finite x) → T (fits f y) → T (finite y) →
-    add f x y ≡ nearestFloat f (negative x && negative y) (value f x +ℤ value f y)
+pub add-nearest : (f : Format) (x y : Float) → Number f x → Number f y → add f x y ≡ nearestFloat f (negative x && negative y) (value f x +ℤ value f y)
 unfolding add whole
-add-nearest f x y p u q v =
-    over-units f (add f) (sum f) (λ s t m n e d. refl) (sum-scale f) x y p u q v
+add-nearest f x y X Y =
+    over-units f (add f) (sum f) (λ s t m n e d. refl) (sum-scale f) x y X Y
     ∙ sum-nearest f (negative x) (magnitude f x) (negative y) (magnitude f y)
     ∙ ap (nearestFloat f (negative x && negative y)) (int-plus (whole f x) (whole f y) ∙ sym (λ i. value-int f x i +ℤ value-int f y i))
 
-pub sub-nearest : (f : Format) (x y : Float) → T (fits f x) → T (finite x) → T (fits f y) → T (finite y) →
-    sub f x y ≡ nearestFloat f (negative x && not (negative y)) (value f x -ℤ value f y)
+pub sub-nearest : (f : Format) (x y : Float) → Number f x → Number f y → sub f x y ≡ nearestFloat f (negative x && not (negative y)) (value f x -ℤ value f y)
 unfolding sub
-sub-nearest f x y p u q v =
-    add-nearest f x (neg y) p u (neg-fits f y q) (neg-finite y v)
-    ∙ (λ i. nearestFloat f (negative x && neg-negative y v i) (value f x +ℤ neg-value f y v i))
+sub-nearest f x y X Y =
+    add-nearest f x (neg y) X (neg-number f y Y)
+    ∙ (λ i. nearestFloat f (negative x && neg-negative y (Y .fini) i) (value f x +ℤ neg-value f y (Y .fini) i))

@@ -3,10 +3,17 @@
 use mathlib.Core.Bool.{Bool, true, false, cond}
 use Prim.Native.Nat.{ℕ, zero, suc, _+_, _-_, _*_, _/_, _%_, _^_}
 use lib.IntN.{ℤ, pos, negsuc, negℤ, natAbs}
-use lib.Ieee.{Float, nan, inf, fin, Format, prec, emax, low, up, down, round, hid, top}
+use lib.Dec.{T}
+use lib.Ieee.{Float, nan, inf, fin, Format, prec, emax, low, up, down, round, hid, top, fits}
 use lib.Ieee.Nearest.{closest}
+use lib.Ieee.Scale.{finite}
 use Rattle.units.specs.Rounding.{dropped}
 use Rattle.units.specs.Whole.{Whole, nat, neg}
+
+-- x is a number of the format f: held by it, no NaN and no infinity
+pub record Number (f : Format) (x : Float) : Type 0 where
+  pub fit : T (fits f x)
+  pub fini : T (finite x)
 
 -- the sign, and the magnitude in units. The division leaves no remainder at a float that the format holds.
 unfoldable pub negative : Float → Bool

@@ -7,7 +7,7 @@ use Prim.Native.Nat.{ℕ, suc, _+_, _-_, _*_, _^_, _≤_, _<_}
 use native.Mathlib.Nat.{mul-le-mul-right}
 use native.Mathlib.Omega.{arith}
 use lib.Pow.{pow-add, pow-pos, pow-mono}
-use Rattle.units.specs.Whole.{Whole, nat, _⊕_, _⊖_, neg, _⊗_, _≈_, Within, Under, mag, total, All}
+use Rattle.units.specs.Whole.{Whole, nat, _⊕_, _⊖_, _⊗_, _≈_, Within, Under, mag, total, All}
 use Rattle.units.specs.Rounding.{fl, Representable}
 use Rattle.units.specs.Faithful.{Faithful}
 use Rattle.units.specs.Walk.{summed, tau2, answer, enough, Ready, Left, Opened, Closed}
@@ -100,7 +100,8 @@ module _ (p M n : ℕ) (two : 2 ≤ M) (fit : M + M < p) (few : n + 2 ≤ 2 ^ M)
     finish-large : p ≤ M + e → enough p M e ≤ mag (fl p (t ⊕ tau)) → Faithful p (answer p t tau xs) S
     finish-large l h =
         faithful-same (t ⊕ tau ⊕ total xs) S (C .sum)
-        (finish p P (2 ^ M) (M + e - p) n few many room (t ⊕ tau) (tau2 p t tau) tau2-exact (summed-near p P xs (M + e - p) n (left-small l) (C .count) short) h)
+        (finish p P (2 ^ M) (M + e - p) n few many room (t ⊕ tau) (tau2 p t tau) tau2-exact
+        (summed-near p P xs (M + e - p) n (left-small l) (C .count) short) h)
       where
         many : 3 ≤ 2 ^ M
         many = omega (arith, pow-mono two)

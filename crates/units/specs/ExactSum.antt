@@ -1,9 +1,8 @@
 -- The exact sum of a list is the same for every reordering of the list, and that of differences is that of their integers. Assumes nothing.
 use mathlib.Core.Path.{_≡_, sym, ap, _∙_}
 use mathlib.Core.List.{List, [], _∷_, _++_, map, Perm, Perm·foldr-eq}
-use Prim.Native.Nat.{ℕ}
 use lib.IntN.{ℤ, pos, _+ℤ_, +ℤ-assoc, +ℤ-comm, +ℤ-idl, ℤ-set}
-use Rattle.units.specs.Whole.{Whole, nat, int, exactSum, total}
+use Rattle.units.specs.Whole.{Whole, int, exactSum, total}
 use Rattle.units.specs.Integers.{int-plus, int-difference}
 
 pub sum-reordered : {xs ys : List ℤ} → Perm xs ys → exactSum xs ≡ exactSum ys

@@ -1,13 +1,13 @@
 -- What a faithful rounding is: exact where that is possible, the nearest is one, two of one number are equal or neighbours, and zero, sign and relative
 -- distance as document 000's Lemma 2.6 has them. And when a rounded approximation is one: `criterion`, for its Lemma 2.5. Assumes nothing.
 use mathlib.Core.Path.{_≡_, refl}
-use mathlib.Core.Logic.{_⊎_, inl, inr}
+use mathlib.Core.Logic.{inl, inr}
 use Prim.Native.Nat.{ℕ, suc, _+_, _-_, _*_, _/_, _%_, _^_, _≤_, _<_}
-use native.Mathlib.Nat.{mul-le-mul-left, mul-le-mul-right, div-add-mod', mod-lt, div-lt-iff-lt-mul, eq-zero-or-pos}
+use native.Mathlib.Nat.{mul-le-mul-left, div-add-mod', mod-lt, div-lt-iff-lt-mul, eq-zero-or-pos}
 use native.Mathlib.Omega.{arith}
 use lib.Pow.{pow-pos}
-use Rattle.units.specs.Whole.{Whole, nat, _⊕_, _⊖_, neg, _⊗_, _≈_, _≼_, _≺_, Within, mag}
-use Rattle.units.specs.Rounding.{dropped, fl, Short, Representable}
+use Rattle.units.specs.Whole.{Whole, nat, _⊕_, _⊖_, neg, _≈_, _≺_, Within, mag}
+use Rattle.units.specs.Rounding.{dropped, fl, Representable}
 use Rattle.units.specs.Faithful.{Faithful, Neighbours}
 use Rattle.units.specs.Powers.{le-or-lt}
 use Rattle.units.specs.NaturalRounding.{dropped-lt, reach}

@@ -6,7 +6,7 @@ use Prim.Native.Nat.{ℕ, suc, _+_, _-_, _*_, _^_, _≤_, _<_}
 use native.Mathlib.Nat.{le-dest, mul-le-mul-right, le-of-mul-le-mul-left, mul-le-mul, mul-sub}
 use native.Mathlib.Omega.{arith}
 use lib.Pow.{pow-pos}
-use Rattle.units.specs.Whole.{Whole, nat, _⊕_, _⊖_, _⊗_, _≈_, Within, mag}
+use Rattle.units.specs.Whole.{Whole, _⊕_, _⊖_, _⊗_, _≈_, Within, mag}
 use Rattle.units.specs.Rounding.{fl}
 use Rattle.units.specs.Faithful.{Faithful}
 use Rattle.units.specs.Powers.{le-or-lt}

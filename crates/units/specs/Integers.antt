@@ -4,10 +4,10 @@ use mathlib.Core.Logic.{_↔_}
 use mathlib.Core.Bool.{Bool, true, false, not, cond}
 use Prim.Native.Nat.{zero, suc, _-_, _≤_, _<_}
 use native.Mathlib.Omega.{arith}
-use lib.IntN.{ℤ, pos, negsuc, subℕ, negℤ, natAbs, _+ℤ_, _-ℤ_}
+use lib.IntN.{ℤ, pos, negsuc, negℤ, natAbs, _+ℤ_, _-ℤ_}
 use lib.Signed.{_≤ℤ_, _<ℤ_}
 use lib.Dec.{T, ltb, leb→le, le→leb, ltb→lt, lt→ltb, nltb→le}
-use Rattle.units.specs.Whole.{Whole, nat, neg, _⊕_, _⊖_, _≈_, _≼_, _≺_, mag, int, difference}
+use Rattle.units.specs.Whole.{Whole, neg, _⊕_, _⊖_, _≈_, _≼_, _≺_, mag, int, difference}
 
 -- ---- a and int a are the same number, and a is no other integer
 pub int-is : (a : Whole) → a ≈ difference (int a)

@@ -1,11 +1,10 @@
 -- Multiples of a power of two: sums, coarser and finer ones, and that one above 0 is at least that power. Assumes nothing.
 use mathlib.Core.Path.{_≡_, sym, ap, _∙_}
 use mathlib.Core.Logic.{inl, inr}
-use mathlib.Core.List.{List, [], _∷_}
-use Prim.Native.Nat.{ℕ, _+_, _-_, _*_, _^_, _≤_, _<_}
+use Prim.Native.Nat.{ℕ, _-_, _*_, _^_, _≤_}
 use native.Mathlib.Nat.{mul-le-mul-left, mul-assoc, mul-comm}
 use native.Mathlib.Omega.{arith}
-use Rattle.units.specs.Whole.{Whole, nat, _⊕_, _⊖_, neg, _⊗_, _≈_, _≼_, _≺_, Multiple, total, All}
+use Rattle.units.specs.Whole.{Whole, nat, _⊕_, _⊖_, neg, _⊗_, _≈_, _≼_, _≺_, Multiple}
 use Rattle.units.specs.Powers.{le-or-lt, pow-split}
 
 pub multiple-add : {j : ℕ} {a b : Whole} → Multiple j a → Multiple j b → Multiple j (a ⊕ b)

@@ -48,7 +48,7 @@ module _ (p : ℕ) where
 size-scale : (n j : ℕ) → 0 < n → size (n * 2 ^ j) ≡ size n + j
 size-scale n j N = le-antisymm (size-le (n * 2 ^ j) (size n + j) (shl-lt (size n) j (size-lt n))) (elim (le-or-lt (size n + j) (size (n * 2 ^ j))) [
   | inl l ↦ l
-  | inr l ↦ absurd (omega (arith, size-lt (n * 2 ^ j), pow-mono (most l), pow-add 2 (size n - 1) j, mul-le-mul-right (2 ^ j) (size-reaches n (size n - 1) last)))
+  | inr l ↦ absurd (omega (arith, size-lt (n * 2 ^ j), pow-mono (most l), pow-add 2 (size n - 1) j, mul-le-mul-right (2 ^ j) top))
 ])
   where
     some : 0 < size n
@@ -56,6 +56,9 @@ size-scale n j N = le-antisymm (size-le (n * 2 ^ j) (size n + j) (shl-lt (size n
 
     last : size n - 1 < size n
     last = omega (arith, some)
+
+    top : 2 ^ (size n - 1) ≤ n
+    top = size-reaches n (size n - 1) last
 
     most : size (n * 2 ^ j) < size n + j → size (n * 2 ^ j) ≤ size n - 1 + j
     most l = omega (arith, some)

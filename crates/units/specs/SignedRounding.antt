@@ -2,11 +2,11 @@
 -- bits nearer, the error against the last place and against the number, multiples, and zero only from zero. Assumes nothing.
 use mathlib.Core.Path.{_≡_, refl, ap, _∙_}
 use mathlib.Core.Logic.{_⊎_, inl, inr}
-use Prim.Native.Nat.{ℕ, zero, suc, _+_, _-_, _*_, _^_, _≤_, _<_}
+use Prim.Native.Nat.{ℕ, _+_, _-_, _*_, _^_, _≤_, _<_}
 use native.Mathlib.Nat.{mul-le-mul-right, le-of-mul-le-mul-right, mul-sub, eq-of-mul-eq-mul-left}
 use native.Mathlib.Omega.{arith}
 use lib.Pow.{pow-pos}
-use Rattle.units.specs.Whole.{Whole, nat, _⊕_, _⊖_, neg, _⊗_, _≈_, _≼_, Within, Multiple}
+use Rattle.units.specs.Whole.{Whole, nat, _⊖_, neg, _⊗_, _≈_, _≼_, Within, Multiple}
 use Rattle.units.specs.Rounding.{rnd, fl, Short, Representable}
 use Rattle.units.specs.Powers.{le-or-lt}
 use Rattle.units.specs.Multiples.{multiple-neg, multiple-same, multiple-one, multiple-pow}

@@ -1,5 +1,5 @@
 -- Where rounding to p bits reaches 2 ^ (p + 1 + h): from half a place below it on, since that tie goes up to the even significand. Assumes nothing.
-use mathlib.Core.Path.{_≡_, refl, ap, _∙_}
+use mathlib.Core.Path.{_≡_, refl, ap}
 use mathlib.Core.Logic.{inl, inr}
 use Prim.Native.Nat.{ℕ, suc, _+_, _-_, _*_, _^_, _≤_, _<_}
 use native.Mathlib.Nat.{mul-le-mul-right, lt-of-mul-lt-mul-right, le-antisymm, eq-of-mul-eq-mul-right, pow-succ'}

@@ -1,8 +1,8 @@
 -- At a tie the significand is even: where another number of p bits is as near, the rounding is a multiple of twice its last place. Assumes nothing.
 use mathlib.Core.Path.{_≡_, ap, sym, _∙_}
 use mathlib.Core.Logic.{_⊎_, inl, inr}
-use Prim.Native.Nat.{ℕ, zero, suc, _+_, _-_, _*_, _/_, _%_, _^_, _≤_, _<_, compare, Ordering, Ordering·lt, Ordering·eq, Ordering·gt}
-use native.Mathlib.Nat.{mul-le-mul-left, mul-le-mul-right, div-add-mod', mod-lt, mul-assoc, eq-or-lt-of-le, eq-zero-or-pos, pow-succ'}
+use Prim.Native.Nat.{ℕ, suc, _+_, _-_, _*_, _/_, _%_, _^_, _≤_, _<_, compare, Ordering, Ordering·lt, Ordering·eq, Ordering·gt}
+use native.Mathlib.Nat.{mul-le-mul-left, mul-le-mul-right, div-add-mod', mod-lt, mul-assoc, pow-succ'}
 use native.Mathlib.Omega.{arith}
 use lib.Pow.{pow-pos}
 use lib.Ieee.{nearest}

@@ -2,12 +2,12 @@
 -- Document 000's Theorem 3.4, first part. Assumes nothing.
 use mathlib.Core.Path.{_≡_, refl, ap, _∙_}
 use mathlib.Core.List.{List, [], _∷_}
-use Prim.Native.Nat.{ℕ, suc, _+_, _-_, _*_, _^_, _≤_, _<_}
+use Prim.Native.Nat.{ℕ, suc, _+_, _-_, _^_, _≤_, _<_}
 use native.Mathlib.Nat.{mul-le-mul-right}
 use native.Mathlib.Omega.{arith}
 use lib.Pow.{pow-add, pow-pos}
 use lib.ListN.{length}
-use Rattle.units.specs.Whole.{Whole, nat, _⊕_, _⊖_, _⊗_, _≈_, Within, Under, Multiple, total, All}
+use Rattle.units.specs.Whole.{Whole, nat, _⊕_, _⊖_, _≈_, Under, total, All}
 use Rattle.units.specs.Rounding.{fl, Representable}
 use Rattle.units.specs.Walk.{high, remainder, gathered, highs, remainders, Ready, Left, Tau, Gathered, Opened, Closed}
 use Rattle.units.specs.Powers.{cover}
@@ -23,9 +23,6 @@ remainders-length p k [] = refl
 remainders-length p k (x ∷ xs) = ap suc (remainders-length p k xs)
 
 module _ (p : ℕ) (P : 0 < p) (M e : ℕ) (M⁺ : 0 < M) (M⁻ : M < p) where
-  k : ℕ
-  k = M + e
-
   taken : {x : Whole} → Ready p e x → Extracted p M e x
   taken X = extract p P M e M⁺ M⁻ (X .rep) (X .small)
 

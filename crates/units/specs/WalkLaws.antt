@@ -6,7 +6,7 @@ use mathlib.Core.List.{List}
 use Prim.Native.Nat.{ℕ, suc, _+_, _-_, _*_, _^_, _≤_, _<_}
 use native.Mathlib.Nat.{suc-mul, le-trans, le-div-iff-mul-le, lt-of-mul-lt-mul-right, mul-le-mul-left}
 use native.Mathlib.Omega.{arith}
-use Rattle.units.specs.Whole.{Whole, nat, _≈_, total}
+use Rattle.units.specs.Whole.{Whole, nat}
 use Rattle.units.specs.Faithful.{Faithful}
 use Rattle.units.specs.Walk.{roundedUp, remainders, Gathered, Opened, Closed, Walk, nothing, restart, finished, further}
 use Rattle.units.specs.Powers.{le-or-lt}
@@ -40,16 +40,20 @@ module _ (p M n : ℕ) (two : 2 ≤ M) (fit : M + M < p) (few : n + 2 ≤ 2 ^ M)
   walk-rounds O (further {m = m} g l h w) = lowered m (walk-rounds (close-further p M n two fit few (closes O g) l h) w) (omega arith)
 
   -- all rounds of a walk that opens with numbers of at most 2 ^ E units, where E + 1 = C + p: the bound as document 01 writes it, and a number for it
-  pub walk-rounds-most : (C E : ℕ) → C + p ≡ E + 1 → {e : ℕ} {S t : Whole} {xs : List Whole} {m : ℕ} {r : Whole} → e ≤ E → Opened p M n e S t xs
+  walk-rounds-most : (C E : ℕ) → C + p ≡ E + 1 → {e : ℕ} {S t : Whole} {xs : List Whole} {m : ℕ} {r : Whole} → e ≤ E → Opened p M n e S t xs
       → Walk p M e t xs m r → suc m ≤ 1 + roundedUp (C + M) (p - M)
   walk-rounds-most C E l {e} {m = m} i O w = rw whole (omega (arith, le-div-iff-mul-le {k = p - M} (omega arith) .1 (le-trans (walk-rounds O w) i)))
     where
       whole : C + M + (p - M - 1) ≡ E
       whole = omega arith
 
-  pub walk-rounds-below : (D E K : ℕ) → M ≤ D → E < K * (p - D) → {e : ℕ} {S t : Whole} {xs : List Whole} {m : ℕ} {r : Whole} → e ≤ E → Opened p M n e S t xs
+  walk-rounds-below : (D E K : ℕ) → M ≤ D → E < K * (p - D) → {e : ℕ} {S t : Whole} {xs : List Whole} {m : ℕ} {r : Whole} → e ≤ E → Opened p M n e S t xs
       → Walk p M e t xs m r → suc m ≤ K
   walk-rounds-below D E K h l {m = m} i O w = lt-of-mul-lt-mul-right (p - D) (omega (arith, walk-rounds O w, mul-le-mul-left m apart))
     where
       apart : p - D ≤ p - M
       apart = omega arith
+
+  pub walk-bounds : (C D E K : ℕ) → C + p ≡ E + 1 → M ≤ D → E < K * (p - D) → {e : ℕ} {S t : Whole} {xs : List Whole} {m : ℕ} {r : Whole} → e ≤ E
+      → Opened p M n e S t xs → Walk p M e t xs m r → Faithful p r S × (suc m ≤ 1 + roundedUp (C + M) (p - M)) × (suc m ≤ K)
+  walk-bounds C D E K c d k i O w = (walk-faithful O w, walk-rounds-most C E c i O w, walk-rounds-below D E K d k i O w)
