@@ -1,12 +1,12 @@
 -- What a float that a format holds is in units: a whole number of at most prec bits, below 2 ^ (emax + 1). It is determined by its sign and its units.
 -- Assumes nothing.
 use mathlib.Core.Path.{_≡_, refl, sym, ap, _∙_}
-use mathlib.Core.Bool.{Bool, _&&_, cond}
+use mathlib.Core.Bool.{Bool, true, false, _&&_, cond}
 use Prim.Native.Nat.{ℕ, zero, suc, _+_, _-_, _*_, _/_, _%_, _^_, _≤_, _<_}
 use native.Mathlib.Nat.{le-of-lt, zero-mul, mul-one, one-mul, mul-assoc, mul-comm, mul-right-comm, mul-div-cancel}
 use native.Mathlib.Nat.{mul-lt-mul-of-pos-right, lt-of-mul-lt-mul-right}
 use native.Mathlib.Omega.{arith}
-use lib.IntN.{ℤ, pos, negsuc}
+use lib.IntN.{ℤ, pos, negsuc, natAbs, pos-ne-negsuc}
 use lib.Dec.{T, leb, ltb, eqb, leb→le, ltb→lt}
 use lib.Pow.{pow-add, pow-pos}
 use lib.Ieee.{Float, nan, inf, fin, Format, prec, emax, low, up, down, size, fits, toBits, ofBits, top, hid}
@@ -17,7 +17,7 @@ use lib.Ieee.Scale.{finite}
 use lib.Ieee.Bits.{ofBits-toBits}
 use Rattle.units.specs.Rounding.{Short}
 use Rattle.units.specs.Powers.{pow-le-back}
-use Rattle.ieee.specs.Units.{Number, negative, magnitude, beyond}
+use Rattle.ieee.specs.Units.{Number, negative, magnitude, signed, value, beyond}
 
 -- x is ±n units
 abbrev pub Is : Format → Float → Bool → ℕ → Type 0
@@ -106,8 +106,29 @@ bits-are f nan t = absurd t
 bits-are f (inf s) t = absurd t
 bits-are f (fin s m e) t = refl
 
-pub unique : (f : Format) (x y : Float) → Number f x → Number f y → negative x ≡ negative y → magnitude f x ≡ magnitude f y → x ≡ y
+unique : (f : Format) (x y : Float) → Number f x → Number f y → negative x ≡ negative y → magnitude f x ≡ magnitude f y → x ≡ y
 unique f x y X Y s n = sym (ofBits-toBits f x (X .fit)) ∙ ap (ofBits f) same ∙ ofBits-toBits f y (Y .fit)
   where
     same : toBits f x ≡ toBits f y
     same = rw (bits-are f x (X .fini), bits-are f y (Y .fini), s, n)
+
+-- equal units, and at zero an equal sign
+pub same-float : {f : Format} {x y : Float} → Number f x → Number f y → value f x ≡ value f y → (value f x ≡ pos 0 → negative x ≡ negative y) → x ≡ y
+unfolding value
+same-float {f} {x} {y} X Y e z =
+    unique f x y X Y
+    (sign (negative x) (magnitude f x) (negative y) (magnitude f y) e z)
+    (sym (abs (negative x) (magnitude f x)) ∙ ap natAbs e ∙ abs (negative y) (magnitude f y))
+  where
+    abs : (s : Bool) (n : ℕ) → natAbs (signed s n) ≡ n
+    abs false n = refl
+    abs true zero = refl
+    abs true (suc n) = refl
+
+    sign : (s : Bool) (a : ℕ) (t : Bool) (b : ℕ) → signed s a ≡ signed t b → (signed s a ≡ pos 0 → s ≡ t) → s ≡ t
+    sign false a false b e z = refl
+    sign true a true b e z = refl
+    sign false a true zero e z = z e
+    sign false a true (suc b) e z = absurd (pos-ne-negsuc a b e)
+    sign true zero false b e z = z refl
+    sign true (suc a) false b e z = absurd (pos-ne-negsuc b a (sym e))

@@ -10,8 +10,8 @@ use lib.Ieee.Fits.{down-pos}
 use lib.Ieee.Scale.{round-same}
 use Rattle.units.specs.Rounding.{Short}
 use Rattle.units.specs.Scaling.{short-power, short-up, short-down}
-use Rattle.ieee.specs.Units.{beyond}
-use Rattle.ieee.specs.Finite.{Is}
+use Rattle.ieee.specs.Units.{Number, negative, magnitude, beyond}
+use Rattle.ieee.specs.Finite.{Is, facts}
 use Rattle.ieee.specs.Rounded.{round-exact}
 
 pub mul-round : (f : Format) (x y : Float) (s t : Bool) (A B : ℕ) → Is f x s A → Is f y t B → mul f x y ≡ round f (unlike s t) (A * B) (2 ^ low f * 2 ^ low f)
@@ -34,6 +34,11 @@ mul-round f (fin u m e) (fin v n d) s t A B p q =
 
     same : num * (l * l) ≡ A * B * den
     same = mul-mul-mul-comm (m * up e) (n * up d) l l ∙ (λ i. p .1 i * q .1 i) ∙ mul-mul-mul-comm A (down e) B (down d)
+
+-- of any two numbers of the format
+pub mul-number : (f : Format) (x y : Float) → Number f x → Number f y
+    → mul f x y ≡ round f (unlike (negative x) (negative y)) (magnitude f x * magnitude f y) (2 ^ low f * 2 ^ low f)
+mul-number f x y X Y = mul-round f x y (negative x) (negative y) (magnitude f x) (magnitude f y) (facts f x X .is) (facts f y Y .is)
 
 module _ (f : Format) (x y : Float) (s t : Bool) (A B Z : ℕ) (p : Is f x s A) (q : Is f y t B) (e : A * B ≡ Z * 2 ^ low f) where
   -- Z whole units

@@ -1,7 +1,7 @@
 -- What a faithful rounding is: exact where that is possible, the nearest is one, two of one number are equal or neighbours, and zero, sign and relative
 -- distance as document 000's Lemma 2.6 has them. And when a rounded approximation is one: `criterion`, for its Lemma 2.5. Assumes nothing.
 use mathlib.Core.Path.{_≡_, refl}
-use mathlib.Core.Logic.{inl, inr}
+use mathlib.Core.Logic.{_⊎_, inl, inr}
 use Prim.Native.Nat.{ℕ, suc, _+_, _-_, _*_, _/_, _%_, _^_, _≤_, _<_}
 use native.Mathlib.Nat.{mul-le-mul-left, div-add-mod', mod-lt, div-lt-iff-lt-mul, eq-zero-or-pos}
 use native.Mathlib.Omega.{arith}
@@ -40,8 +40,14 @@ pub zero-faithful : (p : ℕ) → Faithful p (nat 0) (nat 0)
 zero-faithful p = record { rep = rep-zero p; below = λ h H x. x; above = λ h H x. x }
 
 -- two faithful roundings of one number are equal or neighbours
-pub faithful-neighbours : {p : ℕ} {f g s : Whole} → Faithful p f s → Faithful p g s → f ≺ g → Neighbours p f g
+faithful-neighbours : {p : ℕ} {f g s : Whole} → Faithful p f s → Faithful p g s → f ≺ g → Neighbours p f g
 faithful-neighbours F G l = record { less = l; none = λ h H x y. (let a = F .above h H x in let b = G .below h H y in omega arith) }
+
+pub equal-or-neighbours : {p : ℕ} {f g s : Whole} → Faithful p f s → Faithful p g s → (f ≈ g) ⊎ Neighbours p f g ⊎ Neighbours p g f
+equal-or-neighbours {p} {f} {g} F G = elim (le-or-lt (g .up + f .dn) (f .up + g .dn)) [
+  | inl l ↦ elim (le-or-lt (f .up + g .dn) (g .up + f .dn)) [ inl m ↦ inl (omega arith) | inr m ↦ inr (inr (faithful-neighbours G F (omega arith))) ]
+  | inr l ↦ inr (inl (faithful-neighbours F G (omega arith)))
+]
 
 -- ---- zero, sign and relative distance
 
