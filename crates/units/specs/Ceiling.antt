@@ -1,9 +1,10 @@
 -- The least power of two at or above a natural number, by its exponent. Assumes nothing.
-use mathlib.Core.Path.{_≡_}
-use Prim.Native.Nat.{ℕ, suc, _-_, _^_, _≤_, _<_}
+use mathlib.Core.Path.{_≡_, ap}
+use Prim.Native.Nat.{ℕ, suc, _+_, _-_, _^_, _≤_, _<_}
 use native.Mathlib.Nat.{le-refl, le-trans, le-antisymm, lt-of-not-le, not-le-of-lt}
 use native.Mathlib.Omega.{arith}
 use lib.Pow.{pow-pos, pow-mono}
+use lib.Ieee.{size}
 use lib.Ieee.Digits.{size-lt, size-le}
 use Rattle.units.specs.Rounding.{ceil}
 use Rattle.units.specs.Powers.{pow-le-back}
@@ -15,6 +16,14 @@ ceil-ge n = omega (arith, size-lt (n - 1))
 pub ceil-least : {n j : ℕ} → n ≤ 2 ^ j → ceil n ≤ j
 unfolding ceil
 ceil-least {n} {j} h = size-le (n - 1) j (omega (arith, pow-pos j))
+
+-- n has as many digits as that exponent of n + 1
+pub ceil-next : (n : ℕ) → size n ≡ ceil (n + 1)
+unfolding ceil
+ceil-next n = ap size (less n)
+  where
+    less : (n : ℕ) → n ≡ n + 1 - 1
+    less n = omega arith
 
 pub ceil-mono : {a b : ℕ} → a ≤ b → ceil a ≤ ceil b
 ceil-mono {a} {b} h = ceil-least (le-trans h (ceil-ge b))

@@ -1,0 +1,69 @@
+-- What a caller hears: for each case of each answer, document 01's number and the place or that none is told, or the values. Definitions only.
+use mathlib.Core.Bool.{Bool, cond, _||_}
+use Prim.Native.Nat.{ℕ, zero, suc}
+use lib.Dec.{eqb}
+use lib.Ieee.{Float, binary64, toBits}
+use Rattle.kinds.specs.declared.Verdict.{Verdict}
+use Rattle.kinds.specs.declared.Verdict.the-variants as verdicts
+use Rattle.kinds.specs.declared.Step.{Step}
+use Rattle.kinds.specs.declared.Step.the-variants as steps
+use Rattle.kinds.specs.declared.Nearest.{Nearest}
+use Rattle.kinds.specs.declared.Nearest.the-variants as nearests
+use Rattle.kinds.specs.declared.Parted.{Parted}
+use Rattle.kinds.specs.declared.Parted.the-variants as parteds
+use Rattle.kinds.specs.declared.Entry.{Entry}
+use Rattle.kinds.specs.declared.Entry.the-variants as entries
+use Rattle.kinds.specs.declared.Sheet.{Sheet}
+use Rattle.kinds.specs.declared.Sheet.the-variants as sheets
+
+pub data Place : Type 0 where
+  nowhere : Place
+  at : ℕ → Place
+
+pub data Heard : Type 0 where
+  refused : ℕ → Place → Heard
+  -- the patterns of sigma, t and tau, then n, the pending set and the rounds closed
+  more : ℕ → ℕ → ℕ → ℕ → ℕ → ℕ → Heard
+  -- a pattern and the rounds; a pattern; whether the parts add up; a count
+  done : ℕ → ℕ → Heard
+  nearest : ℕ → Heard
+  parts : Bool → Heard
+  accepted : Heard
+  count : ℕ → Heard
+
+-- 2 and 3 tell a place
+abbrev pub tells : ℕ → Bool
+tells k = eqb k 2 || eqb k 3
+
+-- a number that tells none is given with place 0
+abbrev pub placeOf : ℕ → ℕ → Place
+placeOf k zero = cond (tells k) (at 0) nowhere
+placeOf k (suc p) = at (suc p)
+
+abbrev pub pattern : Float → ℕ
+pattern x = toBits binary64 x
+
+abbrev pub verdictHeard : Verdict → Heard
+verdictHeard verdicts.Good = accepted
+verdictHeard (verdicts.Refused k p) = refused k (placeOf k p)
+
+abbrev pub stepHeard : Step → Heard
+stepHeard (steps.More s) = more (pattern (s .sigma)) (pattern (s .t)) (pattern (s .tau)) (s .n) (s .pending) (s .rounds)
+stepHeard (steps.Done x r) = done (pattern x) r
+stepHeard (steps.Refused k p) = refused k (placeOf k p)
+
+abbrev pub nearestHeard : Nearest → Heard
+nearestHeard (nearests.Sum x) = nearest (pattern x)
+nearestHeard (nearests.Refused k p) = refused k (placeOf k p)
+
+abbrev pub partedHeard : Parted → Heard
+partedHeard (parteds.Parts b) = parts b
+partedHeard (parteds.Refused k p) = refused k (placeOf k p)
+
+abbrev pub entryHeard : Entry → Heard
+entryHeard entries.Entered = accepted
+entryHeard (entries.Refused k p) = refused k (placeOf k p)
+
+abbrev pub sheetHeard : Sheet → Heard
+sheetHeard (sheets.Read n) = count n
+sheetHeard (sheets.Refused k p) = refused k (placeOf k p)

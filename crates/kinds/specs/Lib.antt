@@ -1,0 +1,4 @@
+-- Document 01's limits, and what a caller hears of each answer.
+pub mod Limits
+pub mod Heard
+pub mod HeardLaws

@@ -1,0 +1,23 @@
+-- What one width of float fixes, and document 01's numbers for binary64: the only definition that writes them. Definitions only.
+use mathlib.Core.Path.{_≡_}
+use Prim.Native.Nat.{ℕ}
+use lib.Ieee.{Format, binary64}
+use Rattle.kinds.specs.declared.Limits.{Limits}
+
+-- the format; how many numbers a list has at most; the pattern of the largest magnitude; how many numbers a block holds; how many parts there are at most
+pub record Width : Type 0 where
+  pub format : Format
+  pub length : ℕ
+  pub magnitude : ℕ
+  pub block : ℕ
+  pub parts : ℕ
+
+abbrev pub doubles : Width
+doubles = record { format = binary64; length = 4094; magnitude = 0x7E70000000000000; block = 64; parts = 8 }
+
+-- the code's constants are these
+pub record Tied (W : Width) (r : Limits) : Type 0 where
+  pub length : r .length ≡ W .length
+  pub magnitude : r .magnitude ≡ W .magnitude
+  pub block : r .block ≡ W .block
+  pub parts : r .parts ≡ W .parts

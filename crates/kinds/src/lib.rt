@@ -1,0 +1,117 @@
+// The types that the library's calls share: what describes a list, the walk's state, and every answer.
+ghost use mathlib.Core.Path.{_≡_};
+ghost use Prim.Native.Nat.{_+_, _≤_};
+ghost use Rattle.units.specs.Rounding.{ceil};
+ghost use Rattle.units.specs.Walk.{roundedUp};
+ghost use Rattle.kinds.specs.Limits.{doubles, Tied};
+
+// A list of binary64 patterns, by its length. Document 01's limits on lists are constants of this type, and stand nowhere else.
+pub struct Doubles {
+    pub n: usize,
+}
+
+// The same limits as values.
+pub struct Limits {
+    pub length: usize,
+    pub magnitude: u64,
+    pub block: usize,
+    pub parts: usize,
+}
+
+impl Doubles {
+    // "A list has 0 to 4,094 numbers."
+    pub const LENGTH: usize = 4094;
+
+    // "of magnitude at most 2^1000 (pattern 7E70000000000000 and its negative are allowed)"
+    pub const MAGNITUDE: u64 = 0x7E70_0000_0000_0000;
+
+    // "Blocks hold 64 numbers."
+    pub const BLOCK: usize = 64;
+
+    // "Parts: 1 to 8"
+    pub const PARTS: usize = 8;
+
+    // Ties the constants to the definitions: where one of either moves, this is refused.
+    pub fn limits() -> Limits
+        ensures { λ r. ⌜ Tied doubles r ⌝ }
+    {
+        Limits {
+            length: Self::LENGTH,
+            magnitude: Self::MAGNITUDE,
+            block: Self::BLOCK,
+            parts: Self::PARTS,
+        }
+    }
+
+    pub fn of(n: usize) -> Self
+        ensures { λ r. ⌜ r .n ≡ n ⌝ }
+    {
+        Doubles { n }
+    }
+
+    // M, "the least whole number with 2^M at least n + 2"
+    pub fn exponent(self) -> u32
+        requires { ⌜ self .n ≤ doubles .length ⌝ }
+        ensures { λ r. ⌜ r ≡ ceil (self .n + 2) ⌝ }
+    {
+        let n = self.n as u64;
+        64 - u64::leading_zeros(n + 1)
+    }
+
+    // B, "n/64 rounded up"
+    pub fn blocks(self) -> usize
+        requires { ⌜ self .n ≤ doubles .length ⌝ }
+        ensures { λ r. ⌜ r ≡ roundedUp (self .n) (doubles .block) ⌝ }
+    {
+        (self.n + (Self::BLOCK - 1)) / Self::BLOCK
+    }
+}
+
+// "A state holds the three doubles sigma, t and tau beside n, the pending set and the rounds closed."
+pub struct State {
+    pub sigma: f64,
+    pub t: f64,
+    pub tau: f64,
+    pub n: usize,
+    pub pending: u64,
+    pub rounds: u32,
+}
+
+// ---- answers. A refusal holds document 01's number and the place, 0 where none is told.
+
+// of a list: whether it is allowed
+pub enum Verdict {
+    Good,
+    Refused(u32, u32),
+}
+
+// of an opening, a step and the undivided faithful sum
+pub enum Step {
+    More(State),
+    Done(f64, u32),
+    Refused(u32, u32),
+}
+
+// of the nearest sum and of rounding a register
+pub enum Nearest {
+    Sum(f64),
+    Refused(u32, u32),
+}
+
+// of the sum in parts: whether the parts add up
+pub enum Parted {
+    Parts(bool),
+    Refused(u32, u32),
+}
+
+// of an addition to a register and a withdrawal from it
+pub enum Entry {
+    Entered,
+    Refused(u32, u32),
+}
+
+// of the sheet reader: the count
+pub enum Sheet {
+    Read(usize),
+    Refused(u32, u32),
+}
