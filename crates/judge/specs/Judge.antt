@@ -1,0 +1,36 @@
+-- The fault of one pattern, and what a list is refused for, in document 01's order. Definitions only.
+use mathlib.Core.Bool.{Bool, cond, not}
+use mathlib.Core.List.{List, [], _∷_, map}
+use Prim.Native.Nat.{ℕ, _+_}
+use lib.Dec.{leb, ltb, eqb}
+use lib.ListN.{length}
+use lib.Ieee.{Float, ofBits}
+use lib.Ieee.Scale.{finite}
+use Rattle.ieee.specs.Units.{magnitude}
+use Rattle.kinds.specs.Limits.{Width}
+use Rattle.kinds.specs.declared.Verdict.{Verdict}
+use Rattle.kinds.specs.declared.Verdict.the-variants.{Good, Refused}
+
+-- 2 for a NaN or infinity, 3 for a finite number of magnitude above the limit, 0 for an allowed one
+unfoldable pub faultOf : Width → ℕ → ℕ
+faultOf W p =
+    cond (finite (ofBits (W .format) p))
+    (cond (leb (magnitude (W .format) (ofBits (W .format) p)) (magnitude (W .format) (ofBits (W .format) (W .magnitude)))) 0 3)
+    2
+
+-- the lowest bad place with its own fault, places counted from k
+unfoldable pub firstFault : Width → List ℕ → ℕ → Verdict
+firstFault W [] k = Good
+firstFault W (p ∷ ps) k = cond (eqb (faultOf W p) 0) (firstFault W ps (k + 1)) (Refused (faultOf W p) k)
+
+-- "Order on a list: 1, 4, 5, then the lowest bad place with its own fault (2 or 3)." area and parts say whether the lent areas have the right lengths.
+unfoldable pub judged : Width → Bool → Bool → List ℕ → Verdict
+judged W area parts ps =
+    cond (ltb (W .length) (length ps)) (Refused 1 0)
+    (cond (not area) (Refused 4 0)
+    (cond (not parts) (Refused 5 0)
+    (firstFault W ps 0)))
+
+-- the numbers of a list
+abbrev pub floats : Width → List ℕ → List Float
+floats W ps = map (ofBits (W .format)) ps

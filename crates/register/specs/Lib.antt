@@ -1,0 +1,2 @@
+-- The exact register.
+pub mod Register

@@ -1,0 +1,63 @@
+-- The exact register: 33 words of 64 bits, least significant first, two's complement, counting units. Definitions only.
+use mathlib.Core.Bool.{false, cond, not}
+use mathlib.Core.List.{List}
+use Prim.Native.Nat.{ℕ}
+use lib.Dec.{eqb}
+use lib.IntN.{ℤ, _+ℤ_, _-ℤ_}
+use lib.ListN.{length}
+use lib.Ieee.{ofBits}
+use lib.Ieee.Scale.{finite}
+use Rattle.lists.specs.Digits.{number, digits, signed, residue, inside}
+use Rattle.ieee.specs.Units.{value, nearestFloat}
+use Rattle.kinds.specs.Limits.{doubles}
+use Rattle.kinds.specs.declared.Entry.{Entry}
+use Rattle.kinds.specs.declared.Entry.the-variants as entries
+use Rattle.kinds.specs.declared.Nearest.{Nearest}
+use Rattle.kinds.specs.declared.Nearest.the-variants as nearests
+use Rattle.judge.specs.Judge.{faultOf}
+
+abbrev pub wordBits : ℕ
+wordBits = 64
+
+abbrev pub wordCount : ℕ
+wordCount = 33
+
+abbrev pub registerBits : ℕ
+registerBits = 2112
+
+-- the whole number that words stand for, and the words of a whole number
+abbrev pub wholeOf : List ℕ → ℤ
+wholeOf ws = signed registerBits (number wordBits ws)
+
+abbrev pub wordsOf : ℤ → List ℕ
+wordsOf z = digits wordBits wordCount (residue registerBits z)
+
+-- the units of a pattern
+abbrev pub unitsOf : ℕ → ℤ
+unitsOf p = value (doubles .format) (ofBits (doubles .format) p)
+
+-- the answer, and the words afterwards
+pub record Entered : Type 0 where
+  pub answer : Entry
+  pub words : List ℕ
+
+-- "On a register addition or withdrawal: 4, then 2 or 3 at place 0, then 9." Words ws, pattern p, and the whole number z that would be there afterwards.
+unfoldable pub enter : List ℕ → ℕ → ℤ → Entered
+enter ws p z =
+    cond (not (eqb (length ws) wordCount)) (record { answer = entries.Refused 4 0; words = ws })
+    (cond (not (eqb (faultOf doubles p) 0)) (record { answer = entries.Refused (faultOf doubles p) 0; words = ws })
+    (cond (not (inside registerBits z)) (record { answer = entries.Refused 9 0; words = ws })
+    (record { answer = entries.Entered; words = wordsOf z })))
+
+abbrev pub added : List ℕ → ℕ → Entered
+added ws p = enter ws p (wholeOf ws +ℤ unitsOf p)
+
+abbrev pub withdrawn : List ℕ → ℕ → Entered
+withdrawn ws p = enter ws p (wholeOf ws -ℤ unitsOf p)
+
+-- "On rounding a register: 4, 10." The register doesn't know signs of zero.
+unfoldable pub rounded : List ℕ → Nearest
+rounded ws =
+    cond (not (eqb (length ws) wordCount)) (nearests.Refused 4 0)
+    (cond (finite (nearestFloat (doubles .format) false (wholeOf ws))) (nearests.Sum (nearestFloat (doubles .format) false (wholeOf ws)))
+    (nearests.Refused 10 0))

@@ -1,0 +1,1 @@
+// The exact register: 33 lent words that count units in two's complement.

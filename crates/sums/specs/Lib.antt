@@ -1,0 +1,2 @@
+-- The sums of a list.
+pub mod Sums

@@ -1,0 +1,1 @@
+// The sums of a list: nearest, and in parts.
