@@ -11,6 +11,7 @@ pub mod Multiples
 pub mod SignedRounding
 pub mod Ties
 pub mod Threshold
+pub mod FirstPlace
 pub mod Distance
 pub mod TwoSum
 pub mod Extraction
