@@ -36,8 +36,11 @@ module _ (f : Format) where
 
     -- it is no larger than S, since 0 is no nearer
     pub left-smaller : natAbs (left z S) ≤ natAbs S
-    left-smaller = rw (← (mag-difference (left z S)), ← (mag-difference S)) (smaller (difference (left z S)) (difference S) (fl (prec f) (difference S)) left-is near)
+    left-smaller = rw (← (mag-difference (left z S)), ← (mag-difference S)) (smaller (difference (left z S)) (difference S) x left-is near)
       where
+        x : Whole
+        x = fl (prec f) (difference S)
+
         near : Within (fl (prec f) (difference S) ⊖ difference S) (mag (difference S))
         near = fl-best (prec f) (prec-pos f) (difference S) {f = nat 0} (mag (difference S)) (rep-zero (prec f)) (omega arith)
 
