@@ -10,13 +10,13 @@ use lib.ListN.{length}
 use lib.Ieee.{Format, prec}
 use Rattle.units.specs.Whole.{Whole, nat, _⊖_, _≈_, Within, mag, int, difference, exactSum}
 use Rattle.units.specs.Rounding.{fl}
-use Rattle.units.specs.FirstPlace.{rounding-apart}
 use Rattle.units.specs.SignedRounding.{rep-zero, fl-same, fl-best}
 use Rattle.units.specs.Integers.{int-back, int-minus, int-difference, mag-difference}
 use Rattle.ieee.specs.Units.{magnitude, value, nearestFloat, limit}
 use Rattle.ieee.specs.Sum.{value-int, whole-mag}
 use Rattle.ieee.specs.Rounded.{prec-pos}
 use Rattle.ieee.specs.Overflow.{nearest-whole}
+use Rattle.sums.specs.FirstPlace.{rounding-apart}
 use Rattle.sums.specs.Sums.{parts}
 use Rattle.sums.specs.NonOverlapping.{Apart, NonOverlapping}
 

@@ -6,7 +6,7 @@ use Prim.Native.Nat.{ℕ, suc, _+_, _*_, _≤_, _<_}
 use native.Mathlib.Omega.{arith}
 use lib.IntN.{ℤ, pos, _+ℤ_, natAbs, +ℤ-assoc, +ℤ-comm, +ℤ-idl, ℤ-set}
 use lib.ListN.{length, getD}
-use Rattle.units.specs.Whole.{Whole, _⊕_, mag, int, difference, exactSum, total}
+use Rattle.units.specs.Whole.{Whole, _⊕_, int, difference, exactSum, total}
 use Rattle.units.specs.Integers.{int-plus, int-mag, int-difference, mag-difference}
 
 pub sum-reordered : {xs ys : List ℤ} → Perm xs ys → exactSum xs ≡ exactSum ys

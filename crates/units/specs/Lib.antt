@@ -11,7 +11,6 @@ pub mod Multiples
 pub mod SignedRounding
 pub mod Ties
 pub mod Threshold
-pub mod FirstPlace
 pub mod Distance
 pub mod TwoSum
 pub mod Extraction
@@ -23,3 +22,4 @@ pub mod Closing
 pub mod WalkLaws
 pub mod Integers
 pub mod ExactSum
+pub mod AnyOrder
