@@ -1,3 +1,4 @@
 -- Facts on lists, and numbers written in digits of base 2 ^ w. Definitions first, then laws.
 pub mod Digits
 pub mod LeadingZeros
+pub mod Front
