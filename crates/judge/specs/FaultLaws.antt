@@ -11,7 +11,7 @@ use lib.Arith.{le→nltb, lt→nleb}
 use lib.Ieee.{Float, nan, inf, fin, ones, hid, top, isNan, nanBits}
 use lib.Ieee.Bits.{is-true, is-false, ofBits-fits, nanBits-is}
 use lib.Ieee.Scale.{finite}
-use Rattle.ieee.specs.Units.{Number, magnitude, patternUnits}
+use Rattle.ieee.specs.Units.{Number, patternUnits}
 use Rattle.ieee.specs.Finite.{is-units}
 use Rattle.ieee.specs.Pattern.{pattern-positive, pattern-finite, pattern-within}
 use Rattle.ieee.specs.Instances.{top-64}

@@ -18,12 +18,8 @@ use Rattle.kinds.specs.Limits.{Width}
 use Rattle.kinds.specs.declared.Verdict.{Verdict}
 use Rattle.kinds.specs.declared.Verdict.the-variants.{Good, Refused}
 use Rattle.judge.specs.Judge.{faultOf, firstFault, floats}
-use Rattle.judge.specs.Table.{most, Clean, Allowed, First}
+use Rattle.judge.specs.Table.{most, Clean, Allowed, First, Faulty}
 use Rattle.judge.specs.FaultLaws.{fault-0, fault-number, allowed-number}
-
--- some place has a fault
-abbrev pub Faulty : Width → List ℕ → Type 0
-Faulty W ps = (k : ℕ) × (i : ℕ) × First W ps k i
 
 module _ {W : Width} {ps : List ℕ} where
   pub clean-none : Clean W ps 0
@@ -73,8 +69,7 @@ module _ (W : Width) (ps : List ℕ) where
   finds zero h = inl clean-none
   finds (suc n) h = go (finds n (omega arith)) (eqb (faultOf W (getD ps n 0)) 0) refl
     where
-      go : Clean W ps n ⊎ Faulty W ps → (t : Bool) → eqb (faultOf W (getD ps n 0)) 0 ≡ t
-          → Clean W ps (suc n) ⊎ Faulty W ps
+      go : Clean W ps n ⊎ Faulty W ps → (t : Bool) → eqb (faultOf W (getD ps n 0)) 0 ≡ t → Clean W ps (suc n) ⊎ Faulty W ps
       go (inr F) t e = inr F
       go (inl C) true e = inl (clean-more C (eqb-true _ _ e))
       go (inl C) false e = inr (faultOf W (getD ps n 0), n, record { inside = h; fault = refl; bad = eqb-false _ _ e; before = C })

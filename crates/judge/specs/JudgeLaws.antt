@@ -67,8 +67,8 @@ module _ (W : Width) (ps : List ℕ) where
       told : {l : ℕ} → T (eqb k l) → i ≡ 0 → Refused l 0 ≡ Refused k i
       told {l} t e = rw (eqb→eq k l t, e)
 
-  pub given-when : (area parts : Bool) (v : Verdict) → (judged W area parts ps ≡ v) ↔ GivenWhen W area parts ps v
-  given-when area parts v = (
-    λ e. subst (GivenWhen W area parts ps) e (verdict-given (le-or-lt (length ps) (W .length)) area parts),
-    given-verdict area parts v,
-  )
+pub given-when : (W : Width) (area parts : Bool) (ps : List ℕ) (v : Verdict) → (judged W area parts ps ≡ v) ↔ GivenWhen W area parts ps v
+given-when W area parts ps v = (
+  λ e. subst (GivenWhen W area parts ps) e (verdict-given W ps (le-or-lt (length ps) (W .length)) area parts),
+  given-verdict W ps area parts v,
+)

@@ -30,12 +30,15 @@ pub record Clean (W : Width) (ps : List ℕ) (n : ℕ) : Type 0 where
 abbrev pub Allowed : Width → List ℕ → Type 0
 Allowed W ps = Clean W ps (length ps)
 
--- i is the lowest bad place, and k its fault
+-- i is the lowest bad place, and k its fault; there is such a place
 pub record First (W : Width) (ps : List ℕ) (k i : ℕ) : Type 0 where
   pub inside : i < length ps
   pub fault : faultOf W (getD ps i 0) ≡ k
   pub bad : k ≡ 0 → ⊥
   pub before : Clean W ps i
+
+abbrev pub Faulty : Width → List ℕ → Type 0
+Faulty W ps = (k : ℕ) × (i : ℕ) × First W ps k i
 
 -- none of 1, 4 and 5 is given
 pub record Passed (W : Width) (area parts : Bool) (ps : List ℕ) : Type 0 where

@@ -8,9 +8,10 @@ ghost use Rattle.kinds.specs.Limits.{doubles};
 ghost use Rattle.kinds.specs.declared.Verdict.the-variants.{Good};
 ghost use Rattle.judge.specs.Judge.{faultOf, firstFault, judged, floats};
 
-// Patterns without their sign are in the order of their magnitudes, and from the infinity's on they stand for no number.
+// What the sign adds to a pattern. Patterns without it are in the order of their magnitudes.
 const SIGN: u64 = 0x8000_0000_0000_0000;
 
+// The pattern of the infinity. From it on, a pattern without its sign stands for no number.
 const INFINITY: u64 = 0x7FF0_0000_0000_0000;
 
 // The number of a pattern's fault, 0 for none: 2 "a NaN or infinity", 3 "a finite number of magnitude above 2^1000".
@@ -27,7 +28,7 @@ pub fn fault(p: u64) -> u32
     0
 }
 
-// "the lowest bad place with its own fault". A place is told in 32 bits, so the length is tested first.
+// "the lowest bad place with its own fault". The bound on the length, which `judge` tests, is there because a place is told in 32 bits.
 fn first_fault(list: &[u64]) -> Verdict
     requires { ⌜ length (now list) ≤ doubles .length ⌝ }
     ensures { λ r. ⌜ r ≡ firstFault doubles (now (list .entry)) 0 ⌝ }
@@ -59,7 +60,7 @@ pub fn judge(list: &[u64], area: bool, parts: bool) -> Verdict
     first_fault(list)
 }
 
-// "Opening copies the list to the work area". Of an allowed list, since a NaN's pattern has no float that keeps it, and to an area of its length.
+// The list as floats. Of an allowed list only, since `from_bits` asks for a pattern that is no NaN's, and to an area of the same length.
 pub fn copy(list: &[u64], work: &mut [f64])
     requires { ⌜ (length (now work) ≡ length (now list)) × (firstFault doubles (now list) 0 ≡ Good) ⌝ }
     ensures { λ _. ⌜ now (work .exit) ≡ floats doubles (now (list .entry)) ⌝ }

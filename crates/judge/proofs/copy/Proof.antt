@@ -5,7 +5,7 @@ use Prim.Native.Nat.{_≤_, _<_, _-_}
 use native.Mathlib.Omega.{arith}
 use borrow.Author.Needs.{needs}
 use lib.Ieee.{nan, ofBits}
-use lib.ListN.{length, take, drop, getD}
+use lib.ListN.{length, take, drop}
 use Rattle.lists.specs.Front.{store-map, end-map}
 use Rattle.kinds.specs.Limits.{doubles}
 use Rattle.judge.specs.Judge.{floats}
@@ -31,9 +31,8 @@ shared-slice-read-work c = search needs
 
 float-from-bits-work : tie.Need-float-from-bits-work Inv-loop μ-loop
 float-from-bits-work c =
-    let l = c .before .before in
-    let ps = l .before .args .list .now in
-    allowed-no-nan doubles (getD ps (l .loop .i) 0) (first-good doubles ps .0 (l .before .pre .1) .none (l .loop .i) (omega arith))
+    let g = c .before .before .before in
+    allowed-no-nan doubles _ (first-good doubles (g .args .list .now) .0 (g .pre .1) .none _ (omega arith))
 
 mul-work-2 : tie.Need-mul-work-2 Inv-loop μ-loop
 mul-work-2 c = search needs
