@@ -1,7 +1,7 @@
 -- `judge::copy` meets its contract: the places passed are the list's floats, and no allowed pattern is a NaN's. Assumes nothing.
 use mathlib.Core.Path.{_≡_, _∙_}
 use mathlib.Core.List.{_++_}
-use Prim.Native.Nat.{_≤_, _<_, _-_}
+use Prim.Native.Nat.{_<_, _-_}
 use native.Mathlib.Omega.{arith}
 use borrow.Author.Needs.{needs}
 use lib.Ieee.{nan, ofBits}
@@ -15,7 +15,7 @@ use Rattle.judge.proofs.copy.Statement.{statement}
 use Rattle.judge.proofs.copy.Tie as tie
 
 abbrev Inv-loop : tie.InvT-loop
-Inv-loop list work₀ i₀ work i = (length work ≡ length work₀) × (i ≤ length list) × (work ≡ floats doubles (take i list) ++ drop i work₀)
+Inv-loop list work₀ i₀ work i = (length work ≡ length work₀) × (work ≡ floats doubles (take i list) ++ drop i work₀)
 
 abbrev μ-loop : tie.MeasureT-loop
 μ-loop list work₀ i₀ work i = length list - i
@@ -52,8 +52,7 @@ loop-again c =
     let a = l .before .args in
     let h : l .loop .i < length (a .work .now) = omega (arith, l .before .pre .0) in (
       search needs,
-      omega arith,
-      rw (l .loop .inv .2) (store-map (ofBits (doubles .format)) (a .list .now) (a .work .now) (l .loop .i) 0 nan (omega arith) h),
+      rw (l .loop .inv .1) (store-map (ofBits (doubles .format)) (a .list .now) (a .work .now) (l .loop .i) 0 nan (omega arith) h),
     )
 
 same-length : tie.Need-same-length Inv-loop μ-loop
@@ -63,7 +62,7 @@ returns : tie.Need-returns Inv-loop μ-loop
 returns c =
     let l = c .before in
     let a = l .before .args in
-    l .loop .inv .2 ∙ end-map (ofBits (doubles .format)) (a .list .now) (a .work .now) (l .loop .i) (omega arith) (omega (arith, l .before .pre .0))
+    l .loop .inv .1 ∙ end-map (ofBits (doubles .format)) (a .list .now) (a .work .now) (l .loop .i) (omega arith) (omega (arith, l .before .pre .0))
 
 pub copy-spec : {M : Type 1} → statement M
 copy-spec =
