@@ -104,7 +104,7 @@ rows-hold (r ∷ rs) t zero d h = row-holds r (and-l (passes r) (every rs) t)
 rows-hold (r ∷ rs) t (suc k) d h = rows-hold rs (and-r (passes r) (every rs) t) k d (omega arith)
 
 computed : every table ≡ true
-unfolding every told table judged firstFault faultOf S.nearestAfter S.partsAfter S.parts enter rounded number digits signed residue nearestFloat value ofBits toBits
+unfolding every table judged firstFault faultOf S.nearestAfter S.partsAfter S.parts enter rounded number digits signed residue nearestFloat value ofBits toBits
 computed = refl
 
 pub table-holds : (k : ℕ) (d : Row) → k < length table → told (getD table k d .call) ≡ getD table k d .expected
