@@ -2,3 +2,4 @@
 pub mod Digits
 pub mod LeadingZeros
 pub mod DigitLaws
+pub mod TwosComplement
