@@ -3,3 +3,4 @@ pub mod Digits
 pub mod LeadingZeros
 pub mod DigitLaws
 pub mod TwosComplement
+pub mod SignedDigits
