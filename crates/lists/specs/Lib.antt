@@ -2,5 +2,6 @@
 pub mod Digits
 pub mod LeadingZeros
 pub mod DigitLaws
+pub mod Carry
 pub mod TwosComplement
 pub mod SignedDigits
