@@ -5,7 +5,7 @@ use mathlib.Core.List.{List}
 use Prim.Native.Nat.{ℕ, _+_, _*_, _^_, _≤_, _<_}
 use native.Mathlib.Numerals.{add-one}
 use native.Mathlib.Omega.{arith}
-use lib.ListN.{length, getD, set}
+use lib.ListN.{length, getD, set, length-set}
 use Rattle.lists.specs.Digits.{number}
 use Rattle.lists.specs.DigitLaws.{weight-next, number-set}
 
@@ -38,3 +38,25 @@ module _ {w : ℕ} {xs ys : List ℕ} {m i c b d carry : ℕ} where
     total = rw (add-one i, weight-next w i) (omega (arith, number-set w xs i d h, ap (λ (n : ℕ). n * 2 ^ (w * i)) (s .total)));
     small = s .small;
   }
+
+next : (k : ℕ) → k + 1 + 1 ≡ k + 2
+next k = omega arith
+
+start : (w : ℕ) (xs : List ℕ) (k : ℕ) → Carried w xs 0 xs k 0
+start w xs k = record { total = omega arith; small = omega arith }
+
+-- two adjacent digits, then the carry on from there
+module _ {w : ℕ} {xs zs : List ℕ} (k lo hi : ℕ) {l c h d n r : ℕ} (K : k + 1 < length xs) where
+  pub add-two : Carries w (getD xs k 0) lo 0 l c → Carries w (getD (set xs k l) (k + 1) 0) hi c h d
+      → Carried w (set (set xs k l) (k + 1) h) (d * 2 ^ (w * (k + 2))) zs n r → Carried w xs (two w k lo hi) zs n r
+  add-two s t C =
+      let first = carried-add (omega arith) (start w xs k) s in
+      let both = carried-add (simp length-set (omega arith)) first t in
+      record { total = omega (arith, rw (next k) at (both .total), C .total); small = C .small }
+
+  pub sub-two : Carries w l lo 0 (getD xs k 0) c → Carries w h hi c (getD (set xs k l) (k + 1) 0) d
+      → Carried w zs (d * 2 ^ (w * (k + 2))) (set (set xs k l) (k + 1) h) n r → Carried w zs (two w k lo hi) xs n r
+  sub-two s t C =
+      let first = carried-sub (omega arith) (start w xs k) s in
+      let both = carried-sub (simp length-set (omega arith)) first t in
+      record { total = omega (arith, rw (next k) at (both .total), C .total); small = C .small }
