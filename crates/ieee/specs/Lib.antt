@@ -15,3 +15,4 @@ pub mod Nearest
 pub mod FaithfulFloat
 pub mod InRange
 pub mod Instances
+pub mod PatternFields

@@ -8,10 +8,7 @@ use native.Mathlib.Omega.{arith}
 use lib.ListN.{length, getD, set, length-set}
 use Rattle.lists.specs.Digits.{number}
 use Rattle.lists.specs.DigitLaws.{weight-next, number-set}
-
--- lo at place k and hi at the next
-abbrev pub two : ℕ → ℕ → ℕ → ℕ → ℕ
-two w k lo hi = lo * 2 ^ (w * k) + hi * 2 ^ (w * (k + 1))
+use Rattle.lists.specs.TwoDigits.{two}
 
 -- a, b and c are the digit d, and the carry above it. Of a difference d is what is taken from, and a what is left.
 pub record Carries (w a b c d carry : ℕ) : Type 0 where

@@ -2,6 +2,7 @@
 pub mod Digits
 pub mod LeadingZeros
 pub mod DigitLaws
+pub mod TwoDigits
 pub mod Carry
 pub mod TwosComplement
 pub mod SignedDigits

@@ -1,2 +1,3 @@
 -- The exact register.
 pub mod Register
+pub mod Place

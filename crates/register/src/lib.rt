@@ -1,3 +1,4 @@
 // The exact register: 33 lent words that count units in two's complement.
+mod place;
 mod ripple;
 mod word;

@@ -2,7 +2,8 @@
 ghost use Prim.Native.Nat.{_+_, _*_, _^_, _≤_, _<_};
 ghost use lib.ListN.{length};
 ghost use Rattle.register.specs.Register.{wordBits};
-ghost use Rattle.lists.specs.Carry.{Carried, two};
+ghost use Rattle.lists.specs.TwoDigits.{two};
+ghost use Rattle.lists.specs.Carry.{Carried};
 use super::word::add_word;
 use super::word::sub_word;
 
