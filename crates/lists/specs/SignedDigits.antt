@@ -16,7 +16,7 @@ use Rattle.lists.specs.Digits.{number, digits, Digits, signed, residue, 
 use Rattle.lists.specs.DigitLaws.{weight-zero, number-nil, number-cons, digits-head, digits-tail}
 use Rattle.lists.specs.DigitLaws.{number-lt, number-digits, digits-length, digits-below, number-unique}
 use Rattle.lists.specs.TwosComplement.{residue-lt, residue-signed, signed-residue, residue-plus, top}
-use Rattle.lists.specs.TwosComplement.{add-residue, add-inside, sub-residue, sub-inside}
+use Rattle.lists.specs.TwosComplement.{add-residue, sub-residue, plus-inside, minus-inside}
 
 module _ (w n : ℕ) where
   -- the n digits of a signed number
@@ -88,14 +88,17 @@ module _ (w : ℕ) where
         (ap (λ (d : ℕ). d / 2 ^ (w - 1)) (omega arith))
 
     -- whether a sum is in range, as TwosComplement reads it from the top bits
-    module _ {ds es : List ℕ} (m c : ℕ) (D : Words w (suc i) ds) (E : Words w (suc i) es) (h : m ≤ 2 ^ (w * suc i - 1)) where
+    module _ {ds : List ℕ} (m : ℕ) (D : Words w (suc i) ds) (h : m ≤ 2 ^ (w * suc i - 1)) where
       some : 0 < w * suc i
       some = mul-pos P (zero-lt-suc i)
 
-      pub cut-add-inside : number w es + c * 2 ^ (w * suc i) ≡ number w ds + m
-          → inside (w * suc i) (whole w (suc i) ds +ℤ pos m) ≡ not (ltb (topBit i ds) (topBit i es))
-      cut-add-inside e = rw (top-digit D, top-digit E) at (add-inside (w * suc i) some m c (words-lt w (suc i) D) (words-lt w (suc i) E) e h)
+      after : (z : ℤ) → top (w * suc i) (residue (w * suc i) z) ≡ topBit i (cut w (suc i) z)
+      after z = ap (top (w * suc i)) (sym (cut-number w (suc i) z)) ∙ top-digit (cut-words w (suc i) z)
 
-      pub cut-sub-inside : number w ds + c * 2 ^ (w * suc i) ≡ number w es + m
-          → inside (w * suc i) (whole w (suc i) ds -ℤ pos m) ≡ not (ltb (topBit i es) (topBit i ds))
-      cut-sub-inside e = rw (top-digit D, top-digit E) at (sub-inside (w * suc i) some m c (words-lt w (suc i) D) (words-lt w (suc i) E) e h)
+      pub cut-plus-inside : inside (w * suc i) (whole w (suc i) ds +ℤ pos m) ≡ not (ltb (topBit i ds) (topBit i (cut w (suc i) (whole w (suc i) ds +ℤ pos m))))
+      cut-plus-inside =
+          rw (top-digit D, after (whole w (suc i) ds +ℤ pos m)) at (plus-inside (w * suc i) some (number w ds) m (words-lt w (suc i) D) h)
+
+      pub cut-minus-inside : inside (w * suc i) (whole w (suc i) ds -ℤ pos m) ≡ not (ltb (topBit i (cut w (suc i) (whole w (suc i) ds -ℤ pos m))) (topBit i ds))
+      cut-minus-inside =
+          rw (top-digit D, after (whole w (suc i) ds -ℤ pos m)) at (minus-inside (w * suc i) some (number w ds) m (words-lt w (suc i) D) h)

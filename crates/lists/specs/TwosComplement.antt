@@ -4,7 +4,7 @@ use mathlib.Core.Path.{_≡_, sym, ap, _∙_}
 use mathlib.Core.Logic.{inl, inr}
 use mathlib.Core.Bool.{true, false, not}
 use Prim.Native.Nat.{ℕ, zero, suc, _+_, _-_, _*_, _/_, _%_, _^_, _≤_, _<_}
-use native.Mathlib.Nat.{mod-lt, mod-eq-of-lt, add-mul-mod-self-left, div-add-mod', div-eq-of-lt, div-eq-of-lt-le, div-lt-iff-lt-mul}
+use native.Mathlib.Nat.{mod-lt, mod-eq-of-lt, add-mul-mod-self-left, div-add-mod', mod-add-div', div-eq-of-lt, div-eq-of-lt-le, div-lt-iff-lt-mul}
 use native.Mathlib.Omega.{arith}
 use borrow.Author.Tests.{lt-ltb, le-ltb}
 use lib.Dec.{T, ltb, ltb→lt}
@@ -159,8 +159,7 @@ module _ (b : ℕ) where
         pub add-residue : residue b (signed b u +ℤ pos m) ≡ v
         add-residue = rw (sum u U (pos m)) (residue-only W (record { times = record { up = c; dn = top u }; is = omega arith }))
 
-        -- an addition leaves the range where the top bit was clear and is set afterwards
-        pub add-inside : m ≤ 2 ^ (b - 1) → inside b (signed b u +ℤ pos m) ≡ not (ltb (top u) (top v))
+        add-inside : m ≤ 2 ^ (b - 1) → inside b (signed b u +ℤ pos m) ≡ not (ltb (top u) (top v))
         add-inside h = rw (sum u U (pos m)) (elim (le-or-lt (2 ^ (b - 1)) u) [
           | inl g ↦
               rw (top-high g U, le-ltb 1 (top v) (top-le W))
@@ -177,8 +176,7 @@ module _ (b : ℕ) where
         pub sub-residue : residue b (signed b u -ℤ pos m) ≡ v
         sub-residue = rw (less u U m) (residue-only W (record { times = neg (nat (c + top u)); is = omega arith }))
 
-        -- a subtraction where it was set and is clear afterwards
-        pub sub-inside : m ≤ 2 ^ (b - 1) → inside b (signed b u -ℤ pos m) ≡ not (ltb (top v) (top u))
+        sub-inside : m ≤ 2 ^ (b - 1) → inside b (signed b u -ℤ pos m) ≡ not (ltb (top v) (top u))
         sub-inside h = rw (less u U m) (elim (le-or-lt (2 ^ (b - 1)) u) [
           | inl g ↦
               let n : u - m ≡ v = no-carry (2 ^ b) c (u - m) v (omega arith) W in
@@ -188,3 +186,21 @@ module _ (b : ℕ) where
               ]
           | inr g ↦ rw (top-low g, le-ltb (top v) 0 (omega arith)) (inside-yes (record { up = u + 0; dn = 0 * 2 ^ b + m }) (omega arith) (omega arith))
         ])
+
+    module _ (u m : ℕ) (U : u < 2 ^ b) (h : m ≤ 2 ^ (b - 1)) where
+      -- an addition leaves the range where the top bit was clear and is set afterwards
+      pub plus-inside : inside b (signed b u +ℤ pos m) ≡ not (ltb (top u) (top (residue b (signed b u +ℤ pos m))))
+      plus-inside =
+          let W : (u + m) % 2 ^ b < 2 ^ b = mod-lt (u + m) (pow-pos b) in
+          let e : (u + m) % 2 ^ b + (u + m) / 2 ^ b * 2 ^ b ≡ u + m = mod-add-div' (u + m) (2 ^ b) in
+          rw (add-residue m ((u + m) / 2 ^ b) U W e) (add-inside m ((u + m) / 2 ^ b) U W e h)
+
+      -- a subtraction where it was set and is clear afterwards
+      pub minus-inside : inside b (signed b u -ℤ pos m) ≡ not (ltb (top (residue b (signed b u -ℤ pos m))) (top u))
+      minus-inside = elim (le-or-lt m u) [
+        | inl k ↦ by (u - m) 0 (omega arith) (omega arith)
+        | inr k ↦ by (u + 2 ^ b - m) 1 (omega arith) (omega (arith, twice))
+      ]
+        where
+          by : (v c : ℕ) → v < 2 ^ b → u + c * 2 ^ b ≡ v + m → inside b (signed b u -ℤ pos m) ≡ not (ltb (top (residue b (signed b u -ℤ pos m))) (top u))
+          by v c W e = rw (sub-residue m c U W e) (sub-inside m c U W e h)

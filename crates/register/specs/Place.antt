@@ -1,6 +1,6 @@
--- Where a finite number lies in the register. Assumes nothing.
-use mathlib.Core.Path.{_≡_, sym, ap, _∙_}
-use Prim.Native.Nat.{ℕ, _+_, _-_, _*_, _/_, _%_, _^_, _<_}
+-- Where a finite number lies in the register. Definitions only.
+use mathlib.Core.Path.{_≡_}
+use Prim.Native.Nat.{ℕ, _+_, _<_}
 use lib.Ieee.{ofBits}
 use Rattle.ieee.specs.Units.{magnitude}
 use Rattle.kinds.specs.Limits.{doubles}

@@ -15,10 +15,8 @@ shifted-requires c κs = search needs
 returns : tie.Need-returns
 returns c =
     let g = c .before .before in
-    record {
-      within = c .shifted .ensures .0;
-      units = c .shifted .ensures .1 ∙ mul-one (g .args .p % 2 ^ 63 % 2 ^ 52) ∙ sym (pattern-subnormal (doubles .format) (g .args .p) (g .pre) (c .before .if1 .taken));
-    }
+    let m = pattern-subnormal (doubles .format) (g .args .p) (g .pre) (c .before .if1 .taken) in
+    record { within = c .shifted .ensures .0; units = c .shifted .ensures .1 ∙ mul-one (g .args .p % 2 ^ 63 % 2 ^ 52) ∙ sym m }
 
 add-shifted : tie.Need-add-shifted
 add-shifted c = search needs
@@ -32,10 +30,8 @@ shifted-requires-2 c κs = search needs
 returns-2 : tie.Need-returns-2
 returns-2 c =
     let g = c .before .before in
-    record {
-      within = c .shifted2 .ensures .0;
-      units = c .shifted2 .ensures .1 ∙ sym (pattern-normal (doubles .format) (g .args .p) (g .pre) (omega (arith, c .before .if1 .left)));
-    }
+    let m = pattern-normal (doubles .format) (g .args .p) (g .pre) (omega (arith, c .before .if1 .left)) in
+    record { within = c .shifted2 .ensures .0; units = c .shifted2 .ensures .1 ∙ sym m }
 
 pub place-spec : {M : Type 1} → statement M
 place-spec =
