@@ -1,3 +1,4 @@
 -- The exact register.
 pub mod Register
 pub mod Place
+pub mod RegisterWords

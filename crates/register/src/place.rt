@@ -16,7 +16,7 @@ pub struct Pair {
 }
 
 // A pattern's sign, and the leading digit that it does not store.
-const SIGN: u64 = 0x8000_0000_0000_0000;
+pub const SIGN: u64 = 0x8000_0000_0000_0000;
 
 const LEADING: u64 = 0x0010_0000_0000_0000;
 
