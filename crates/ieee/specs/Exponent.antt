@@ -9,8 +9,7 @@ use lib.Pow.{pow-add, pow-pos}
 use lib.Ieee.{Format, prec, hid, ones, ofBits}
 use Rattle.units.specs.Rounding.{ceil}
 use Rattle.units.specs.Ceiling.{ceil-at, ceil-power}
-use Rattle.ieee.specs.Units.{patternUnits}
-use Rattle.ieee.specs.Finite.{Is}
+use Rattle.ieee.specs.Units.{Is, patternUnits}
 use Rattle.ieee.specs.Pattern.{pattern-positive}
 
 module _ (f : Format) where

@@ -12,16 +12,11 @@ use lib.Pow.{pow-add, pow-pos}
 use lib.Ieee.{Float, nan, inf, fin, Format, prec, emax, low, up, down, size, fits, toBits, ofBits, top, hid}
 use lib.Ieee.Digits.{back}
 use lib.Ieee.Fits.{down-pos, and-l, and-r}
-use lib.Ieee.Exact.{HasValue}
-use lib.Ieee.Scale.{finite}
+use lib.Ieee.Scale.{finite, overflow}
 use lib.Ieee.Bits.{ofBits-toBits}
 use Rattle.units.specs.Rounding.{Short}
 use Rattle.units.specs.Powers.{pow-le-back}
-use Rattle.ieee.specs.Units.{Number, negative, magnitude, signed, value, beyond}
-
--- x is ±n units
-abbrev pub Is : Format → Float → Bool → ℕ → Type 0
-Is f x s n = HasValue x s n (2 ^ low f)
+use Rattle.ieee.specs.Units.{Is, Number, negative, magnitude, signed, value}
 
 pub is-units : (f : Format) (x : Float) (s : Bool) (n : ℕ) → Is f x s n → (negative x ≡ s) × (magnitude f x ≡ n)
 unfolding negative magnitude
@@ -63,10 +58,10 @@ place l (negsuc a) h =
 -- ---- the facts
 pub record Facts (f : Format) (x : Float) : Type 0 where
   pub is : Is f x (negative x) (magnitude f x)
-  pub below : magnitude f x < beyond f
+  pub below : magnitude f x < overflow f
   pub short : Short (prec f) (magnitude f x)
 
-facts-at : (f : Format) (s : Bool) (m : ℕ) (e : ℤ) (n : ℕ) → m * up e * 2 ^ low f ≡ n * down e → n < beyond f → Short (prec f) n → Facts f (fin s m e)
+facts-at : (f : Format) (s : Bool) (m : ℕ) (e : ℤ) (n : ℕ) → m * up e * 2 ^ low f ≡ n * down e → n < overflow f → Short (prec f) n → Facts f (fin s m e)
 unfolding negative magnitude
 facts-at f s m e n h b c =
     let k : m * up e * 2 ^ low f / down e ≡ n = ap (λ (x : ℕ). x / down e) h ∙ mul-div-cancel n (down-pos e) in
@@ -90,12 +85,12 @@ facts f (fin s (suc m) e) X = facts-at f s (suc m) e (suc m * 2 ^ j .0) units fa
     units = mul-assoc (suc m) (up e) (2 ^ low f) ∙ ap (λ (x : ℕ). suc m * x) (j .1) ∙ sym (mul-assoc (suc m) (2 ^ j .0) (down e))
 
     -- 2 ^ (emax + 1) is `beyond` units
-    beyond-is : 2 ^ suc (emax f) * down e * 2 ^ low f ≡ beyond f * down e
+    beyond-is : 2 ^ suc (emax f) * down e * 2 ^ low f ≡ overflow f * down e
     beyond-is =
         mul-right-comm (2 ^ suc (emax f)) (down e) (2 ^ low f)
         ∙ ap (λ (x : ℕ). x * down e) (mul-comm (2 ^ suc (emax f)) (2 ^ low f) ∙ sym (pow-add 2 (low f) (suc (emax f))))
 
-    far : suc m * 2 ^ j .0 < beyond f
+    far : suc m * 2 ^ j .0 < overflow f
     far = lt-of-mul-lt-mul-right (down e) (rw (← units, ← beyond-is) (mul-lt-mul-of-pos-right (p .far) (pow-pos (low f))))
 
 -- ---- one sign and one number of units are one float

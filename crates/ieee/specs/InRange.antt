@@ -13,17 +13,11 @@ use Rattle.units.specs.Rounding.{fl}
 use Rattle.units.specs.Walk.{high}
 use Rattle.units.specs.SignedRounding.{rep-pow, fl-same, fl-within}
 use Rattle.units.specs.Integers.{int-is, int-plus, int-minus, int-mag}
-use Rattle.ieee.specs.Units.{Number, negative, whole, signOf, nearestFloat, limit}
+use Rattle.ieee.specs.Units.{Rounds, Number, negative, whole, nearestFloat, limit}
 use Rattle.ieee.specs.Rounded.{prec-pos}
 use Rattle.ieee.specs.Sum.{value-int, add-nearest, sub-nearest}
 use Rattle.ieee.specs.Overflow.{power-below, nearest-negative, nearest-whole}
 use Rattle.ieee.specs.Nearest.{nearest-number}
-
--- x is a number of the format whose units are z rounded; a zero has the sign s
-pub record Rounds (f : Format) (s : Bool) (z : Whole) (x : Float) : Type 0 where
-  pub number : Number f x
-  pub units : whole f x ≡ fl (prec f) z
-  pub sign : negative x ≡ signOf s (int z)
 
 module _ {f : Format} {x y : Float} (X : Number f x) (Y : Number f y) (k : ℕ) (K : k ≤ low f + emax f) where
   nearest : (s : Bool) (z : Whole) → Within z (2 ^ k) → Rounds f s z (nearestFloat f s (int z))

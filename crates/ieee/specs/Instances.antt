@@ -23,7 +23,7 @@ pub limit-32 : limit binary32 ≡ 2 ^ 277 - 2 ^ 252
 limit-32 = refl
 
 -- ---- the patterns of magnitude at most 2 ^ 1000, and at most 2 ^ 100 at binary32
-top-64 : patternUnits binary64 0x7E70000000000000 ≡ 2 ^ 2074
+pub top-64 : patternUnits binary64 0x7E70000000000000 ≡ 2 ^ 2074
 unfolding patternUnits
 top-64 = refl
 

@@ -6,13 +6,13 @@ use Prim.Native.Nat.{ℕ, zero, suc, _+_, _-_, _*_, _^_, _≤_, _<_}
 use native.Mathlib.Nat.{pow-succ', add-suc}
 use native.Mathlib.Omega.{arith}
 use lib.IntN.{ℤ, pos, negsuc, natAbs}
-use lib.Dec.{T, ltb, lt→ltb, lit<}
+use lib.Dec.{T, ltb, lt→ltb}
 use lib.Arith.{le→nltb}
 use lib.Pow.{pow-add, pow-mono, pow-lt}
-use lib.Ieee.{Format, binary32, binary64, prec, emax, low, round, fits}
-use lib.Ieee.Fits.{round-fits}
+use lib.Ieee.{Format, prec, emax, low, round, fits}
+use lib.Ieee.Fits.{two, reach, round-fits}
 use lib.Ieee.Bits.{is-true, is-false}
-use lib.Ieee.Scale.{finite}
+use lib.Ieee.Scale.{finite, overflow}
 use Rattle.units.specs.Whole as W
 use Rattle.units.specs.Whole.{nat, difference}
 use Rattle.units.specs.Rounding.{rnd, fl}
@@ -20,8 +20,8 @@ use Rattle.units.specs.Powers.{le-or-lt}
 use Rattle.units.specs.NaturalRounding.{rnd-zero}
 use Rattle.units.specs.SignedRounding.{fl-nat, fl-neg}
 use Rattle.units.specs.Threshold.{rnd-stays, rnd-reaches}
-use Rattle.ieee.specs.Units.{negative, magnitude, signedWhole, whole, signOf, nearestFloat, beyond, limit}
-use Rattle.ieee.specs.Finite.{Is, is-units, is-finite}
+use Rattle.ieee.specs.Units.{Is, negative, magnitude, signedWhole, whole, signOf, nearestFloat, limit}
+use Rattle.ieee.specs.Finite.{is-units, is-finite}
 use Rattle.ieee.specs.Rounded.{prec-pos, round-value, round-beyond}
 
 module _ (f : Format) where
@@ -31,32 +31,27 @@ module _ (f : Format) where
   -- 2 ^ (emax + 1) is a power of two with half a place below it
   digits : low f + suc (emax f) ≡ prec f + suc h
   unfolding h
-  digits = shape f
-    where
-      shape : (f : Format) → low f + suc (emax f) ≡ prec f + suc (low f + emax f - prec f)
-      shape binary32 = refl
-      shape binary64 = refl
+  digits = omega (arith, two f, reach f)
 
-  beyond-is : beyond f ≡ 2 ^ prec f * 2 ^ suc h
+  beyond-is : overflow f ≡ 2 ^ prec f * 2 ^ suc h
   beyond-is = ap (λ (x : ℕ). 2 ^ x) digits ∙ pow-add 2 (prec f) (suc h)
 
-  pub rnd-finite : {n : ℕ} → n < limit f → rnd (prec f) n < beyond f
+  pub rnd-finite : {n : ℕ} → n < limit f → rnd (prec f) n < overflow f
   unfolding h
   rnd-finite {n} l = rw beyond-is (rnd-stays (prec f) (prec-pos f) h n (omega (arith, beyond-is)))
 
-  pub rnd-overflows : {n : ℕ} → limit f ≤ n → beyond f ≤ rnd (prec f) n
+  pub rnd-overflows : {n : ℕ} → limit f ≤ n → overflow f ≤ rnd (prec f) n
   unfolding h
   rnd-overflows {n} l = rw beyond-is (rnd-reaches (prec f) (prec-pos f) h n (omega (arith, beyond-is)))
 
   -- 2 ^ emax is below the limit, and so is every lower power of two
   pub power-below : {k : ℕ} → k ≤ low f + emax f → 2 ^ k < limit f
-  power-below {k} l = omega (arith, pow-mono l, pow-lt (lower f), twice)
+  power-below {k} l = omega (arith, pow-mono l, pow-lt lower, twice)
     where
-      lower : (f : Format) → low f + emax f - prec f < low f + emax f
-      lower binary32 = lit< tt
-      lower binary64 = lit< tt
+      lower : low f + emax f - prec f < low f + emax f
+      lower = omega (arith, two f, reach f)
 
-      twice : beyond f ≡ 2 * 2 ^ (low f + emax f)
+      twice : overflow f ≡ 2 * 2 ^ (low f + emax f)
       twice = ap (λ (x : ℕ). 2 ^ x) (add-suc (low f) (emax f)) ∙ pow-succ' 2 (low f + emax f)
 
   module _ (z : Bool) (S : ℤ) where

@@ -13,13 +13,13 @@ use lib.Arith.{le→nltb, lt→nleb}
 use lib.Pow.{pow-pos, pow-mono}
 use lib.Ieee.{nan, inf, Format, prec, low, odd, hid, ones, top, ofFields, ofBits}
 use lib.Ieee.Fits.{eq→eqb}
-use lib.Ieee.Bits.{is-true, is-false}
+use lib.Ieee.Bits.{is-true, is-false, ofBits-fits}
 use lib.Ieee.Exact.{odd-sign}
 use lib.Ieee.Scale.{finite}
 use lib.Ieee.Nearest.{div-mono}
 use Rattle.units.specs.Powers.{le-or-lt}
-use Rattle.ieee.specs.Units.{magnitude, fieldUnits, patternUnits}
-use Rattle.ieee.specs.Finite.{Is, is-units, is-finite}
+use Rattle.ieee.specs.Units.{Is, Number, magnitude, fieldUnits, patternUnits}
+use Rattle.ieee.specs.Finite.{is-units, is-finite}
 
 module _ (f : Format) where
   hid-pos : 0 < hid f
@@ -132,3 +132,6 @@ module _ (f : Format) where
       back k =
           let l : b % top f < ones f * hid f = ltb→lt (b % top f) (ones f * hid f) (rw (pattern-finite b) at (k .0)) in
           pattern-le .1 (rw (units l) at (k .1))
+
+  pub pattern-number : (b : ℕ) → b % top f < ones f * hid f → Number f (ofBits f b)
+  pattern-number b h = record { fit = ofBits-fits f b; fini = rw (pattern-finite b) (lt→ltb (b % top f) (ones f * hid f) h) }

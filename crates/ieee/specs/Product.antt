@@ -7,11 +7,11 @@ use native.Mathlib.Nat.{mul-assoc, mul-mul-mul-comm, mul-pos}
 use lib.Pow.{pow-add, pow-pos, pow-lt}
 use lib.Ieee.{Float, nan, inf, fin, Format, prec, emax, low, up, down, unlike, round, mul}
 use lib.Ieee.Fits.{down-pos}
-use lib.Ieee.Scale.{round-same}
+use lib.Ieee.Scale.{round-same, overflow}
 use Rattle.units.specs.Rounding.{Short}
 use Rattle.units.specs.Scaling.{short-power, short-up, short-down}
-use Rattle.ieee.specs.Units.{Number, negative, magnitude, beyond}
-use Rattle.ieee.specs.Finite.{Is, facts}
+use Rattle.ieee.specs.Units.{Is, Number, negative, magnitude}
+use Rattle.ieee.specs.Finite.{facts}
 use Rattle.ieee.specs.Rounded.{round-exact}
 
 pub mul-round : (f : Format) (x y : Float) (s t : Bool) (A B : ℕ) → Is f x s A → Is f y t B → mul f x y ≡ round f (unlike s t) (A * B) (2 ^ low f * 2 ^ low f)
@@ -48,7 +48,7 @@ module _ (f : Format) (x y : Float) (s t : Bool) (A B Z : ℕ) (p : Is f x s A) 
       mul-round f x y s t A B p q
       ∙ round-same f (unlike s t) (A * B) (l * l) Z l (mul-pos (pow-pos (low f)) (pow-pos (low f))) (pow-pos (low f)) (rw e (mul-assoc Z l l))
 
-  pub mul-exact : Short (prec f) Z → Z < beyond f → Is f (mul f x y) (unlike s t) Z
+  pub mul-exact : Short (prec f) Z → Z < overflow f → Is f (mul f x y) (unlike s t) Z
   mul-exact c l = rw mul-whole (round-exact f (unlike s t) Z c l)
 
 -- ---- powers of two: 2 ^ j units times A units
@@ -58,17 +58,17 @@ unlike-false false = refl
 unlike-false true = refl
 
 module _ (f : Format) (x y : Float) (s : Bool) where
-  pub mul-power : (A j Z : ℕ) → Is f x s A → Short (prec f) A → Is f y false (2 ^ j) → A * 2 ^ j ≡ Z * 2 ^ low f → Z < beyond f → Is f (mul f x y) s Z
+  pub mul-power : (A j Z : ℕ) → Is f x s A → Short (prec f) A → Is f y false (2 ^ j) → A * 2 ^ j ≡ Z * 2 ^ low f → Z < overflow f → Is f (mul f x y) s Z
   mul-power A j Z p c q e l =
       let d : Short (prec f) (Z * 2 ^ low f) = rw e at (short-up (prec f) j c) in
       rw (unlike-false s) at (mul-exact f x y s false A (2 ^ j) Z p q e (short-down (prec f) (low f) d) l)
 
   -- times 2 ^ i
-  pub mul-up : (A i j : ℕ) → j ≡ i + low f → Is f x s A → Short (prec f) A → Is f y false (2 ^ j) → A * 2 ^ i < beyond f → Is f (mul f x y) s (A * 2 ^ i)
+  pub mul-up : (A i j : ℕ) → j ≡ i + low f → Is f x s A → Short (prec f) A → Is f y false (2 ^ j) → A * 2 ^ i < overflow f → Is f (mul f x y) s (A * 2 ^ i)
   mul-up A i j e p c q l = mul-power A j (A * 2 ^ i) p c q (rw (e, pow-add 2 i (low f)) (sym (mul-assoc A (2 ^ i) (2 ^ low f)))) l
 
   -- divided by 2 ^ i
-  pub mul-down : (Z i j : ℕ) → i + j ≡ low f → Is f x s (Z * 2 ^ i) → Short (prec f) (Z * 2 ^ i) → Is f y false (2 ^ j) → Z < beyond f → Is f (mul f x y) s Z
+  pub mul-down : (Z i j : ℕ) → i + j ≡ low f → Is f x s (Z * 2 ^ i) → Short (prec f) (Z * 2 ^ i) → Is f y false (2 ^ j) → Z < overflow f → Is f (mul f x y) s Z
   mul-down Z i j e p c q l = mul-power (Z * 2 ^ i) j Z p c q (rw (← e, pow-add 2 i j) (mul-assoc Z (2 ^ i) (2 ^ j))) l
 
 pub mul-powers : (f : Format) (x y : Float) (a b c : ℕ) → a + b ≡ c + low f → Is f x false (2 ^ a) → Is f y false (2 ^ b) → c < low f + suc (emax f)

@@ -29,6 +29,14 @@ pub value-int : (f : Format) (x : Float) → value f x ≡ int (whole f x)
 unfolding value whole
 value-int f x = signed-int (negative x) (magnitude f x)
 
+pub whole-mag : (f : Format) (x : Float) → W.mag (whole f x) ≡ magnitude f x
+unfolding whole
+whole-mag f x = of (negative x)
+  where
+    of : (s : Bool) → W.mag (signedWhole s (magnitude f x)) ≡ magnitude f x
+    of false = omega arith
+    of true = omega arith
+
 -- ---- negation
 pub neg-negative : (x : Float) → T (finite x) → negative (neg x) ≡ not (negative x)
 unfolding negative neg

@@ -1,14 +1,16 @@
 -- A finite float as a whole number of units, and the float nearest to a whole number of units. Definitions only.
 -- A unit is 2 ^ -low, the format's smallest positive value: 2 ^ -1074 at binary64, 2 ^ -149 at binary32.
+use mathlib.Core.Path.{_≡_}
 use mathlib.Core.Bool.{Bool, true, false, cond}
 use Prim.Native.Nat.{ℕ, zero, suc, _+_, _-_, _*_, _/_, _%_, _^_}
 use lib.IntN.{ℤ, pos, negsuc, negℤ, natAbs}
 use lib.Dec.{T}
 use lib.Ieee.{Float, nan, inf, fin, Format, prec, emax, low, up, down, round, hid, top, fits}
 use lib.Ieee.Nearest.{closest}
-use lib.Ieee.Scale.{finite}
-use Rattle.units.specs.Rounding.{dropped}
-use Rattle.units.specs.Whole.{Whole, nat, neg}
+use lib.Ieee.Exact.{HasValue}
+use lib.Ieee.Scale.{finite, overflow}
+use Rattle.units.specs.Rounding.{dropped, fl}
+use Rattle.units.specs.Whole.{Whole, nat, neg, int}
 
 -- x is a number of the format f: held by it, no NaN and no infinity
 pub record Number (f : Format) (x : Float) : Type 0 where
@@ -54,21 +56,30 @@ unfoldable pub nearestFloat : Format → Bool → ℤ → Float
 unfolding round
 nearestFloat f z S = round f (signOf z S) (natAbs S) (2 ^ low f)
 
--- 2 ^ (emax + 1) in units, which no finite float reaches, and the least number of units whose nearest float is an infinity
-abbrev pub beyond : Format → ℕ
-beyond f = 2 ^ (low f + suc (emax f))
-
+-- the least number of units whose nearest float is an infinity: half a place below `overflow`, which is 2 ^ (emax + 1) in units
 abbrev pub limit : Format → ℕ
-limit f = beyond f - 2 ^ (low f + emax f - prec f)
+limit f = overflow f - 2 ^ (low f + emax f - prec f)
+
+-- ---- statements about one float
+
+-- x is ±n units
+abbrev pub Is : Format → Float → Bool → ℕ → Type 0
+Is f x s n = HasValue x s n (2 ^ low f)
+
+-- x is a number of the format whose units are z rounded; a zero has the sign s
+pub record Rounds (f : Format) (s : Bool) (z : Whole) (x : Float) : Type 0 where
+  pub number : Number f x
+  pub units : whole f x ≡ fl (prec f) z
+  pub sign : negative x ≡ signOf s (int z)
 
 -- ---- bit patterns. r is a pattern without its sign, `b % top f`
 -- the units that an exponent's field x and the digits t below the leading one stand for: a field of 0 has no leading digit, and counts as a field of 1
 abbrev pub fieldUnits : Format → ℕ → ℕ → ℕ
 fieldUnits f zero t = t
-fieldUnits f (suc x) t = (2 ^ (prec f - 1) + t) * 2 ^ x
+fieldUnits f (suc x) t = (hid f + t) * 2 ^ x
 
 unfoldable pub patternUnits : Format → ℕ → ℕ
-patternUnits f r = fieldUnits f (r / 2 ^ (prec f - 1)) (r % 2 ^ (prec f - 1))
+patternUnits f r = fieldUnits f (r / hid f) (r % hid f)
 
 -- the pattern of ±n units, rounded: the digits dropped, times the weight of the exponent's field, plus the rounded quotient
 abbrev pub roundedBits : Format → Bool → ℕ → ℕ

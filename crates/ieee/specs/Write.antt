@@ -11,11 +11,12 @@ use lib.Ieee.{Float, Format, prec, low, hid, top, round, toBits, ofBits}
 use lib.Ieee.Fits.{round-fits}
 use lib.Ieee.Bits.{ofBits-toBits}
 use lib.Ieee.Nearest.{closest}
+use lib.Ieee.Scale.{overflow}
 use Rattle.units.specs.Rounding.{dropped, rnd}
 use Rattle.units.specs.Powers.{pow-pred}
 use Rattle.units.specs.NaturalRounding.{dropped-le, dropped-ge, rnd-is, rnd-kept, reach}
-use Rattle.ieee.specs.Units.{negative, magnitude, beyond, roundedBits}
-use Rattle.ieee.specs.Finite.{Is, is-units, is-finite, bits-are}
+use Rattle.ieee.specs.Units.{Is, negative, magnitude, roundedBits}
+use Rattle.ieee.specs.Finite.{is-units, is-finite, bits-are}
 use Rattle.ieee.specs.Rounded.{round-value, prec-pos}
 
 -- the exponent's field and the digits of the magnitude m at p bits, in one number
@@ -58,7 +59,7 @@ module _ (p : ℕ) (P : 0 < p) where
           next : 2 ^ p * 2 ^ suc k ≤ 2 * rnd p n
           next = rw (pow-succ' 2 k) (omega (arith, exact))
 
-pub round-bits : (f : Format) (s : Bool) (n : ℕ) → rnd (prec f) n < beyond f → toBits f (round f s n (2 ^ low f)) ≡ roundedBits f s n
+pub round-bits : (f : Format) (s : Bool) (n : ℕ) → rnd (prec f) n < overflow f → toBits f (round f s n (2 ^ low f)) ≡ roundedBits f s n
 unfolding dropped
 round-bits f s n h =
     rw (bits-are f x (is-finite f x s m is), u .0, u .1, add-assoc (cond s (top f) 0) (dropped (prec f) m * hid f) (m / 2 ^ dropped (prec f) m))
@@ -77,5 +78,5 @@ round-bits f s n h =
     u = is-units f x s m is
 
 -- and back: the pattern is read as the rounded float
-pub bits-round : (f : Format) (s : Bool) (n : ℕ) → rnd (prec f) n < beyond f → ofBits f (roundedBits f s n) ≡ round f s n (2 ^ low f)
+pub bits-round : (f : Format) (s : Bool) (n : ℕ) → rnd (prec f) n < overflow f → ofBits f (roundedBits f s n) ≡ round f s n (2 ^ low f)
 bits-round f s n h = rw (← (round-bits f s n h)) (ofBits-toBits f (round f s n (2 ^ low f)) (round-fits f s n (2 ^ low f)))

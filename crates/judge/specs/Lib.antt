@@ -1,2 +1,6 @@
--- The fault of one pattern, and the first refusal of a list.
+-- The fault of one pattern, and the first refusal of a list. Definitions first, then laws.
 pub mod Judge
+pub mod Table
+pub mod FaultLaws
+pub mod FirstFaultLaws
+pub mod JudgeLaws

@@ -1,1 +1,73 @@
 // Which lists are allowed: the fault of one pattern, the first refusal of a list, and the copy of an allowed list as floats.
+use kinds::Doubles;
+use kinds::Verdict;
+ghost use mathlib.Core.Path.{_≡_};
+ghost use Prim.Native.Nat.{_≤_};
+ghost use lib.ListN.{length};
+ghost use Rattle.kinds.specs.Limits.{doubles};
+ghost use Rattle.kinds.specs.declared.Verdict.the-variants.{Good};
+ghost use Rattle.judge.specs.Judge.{faultOf, firstFault, judged, floats};
+
+// What the sign adds to a pattern. Patterns without it are in the order of their magnitudes.
+const SIGN: u64 = 0x8000_0000_0000_0000;
+
+// The pattern of the infinity. From it on, a pattern without its sign stands for no number.
+const INFINITY: u64 = 0x7FF0_0000_0000_0000;
+
+// The number of a pattern's fault, 0 for none: 2 "a NaN or infinity", 3 "a finite number of magnitude above 2^1000".
+pub fn fault(p: u64) -> u32
+    ensures { λ r. ⌜ r ≡ faultOf doubles p ⌝ }
+{
+    let magnitude = p % SIGN;
+    if INFINITY <= magnitude {
+        return 2;
+    }
+    if Doubles::MAGNITUDE < magnitude {
+        return 3;
+    }
+    0
+}
+
+// "the lowest bad place with its own fault". The bound on the length, which `judge` tests, is there because a place is told in 32 bits.
+fn first_fault(list: &[u64]) -> Verdict
+    requires { ⌜ length (now list) ≤ doubles .length ⌝ }
+    ensures { λ r. ⌜ r ≡ firstFault doubles (now (list .entry)) 0 ⌝ }
+{
+    let mut place = 0;
+    while place < list.len() {
+        let k = fault(list[place]);
+        if k != 0 {
+            return Verdict::Refused(k, place as u32);
+        }
+        place += 1;
+    }
+    Verdict::Good
+}
+
+// "Order on a list: 1, 4, 5, then the lowest bad place with its own fault (2 or 3)."
+pub fn judge(list: &[u64], area: bool, parts: bool) -> Verdict
+    ensures { λ r. ⌜ r ≡ judged doubles area parts (now (list .entry)) ⌝ }
+{
+    if Doubles::LENGTH < list.len() {
+        return Verdict::Refused(1, 0);
+    }
+    if !area {
+        return Verdict::Refused(4, 0);
+    }
+    if !parts {
+        return Verdict::Refused(5, 0);
+    }
+    first_fault(list)
+}
+
+// The list as floats. Of an allowed list only, since `from_bits` asks for a pattern that is no NaN's, and to an area of the same length.
+pub fn copy(list: &[u64], work: &mut [f64])
+    requires { ⌜ (length (now work) ≡ length (now list)) × (firstFault doubles (now list) 0 ≡ Good) ⌝ }
+    ensures { λ _. ⌜ now (work .exit) ≡ floats doubles (now (list .entry)) ⌝ }
+{
+    let mut i = 0;
+    while i < list.len() {
+        work[i] = f64::from_bits(list[i]);
+        i += 1;
+    }
+}

@@ -1,2 +1,5 @@
--- The sums of a list.
+-- The sums of a list. Definitions first, then laws.
 pub mod Sums
+pub mod NonOverlapping
+pub mod FirstPlace
+pub mod PartsLaws

@@ -38,10 +38,9 @@ unfoldable pub parts : Format → ℕ → Bool → ℤ → List Float
 parts f zero z S = []
 parts f (suc k) z S = nearestFloat f z S ∷ parts f k false (S -ℤ value f (nearestFloat f z S))
 
--- what the k parts leave of S
-unfoldable pub leftOver : Format → ℕ → ℤ → ℤ
-leftOver f zero S = S
-leftOver f (suc k) S = leftOver f k (S -ℤ value f (nearestFloat f false S))
+-- "The answer also says whether the parts add up to S."
+abbrev pub addUp : Format → List Float → ℤ → Bool
+addUp f xs S = eqb (natAbs (S -ℤ exactSum (map (value f) xs))) 0
 
 -- the answer, and the parts slice afterwards
 pub record Split : Type 0 where
@@ -49,10 +48,10 @@ pub record Split : Type 0 where
   pub area : List Float
 
 unfoldable pub partsAfter : Verdict → List ℕ → List Float → Split
-partsAfter verdicts.Good ps area = record {
-  answer = parteds.Parts (eqb (natAbs (leftOver (doubles .format) (length area) (sumOf (doubles .format) ps))) 0);
-  area = parts (doubles .format) (length area) (zeroSign ps) (sumOf (doubles .format) ps);
-}
+partsAfter verdicts.Good ps area =
+    let S = sumOf (doubles .format) ps in
+    let xs = parts (doubles .format) (length area) (zeroSign ps) S in
+    record { answer = parteds.Parts (addUp (doubles .format) xs S); area = xs }
 partsAfter (verdicts.Refused k p) ps area = record { answer = parteds.Refused k p; area = area }
 
 abbrev pub partsOf : List ℕ → List Float → Split

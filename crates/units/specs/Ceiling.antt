@@ -1,5 +1,6 @@
--- The least power of two at or above a natural number, by its exponent. Assumes nothing.
+-- How many digits a natural number has, and the exponent of the least power of two at or above it. Assumes nothing.
 use mathlib.Core.Path.{_≡_, ap}
+use mathlib.Core.Logic.{inl, inr}
 use Prim.Native.Nat.{ℕ, suc, _+_, _-_, _^_, _≤_, _<_}
 use native.Mathlib.Nat.{le-refl, le-trans, le-antisymm, lt-of-not-le, not-le-of-lt}
 use native.Mathlib.Omega.{arith}
@@ -7,7 +8,11 @@ use lib.Pow.{pow-pos, pow-mono}
 use lib.Ieee.{size}
 use lib.Ieee.Digits.{size-lt, size-le}
 use Rattle.units.specs.Rounding.{ceil}
-use Rattle.units.specs.Powers.{pow-le-back}
+use Rattle.units.specs.Powers.{le-or-lt, pow-le-back}
+
+-- a number that reaches 2 ^ j has more than j digits, so one above 0 has some
+pub size-gt : (n j : ℕ) → 2 ^ j ≤ n → j < size n
+size-gt n j h = elim (le-or-lt (size n) j) [ inl l ↦ absurd (omega (arith, size-lt n, pow-mono l)) | inr l ↦ l ]
 
 pub ceil-ge : (n : ℕ) → n ≤ 2 ^ ceil n
 unfolding ceil

@@ -6,7 +6,7 @@ use mathlib.Core.List.{List, [], _∷_}
 use Prim.Native.Nat.{ℕ, suc, _+_, _-_, _*_, _^_, _≤_, _<_}
 use native.Mathlib.Nat.{mul-le-mul-right}
 use native.Mathlib.Omega.{arith}
-use lib.Pow.{pow-add, pow-pos, pow-mono}
+use lib.Pow.{pow-add, pow-mono}
 use Rattle.units.specs.Whole.{Whole, nat, _⊕_, _⊖_, _⊗_, _≈_, Within, Under, mag, total, All}
 use Rattle.units.specs.Rounding.{fl, Representable}
 use Rattle.units.specs.Faithful.{Faithful}
@@ -14,6 +14,7 @@ use Rattle.units.specs.Walk.{summed, tau2, answer, enough, Ready, Left, 
 use Rattle.units.specs.Powers.{le-or-lt, cover}
 use Rattle.units.specs.Multiples.{multiple-add, multiple-finer, multiple-zero}
 use Rattle.units.specs.SignedRounding.{rep-same, rep-neg, rep-zero, fl-same, fl-exact, fl-below, fl-above, fl-rep, fl-multiple, fl-zero}
+use Rattle.units.specs.Turns.{tau-under}
 use Rattle.units.specs.TwoSum.{two-sum}
 use Rattle.units.specs.FaithfulLaws.{faithful-same, fl-faithful}
 use Rattle.units.specs.RemainderSum.{summed-near, summed-zero, total-zero}
@@ -37,7 +38,11 @@ module _ (p M n : ℕ) (two : 2 ≤ M) (fit : M + M < p) (few : n + 2 ≤ 2 ^ M)
 
   module _ {e : ℕ} {S t tau : Whole} {xs : List Whole} (C : Closed p M n e S t tau xs) where
     under : Under tau (2 ^ p * 2 ^ (M + e - p))
-    under = omega (arith, C .tau-is .small, pow-add 2 M e, mul-le-mul-right (2 ^ e) few, pow-pos e, cover p (M + e))
+    under = omega (arith, tau-under (C .tau-is) (omega arith), cover p (M + e))
+
+    -- t + tau is S less what is left
+    pub close-bound : (c d : ℕ) → Within S c → Within (total xs) d → Within (t ⊕ tau) (c + d)
+    close-bound c d h k = omega (arith, C .sum)
 
     pub tau2-exact : tau2 p t tau ≈ t ⊕ tau ⊖ fl p (t ⊕ tau)
     tau2-exact = two-sum p P (M + e - p) (C .rep) (C .tau-is .rep) (C .on) (C .tau-is .on) under

@@ -1,5 +1,5 @@
 -- How far apart numbers of p bits are, and differences that are exact: the gap between two, Sterbenz's lemma, and that the error of a rounded sum has
--- p bits. Document 000's Lemma 2.2 and (2.4) in whole units, without pred, succ and the underflow range. Assumes nothing.
+-- p bits. Document 000's (2.22), (2.23) and (2.4) in whole units, without pred, succ and the underflow range. Assumes nothing.
 use mathlib.Core.Logic.{inl, inr}
 use Prim.Native.Nat.{ℕ, suc, _*_, _^_, _≤_, _<_}
 use native.Mathlib.Nat.{le-of-lt, mul-le-mul-left}

@@ -1,5 +1,5 @@
 -- ExtractScalar: the high part q = fl(fl(sigma + x) - sigma) and the remainder fl(x - q) of a number, for sigma = 2 ^ (M + e) and |x| ≤ 2 ^ e. Document
--- 000's Lemma 3.2. Both subtractions are exact, with no case for small sigma. Assumes nothing.
+-- 000's Lemma 3.2. Both subtractions are exact, also where sigma is small. Assumes nothing.
 use mathlib.Core.Path.{_≡_}
 use mathlib.Core.Logic.{_⊎_, inl, inr}
 use Prim.Native.Nat.{ℕ, suc, _+_, _-_, _*_, _^_, _≤_, _<_}

@@ -6,7 +6,7 @@ use Prim.Native.Nat.{ℕ, suc, _+_, _-_, _*_, _/_, _%_, _^_, _≤_, _<_}
 use native.Mathlib.Nat.{mul-le-mul-left, div-add-mod', mod-lt, div-lt-iff-lt-mul, eq-zero-or-pos}
 use native.Mathlib.Omega.{arith}
 use lib.Pow.{pow-pos}
-use Rattle.units.specs.Whole.{Whole, nat, _⊕_, _⊖_, neg, _≈_, _≺_, Within, mag}
+use Rattle.units.specs.Whole.{Whole, nat, _⊕_, _⊖_, neg, _≈_, _≺_, Within, Under, mag}
 use Rattle.units.specs.Rounding.{dropped, fl, Representable}
 use Rattle.units.specs.Faithful.{Faithful, Neighbours}
 use Rattle.units.specs.Powers.{le-or-lt}
@@ -54,6 +54,16 @@ equal-or-neighbours {p} {f} {g} F G = elim (le-or-lt (g .up + f .dn) (f .up + g 
 -- up to 2 ^ p in magnitude every whole number has p bits
 pub faithful-small : {p : ℕ} {f s : Whole} → Faithful p f s → Within s (2 ^ p) → f ≈ s
 faithful-small {s = s} F h = faithful-exact F (record { exp = 0; on = multiple-one s; small = omega arith })
+
+-- and so below 2 ^ p every neighbour is one unit away
+pub faithful-small-result : {p : ℕ} {f s : Whole} → Faithful p f s → Under f (2 ^ p) → f ≈ s
+faithful-small-result {p} {f} {s} F h = omega (arith, F .above (f ⊕ nat 1) above (omega arith), F .below (f ⊖ nat 1) below (omega arith))
+  where
+    above : Representable p (f ⊕ nat 1)
+    above = record { exp = 0; on = multiple-one (f ⊕ nat 1); small = omega arith }
+
+    below : Representable p (f ⊖ nat 1)
+    below = record { exp = 0; on = multiple-one (f ⊖ nat 1); small = omega arith }
 
 pub faithful-zero : {p : ℕ} {f s : Whole} → Faithful p f s → s ≈ nat 0 → f ≈ nat 0
 faithful-zero {p} F z = omega (arith, faithful-exact F (rep-same (omega arith) (rep-zero p)))

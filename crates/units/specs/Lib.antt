@@ -22,3 +22,4 @@ pub mod Closing
 pub mod WalkLaws
 pub mod Integers
 pub mod ExactSum
+pub mod AnyOrder

@@ -4,7 +4,7 @@ use mathlib.Core.Path.{_≡_, refl, sym, ap, _∙_}
 use mathlib.Core.Logic.{_⊎_, inl, inr}
 use mathlib.Core.Bool.{not}
 use Prim.Native.Nat.{ℕ, suc, _+_, _-_, _*_, _/_, _%_, _^_, _≤_, _<_, compare, Ordering, Ordering·lt, Ordering·eq, Ordering·gt}
-use native.Mathlib.Nat.{le-trans, le-of-eq, lt-of-lt-of-le, eq-or-lt-of-le, eq-zero-or-pos, mul-le-mul-left, mul-le-mul-right, div-add-mod', mod-lt, mul-assoc}
+use native.Mathlib.Nat.{le-of-eq, lt-of-lt-of-le, eq-or-lt-of-le, eq-zero-or-pos, mul-le-mul-left, mul-le-mul-right, div-add-mod', mod-lt, mul-assoc}
 use native.Mathlib.Omega.{arith}
 use lib.Dec.{T, isLe, isEq, leb→le, nleb→lt, eqb→eq, eqb-refl}
 use lib.Arith.{lt-of-le-ne}
@@ -13,7 +13,7 @@ use lib.Ieee.{size, nearest}
 use lib.Ieee.Digits.{size-lt, size-le, size-reaches}
 use lib.Ieee.Nearest.{closest}
 use Rattle.units.specs.Rounding.{dropped, rnd, Short}
-use Rattle.units.specs.Powers.{le-or-lt, pow-split, pow-pred, twice-le}
+use Rattle.units.specs.Powers.{le-or-lt, pow-split, pow-pred, twice-le, cover}
 
 -- |a - b| ≤ c
 abbrev pub Off : ℕ → ℕ → ℕ → Type 0
@@ -57,10 +57,7 @@ closest-best a b m c B h = go (closest a b) (closest-half a b B) (le-or-lt m (cl
 module _ (p n : ℕ) where
   pub dropped-lt : n < 2 ^ p * 2 ^ dropped p n
   unfolding dropped
-  dropped-lt = lt-of-lt-of-le (size-lt n) (le-trans (pow-mono (fits (size n))) (le-of-eq (pow-add 2 p (size n - p))))
-    where
-      fits : (z : ℕ) → z ≤ p + (z - p)
-      fits z = omega arith
+  dropped-lt = lt-of-lt-of-le (size-lt n) (cover p (size n))
 
   pub dropped-reaches : {j : ℕ} → j < dropped p n → 2 ^ p * 2 ^ j ≤ n
   unfolding dropped
@@ -76,6 +73,21 @@ module _ (p n : ℕ) where
     where
       clash : dropped p n < j → ⊥
       clash l = omega (arith, dropped-lt, mul-le-mul-left (2 ^ p) (twice-le l))
+
+  -- where digits are dropped, n reaches the power of two at which they are
+  pub dropped-half : 0 < dropped p n → 2 ^ p * 2 ^ dropped p n ≤ 2 * n
+  dropped-half h = omega (arith, dropped-reaches last, ap (λ (x : ℕ). 2 ^ p * x) (pow-pred h))
+    where
+      last : dropped p n - 1 < dropped p n
+      last = omega arith
+
+module _ {p : ℕ} (P : 0 < p) (k : ℕ) where
+  pub half-power : 2 * (2 ^ (p - 1) * 2 ^ k) ≡ 2 ^ p * 2 ^ k
+  half-power = sym (mul-assoc 2 (2 ^ (p - 1)) (2 ^ k)) ∙ ap (λ (x : ℕ). x * 2 ^ k) (pow-pred P)
+
+-- a number of p bits with a lower last place than 2 ^ k is at most that power
+pub short-low : {p f k : ℕ} (F : Short p f) → F .exp < k → 2 * f ≤ 2 ^ p * 2 ^ k
+short-low {p} F l = omega (arith, F .is, mul-le-mul-right (2 ^ F .exp) (F .small), mul-le-mul-left (2 ^ p) (twice-le l))
 
 -- ---- the rounding
 
@@ -124,19 +136,7 @@ module _ (p n : ℕ) where
       go : (k ≤ F .exp) ⊎ (F .exp < k) → Off c (rnd p n) n
       go (inl l) = rnd-grid (F .sig * 2 ^ (F .exp - k)) c (rw (mul-assoc (F .sig) (2 ^ (F .exp - k)) (2 ^ k), pow-split l, ← (F .is)) h)
       -- otherwise f is at most the power of two that n reaches, which is a multiple of the last place
-      go (inr l) = rnd-grid (2 ^ (p - 1)) c (omega (arith, top, reached, below))
-        where
-          top : 2 * (2 ^ (p - 1) * 2 ^ k) ≡ 2 ^ p * 2 ^ k
-          top = sym (mul-assoc 2 (2 ^ (p - 1)) (2 ^ k)) ∙ ap (λ (x : ℕ). x * 2 ^ k) (pow-pred P)
-
-          last : k - 1 < k
-          last = omega arith
-
-          reached : 2 ^ p * 2 ^ k ≤ 2 * n
-          reached = omega (arith, dropped-reaches p n last, ap (λ (x : ℕ). 2 ^ p * x) (pow-pred {p = k} (omega arith)))
-
-          below : 2 * f ≤ 2 ^ p * 2 ^ k
-          below = omega (arith, F .is, mul-le-mul-right (2 ^ F .exp) (F .small), mul-le-mul-left (2 ^ p) (twice-le l))
+      go (inr l) = rnd-grid (2 ^ (p - 1)) c (omega (arith, half-power P k, dropped-half p n (omega arith), short-low F l))
 
 module _ (p : ℕ) (P : 0 < p) where
   pub exact : {n : ℕ} → Short p n → rnd p n ≡ n
@@ -155,9 +155,6 @@ module _ (p : ℕ) (P : 0 < p) where
       cross : rnd p b < rnd p a → Off ((rnd p b - a) + (a - rnd p b)) (rnd p a) a → Off ((rnd p a - b) + (b - rnd p a)) (rnd p b) b → a ≡ b
       cross l x y = omega arith
 
-  pub below : {n f : ℕ} → Short p f → n ≤ f → rnd p n ≤ f
-  below F h = rw (exact F) at (mono h)
-
   pub above : {n f : ℕ} → Short p f → f ≤ n → f ≤ rnd p n
   above F h = rw (exact F) at (mono h)
 
@@ -173,22 +170,16 @@ module _ (p : ℕ) (P : 0 < p) where
 
   -- where digits are dropped, n and its rounding reach the last power of two at which they are
   pub reach : (n : ℕ) → 0 < dropped p n → (2 ^ p * 2 ^ dropped p n ≤ 2 * n) × (2 ^ p * 2 ^ dropped p n ≤ 2 * rnd p n)
-  reach n h = (omega (arith, e, r), omega (arith, e, above F r))
+  reach n h = (r, omega (arith, half-power P k, above {n = n} F (omega (arith, half-power P k, r))))
     where
       k : ℕ
       k = dropped p n
 
-      last : k - 1 < k
-      last = omega arith
+      r : 2 ^ p * 2 ^ k ≤ 2 * n
+      r = dropped-half p n h
 
-      e : 2 ^ p * (2 * 2 ^ (k - 1)) ≡ 2 ^ p * 2 ^ k
-      e = ap (λ (x : ℕ). 2 ^ p * x) (pow-pred h)
-
-      r : 2 ^ p * 2 ^ (k - 1) ≤ n
-      r = dropped-reaches p n last
-
-      F : Short p (2 ^ p * 2 ^ (k - 1))
-      F = record { exp = k - 1; sig = 2 ^ p; is = refl; small = omega arith }
+      F : Short p (2 ^ (p - 1) * 2 ^ k)
+      F = record { exp = k; sig = 2 ^ (p - 1); is = refl; small = omega (arith, pow-pred P) }
 
   pub rnd-whole : {n : ℕ} → dropped p n ≡ 0 → rnd p n ≡ n
   rnd-whole {n} e = let h : Off (2 ^ 0) (2 * rnd p n) (2 * n) = rw e at (rnd-half p n) in omega arith

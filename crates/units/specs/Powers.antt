@@ -2,7 +2,7 @@
 use mathlib.Core.Path.{_≡_, sym, ap, _∙_}
 use mathlib.Core.Logic.{_⊎_, inl, inr}
 use Prim.Native.Nat.{ℕ, _+_, _-_, _*_, _^_, _≤_, _<_}
-use native.Mathlib.Nat.{le-trans, le-of-eq, lt-of-not-le, not-le-of-lt}
+use native.Mathlib.Nat.{sub-add-cancel, le-trans, le-of-eq, lt-of-not-le, not-le-of-lt}
 use native.Mathlib.Omega.{arith}
 use native.Mathlib.Decide.{decLe}
 use lib.Pow.{pow-add, pow-mono, pow-lt}
@@ -12,10 +12,7 @@ le-or-lt a b = elim (decLe a b) [ yes h ↦ inl h | no h ↦ inr (lt-of-not-le h
 
 -- a larger power of two is a multiple of a smaller one
 pub pow-split : {i j : ℕ} → i ≤ j → 2 ^ (j - i) * 2 ^ i ≡ 2 ^ j
-pow-split {i} {j} h = sym (pow-add 2 (j - i) i) ∙ ap (λ (x : ℕ). 2 ^ x) (back i j h)
-  where
-    back : (i j : ℕ) → i ≤ j → j - i + i ≡ j
-    back i j h = omega arith
+pow-split {i} {j} h = sym (pow-add 2 (j - i) i) ∙ ap (λ (x : ℕ). 2 ^ x) (sub-add-cancel h)
 
 -- 2 ^ p is twice the power below
 pub pow-pred : {p : ℕ} → 0 < p → 2 * 2 ^ (p - 1) ≡ 2 ^ p

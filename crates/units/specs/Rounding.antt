@@ -1,7 +1,7 @@
 -- Rounding to p significant bits: to the nearest, a tie to the even significand. Definitions only.
 -- A finite float is a whole number of its format's smallest value, so every sum of floats is rounded by `fl` at p = 53 or p = 24, and no sum underflows.
 use mathlib.Core.Path.{_≡_}
-use Prim.Native.Nat.{ℕ, _-_, _*_, _^_, _≤_}
+use Prim.Native.Nat.{ℕ, zero, suc, _-_, _*_, _^_, _≤_}
 use lib.Ieee.{size}
 use lib.Ieee.Nearest.{closest}
 use Rattle.units.specs.Whole.{Whole, Within, Multiple}
@@ -9,6 +9,11 @@ use Rattle.units.specs.Whole.{Whole, Within, Multiple}
 -- the exponent of the least power of two at or above n; of 0 as of 1 it is 0
 unfoldable pub ceil : ℕ → ℕ
 ceil n = size (n - 1)
+
+-- the unit in the first place: the largest power of two that is at most n, and 0 of 0. Document 000's ufp
+unfoldable pub ufp : ℕ → ℕ
+ufp zero = 0
+ufp (suc n) = 2 ^ (size (suc n) - 1)
 
 -- how many low digits of n a significand of p bits has no room for; the last place that is kept stands for 2 ^ dropped
 unfoldable pub dropped : ℕ → ℕ → ℕ

@@ -11,6 +11,7 @@ use lib.Ieee.Nearest.{closest, closest-same}
 use Rattle.units.specs.Whole.{Whole, _⊗_}
 use Rattle.units.specs.Rounding.{dropped, rnd, fl, Short}
 use Rattle.units.specs.Powers.{le-or-lt, pow-split}
+use Rattle.units.specs.Ceiling.{size-gt}
 use Rattle.units.specs.NaturalRounding.{exact, rnd-is}
 
 module _ (p : ℕ) where
@@ -52,7 +53,7 @@ size-scale n j N = le-antisymm (size-le (n * 2 ^ j) (size n + j) (shl-lt (size n
 ])
   where
     some : 0 < size n
-    some = elim (le-or-lt (size n) 0) [ inl l ↦ absurd (omega (arith, size-lt n, pow-mono l)) | inr l ↦ l ]
+    some = size-gt n 0 (omega arith)
 
     last : size n - 1 < size n
     last = omega (arith, some)

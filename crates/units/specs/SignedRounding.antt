@@ -6,7 +6,7 @@ use Prim.Native.Nat.{ℕ, _+_, _-_, _*_, _^_, _≤_, _<_}
 use native.Mathlib.Nat.{mul-le-mul-right, le-of-mul-le-mul-right, mul-sub, eq-of-mul-eq-mul-left}
 use native.Mathlib.Omega.{arith}
 use lib.Pow.{pow-pos}
-use Rattle.units.specs.Whole.{Whole, nat, _⊖_, neg, _⊗_, _≈_, _≼_, Within, Multiple}
+use Rattle.units.specs.Whole.{Whole, nat, _⊖_, neg, _⊗_, _≈_, _≼_, mag, Within, Multiple}
 use Rattle.units.specs.Rounding.{rnd, fl, Short, Representable}
 use Rattle.units.specs.Powers.{le-or-lt}
 use Rattle.units.specs.Multiples.{multiple-neg, multiple-same, multiple-one, multiple-pow}
@@ -171,6 +171,14 @@ module _ (p : ℕ) (P : 0 < p) where
   fl-zero z h =
       let r = fl-relative-result z 0 (omega arith) in
       omega (arith, eq-of-mul-eq-mul-left (2 ^ p) (pow-pos p) (fl p z .up + z .dn) (fl p z .dn + z .up) (omega (arith, r)))
+
+  -- the magnitude is the magnitude, rounded
+  pub fl-mag : (z : Whole) → mag (fl p z) ≡ rnd p (mag z)
+  fl-mag z = go (side z)
+    where
+      go : Side z → mag (fl p z) ≡ rnd p (mag z)
+      go (plus n e u d) = let m : mag z ≡ n = omega arith in rw m (omega arith)
+      go (minus n e u d) = let m : mag z ≡ n = omega arith in rw m (omega arith)
 
   -- a bound of p bits on the number bounds the rounding
   pub fl-within : (z : Whole) {c : ℕ} → Representable p (nat c) → Within z c → Within (fl p z) c

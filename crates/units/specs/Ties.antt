@@ -1,15 +1,15 @@
--- At a tie the significand is even: where another number of p bits is as near, the rounding is a multiple of twice its last place. Assumes nothing.
+-- At a tie the significand is even: where another number of p bits is as near, the rounding is a multiple of twice the number's last place. Assumes nothing.
 use mathlib.Core.Path.{_≡_, ap, sym, _∙_}
 use mathlib.Core.Logic.{_⊎_, inl, inr}
 use Prim.Native.Nat.{ℕ, suc, _+_, _-_, _*_, _/_, _%_, _^_, _≤_, _<_, compare, Ordering, Ordering·lt, Ordering·eq, Ordering·gt}
-use native.Mathlib.Nat.{mul-le-mul-left, mul-le-mul-right, div-add-mod', mod-lt, mul-assoc, pow-succ'}
+use native.Mathlib.Nat.{mul-le-mul-right, div-add-mod', mod-lt, mul-assoc, pow-succ'}
 use native.Mathlib.Omega.{arith}
 use lib.Pow.{pow-pos}
 use lib.Ieee.{nearest}
 use lib.Ieee.Nearest.{closest}
 use Rattle.units.specs.Whole.{Whole, nat, _⊕_, _⊖_, neg, _⊗_, _≈_, mag, Multiple}
 use Rattle.units.specs.Rounding.{dropped, rnd, fl, Short, Representable}
-use Rattle.units.specs.Powers.{le-or-lt, pow-split, pow-pred, twice-le}
+use Rattle.units.specs.Powers.{le-or-lt, pow-split, pow-pred}
 use Rattle.units.specs.Multiples.{multiple-neg, multiple-same}
 use Rattle.units.specs.NaturalRounding as N
 use Rattle.units.specs.NaturalRounding.{Off, Compared, compared, rnd-is}
@@ -41,19 +41,13 @@ module _ (p : ℕ) (P : 0 < p) where
       go : (k ≤ F .exp) ⊎ (F .exp < k) → (m : ℕ) × (f ≡ m * 2 ^ k)
       go (inl l) = (F .sig * 2 ^ (F .exp - k), F .is ∙ sym (mul-assoc (F .sig) (2 ^ (F .exp - k)) (2 ^ k) ∙ ap (λ (x : ℕ). F .sig * x) (pow-split l)))
       -- f is at most the power of two that n reaches, and that power is no nearer
-      go (inr l) = (2 ^ (p - 1), omega (arith, top, below, R, N.best p n P (2 ^ (p - 1) * 2 ^ k) (n - 2 ^ (p - 1) * 2 ^ k) power near))
+      go (inr l) = (2 ^ (p - 1), omega (arith, N.half-power P k, N.short-low F l, R, N.best p n P (2 ^ (p - 1) * 2 ^ k) (n - 2 ^ (p - 1) * 2 ^ k) power near))
         where
-          top : 2 * (2 ^ (p - 1) * 2 ^ k) ≡ 2 ^ p * 2 ^ k
-          top = sym (mul-assoc 2 (2 ^ (p - 1)) (2 ^ k)) ∙ ap (λ (x : ℕ). x * 2 ^ k) (pow-pred P)
-
-          below : 2 * f ≤ 2 ^ p * 2 ^ k
-          below = omega (arith, F .is, mul-le-mul-right (2 ^ F .exp) (F .small), mul-le-mul-left (2 ^ p) (twice-le l))
-
           R : (2 ^ p * 2 ^ k ≤ 2 * n) × (2 ^ p * 2 ^ k ≤ 2 * rnd p n)
           R = N.reach p P n (omega arith)
 
           near : Off (n - 2 ^ (p - 1) * 2 ^ k) (2 ^ (p - 1) * 2 ^ k) n
-          near = omega (arith, R, top)
+          near = omega (arith, R, N.half-power P k)
 
           power : Short p (2 ^ (p - 1) * 2 ^ k)
           power = record { exp = k; sig = 2 ^ (p - 1); is = omega arith; small = omega (arith, pow-pred P) }

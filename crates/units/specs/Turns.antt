@@ -1,12 +1,12 @@
 -- Numbers taken in a round, in any order: each addition to tau is exact and nothing is lost, so that tau is the exact sum of the high parts taken so far.
 -- Document 000's Theorem 3.4, first part. Assumes nothing.
-use mathlib.Core.Path.{_≡_, refl, ap, _∙_}
+use mathlib.Core.Path.{_≡_, refl, _∙_}
 use mathlib.Core.List.{List, [], _∷_}
 use Prim.Native.Nat.{ℕ, suc, _+_, _-_, _^_, _≤_, _<_}
 use native.Mathlib.Nat.{mul-le-mul-right}
 use native.Mathlib.Omega.{arith}
 use lib.Pow.{pow-add, pow-pos}
-use lib.ListN.{length}
+use lib.ListN.{length, length-map}
 use Rattle.units.specs.Whole.{Whole, nat, _⊕_, _⊖_, _≈_, Under, total, All}
 use Rattle.units.specs.Rounding.{fl, Representable}
 use Rattle.units.specs.Walk.{high, remainder, gathered, highs, remainders, Ready, Left, Tau, Gathered, Opened, Closed}
@@ -18,9 +18,13 @@ use Rattle.units.specs.Extraction.{Extracted, extract}
 pub tau-zero : (p M e : ℕ) → Tau p M e 0 (nat 0)
 tau-zero p M e = record { rep = rep-zero p; on = multiple-zero (M + e - p); small = omega arith }
 
-pub remainders-length : (p k : ℕ) (xs : List Whole) → length (remainders p k xs) ≡ length xs
-remainders-length p k [] = refl
-remainders-length p k (x ∷ xs) = ap suc (remainders-length p k xs)
+-- |tau| < sigma
+pub tau-under : {p M e n : ℕ} {tau : Whole} → Tau p M e n tau → n < 2 ^ M → Under tau (2 ^ (M + e))
+tau-under {p} {M} {e} T l = omega (arith, T .small, pow-add 2 M e, mul-le-mul-right (2 ^ e) l, pow-pos e)
+
+-- numbers that are ready open a first round, with t = 0 and S their sum
+pub opens : {p M e : ℕ} {xs : List Whole} → All (Ready p e) xs → Opened p M (length xs) e (total xs) (nat 0) xs
+opens {p} {M} {e} h = record { rep = rep-zero p; on = multiple-zero (M + e - p); ready = h; count = refl; sum = omega arith }
 
 module _ (p : ℕ) (P : 0 < p) (M e : ℕ) (M⁺ : 0 < M) (M⁻ : M < p) where
   taken : {x : Whole} → Ready p e x → Extracted p M e x
@@ -65,10 +69,6 @@ module _ (p : ℕ) (P : 0 < p) (M e : ℕ) (M⁺ : 0 < M) (M⁻ : M < p) where
   all-left [] h = tt
   all-left (x ∷ xs) h = (turn-left (h .0), all-left xs (h .1))
 
-  -- |tau| < sigma
-  pub tau-under : {n : ℕ} {tau : Whole} → Tau p M e n tau → n < 2 ^ M → Under tau (2 ^ (M + e))
-  tau-under T l = omega (arith, T .small, pow-add 2 M e, mul-le-mul-right (2 ^ e) l, pow-pos e)
-
   -- the exact sum of n high parts is what tau is in the end, whatever the order in which they were added
   highs-tau : (xs : List Whole) (n : ℕ) {tau : Whole} → All (Ready p e) xs → length xs ≡ n → n ≤ 2 ^ M → Gathered p (M + e) xs tau → Tau p M e n tau
   highs-tau xs n {tau} h i l s =
@@ -83,6 +83,6 @@ module _ (p : ℕ) (P : 0 < p) (M e : ℕ) (M⁺ : 0 < M) (M⁻ : M < p) where
     on = O .on;
     tau-is = highs-tau xs n (O .ready) (O .count) l s;
     left = all-left xs (O .ready);
-    count = remainders-length p (M + e) xs ∙ O .count;
+    count = length-map xs (remainder p (M + e)) ∙ O .count;
     sum = omega (arith, O .sum, s .sum, parts-sum xs (O .ready));
   }

@@ -2,7 +2,7 @@
 -- at most 2 ^ e. Definitions only. Nothing here says in which order a round takes its numbers.
 use mathlib.Core.Path.{_≡_}
 use mathlib.Core.Logic.{_⊎_}
-use mathlib.Core.List.{List, [], _∷_}
+use mathlib.Core.List.{List, map, foldl}
 use Prim.Native.Nat.{ℕ, suc, _+_, _-_, _*_, _/_, _^_, _≤_, _<_}
 use lib.ListN.{length}
 use Rattle.units.specs.Whole.{Whole, nat, _⊕_, _⊖_, _⊗_, _≈_, Within, mag, Multiple, total, All}
@@ -15,29 +15,29 @@ high p k x = fl p (fl p (nat (2 ^ k) ⊕ x) ⊖ nat (2 ^ k))
 abbrev pub remainder : (p k : ℕ) → Whole → Whole
 remainder p k x = fl p (x ⊖ high p k x)
 
--- ---- numbers taken one after the other: tau gathers their high parts by rounded additions, and their remainders stay
-abbrev pub gathered : (p k : ℕ) → Whole → List Whole → Whole
-gathered p k tau [] = tau
-gathered p k tau (x ∷ xs) = gathered p k (fl p (tau ⊕ high p k x)) xs
+-- ---- numbers added one after the other to T, each addition rounded
+abbrev pub summed : ℕ → Whole → List Whole → Whole
+summed p T xs = foldl (λ s x. fl p (s ⊕ x)) T xs
+
+-- ---- the high parts and the remainders of numbers; tau gathers the high parts
+abbrev pub highs : (p k : ℕ) → List Whole → List Whole
+highs p k = map (high p k)
 
 abbrev pub remainders : (p k : ℕ) → List Whole → List Whole
-remainders p k [] = []
-remainders p k (x ∷ xs) = remainder p k x ∷ remainders p k xs
+remainders p k = map (remainder p k)
 
-abbrev pub highs : (p k : ℕ) → List Whole → List Whole
-highs p k [] = []
-highs p k (x ∷ xs) = high p k x ∷ highs p k xs
+abbrev pub gathered : (p k : ℕ) → Whole → List Whole → Whole
+gathered p k tau xs = summed p tau (highs p k xs)
 
--- ---- the finish: the remainders added up from T in rising order, and tau1 + (tau2 + T) with tau1 = t + tau and tau2 = tau - (tau1 - t)
-abbrev pub summed : ℕ → Whole → List Whole → Whole
-summed p T [] = T
-summed p T (x ∷ xs) = summed p (fl p (T ⊕ x)) xs
+-- ---- the close and the finish: tau1 = t + tau, which is t' of document 01; tau2 = tau - (tau1 - t); the answer is tau1 + (tau2 + T)
+abbrev pub tau1 : ℕ → Whole → Whole → Whole
+tau1 p t tau = fl p (t ⊕ tau)
 
 abbrev pub tau2 : ℕ → Whole → Whole → Whole
-tau2 p t tau = fl p (tau ⊖ fl p (fl p (t ⊕ tau) ⊖ t))
+tau2 p t tau = fl p (tau ⊖ fl p (tau1 p t tau ⊖ t))
 
 abbrev pub answer : ℕ → Whole → Whole → List Whole → Whole
-answer p t tau xs = fl p (fl p (t ⊕ tau) ⊕ fl p (tau2 p t tau ⊕ summed p (nat 0) xs))
+answer p t tau xs = fl p (tau1 p t tau ⊕ fl p (tau2 p t tau ⊕ summed p (nat 0) xs))
 
 -- 2 ^ (2 M + 1) eps sigma, from which t' is large enough to finish
 abbrev pub enough : (p M e : ℕ) → ℕ
@@ -85,17 +85,21 @@ pub record Closed (p M n e : ℕ) (S t tau : Whole) (xs : List Whole) : Type 0 w
   pub count : length xs ≡ n
   pub sum : t ⊕ tau ⊕ total xs ≈ S
 
--- ---- From e, t and xs as a round opens, the walk answers r and goes on for m rounds after this one. A round leaves xs' and tau, and closes by one of
--- document 01's four rules. A restart takes the least e' that bounds the remainders, which are not all zero.
+-- ---- From e, t and xs as a round opens, the walk answers r and goes on for m rounds after this one. A round leaves tau and the remainders of xs, and
+-- closes by one of document 01's four rules. In units its test "sigma is at most 2^-1022" is M + e < p.
 module _ (p M : ℕ) where
   pub data Walk : ℕ → Whole → List Whole → ℕ → Whole → Type 0 where
-    nothing : {e : ℕ} {t tau : Whole} {xs : List Whole} → Gathered p (M + e) xs tau → fl p (t ⊕ tau) ≈ nat 0
+    -- rule 1: t' is zero and all of the work area is zero
+    nothing : {e : ℕ} {t tau : Whole} {xs : List Whole} → Gathered p (M + e) xs tau → tau1 p t tau ≈ nat 0
         → All (λ x. x ≈ nat 0) (remainders p (M + e) xs) → Walk e t xs 0 (nat 0)
-    restart : {e : ℕ} {t tau : Whole} {xs : List Whole} {m : ℕ} {r : Whole} (e' : ℕ) → Gathered p (M + e) xs tau → fl p (t ⊕ tau) ≈ nat 0
+    -- rule 2: t' is zero and something remains; e' is the least that bounds it
+    restart : {e : ℕ} {t tau : Whole} {xs : List Whole} {m : ℕ} {r : Whole} (e' : ℕ) → Gathered p (M + e) xs tau → tau1 p t tau ≈ nat 0
         → (All (λ x. x ≈ nat 0) (remainders p (M + e) xs) → ⊥) → All (λ x. Within x (2 ^ e')) (remainders p (M + e) xs)
         → ((c : ℕ) → All (λ x. Within x (2 ^ c)) (remainders p (M + e) xs) → e' ≤ c)
         → Walk e' (nat 0) (remainders p (M + e) xs) m r → Walk e t xs (suc m) r
-    finished : {e : ℕ} {t tau : Whole} {xs : List Whole} → Gathered p (M + e) xs tau → (M + e < p) ⊎ (enough p M e ≤ mag (fl p (t ⊕ tau)))
-        → Walk e t xs 0 (answer p t tau (remainders p (M + e) xs))
-    further : {e : ℕ} {t tau : Whole} {xs : List Whole} {m : ℕ} {r : Whole} → Gathered p (M + e) xs tau → p ≤ M + e
-        → mag (fl p (t ⊕ tau)) < enough p M e → Walk (M + e - p) (fl p (t ⊕ tau)) (remainders p (M + e) xs) m r → Walk e t xs (suc m) r
+    -- rule 3: otherwise, sigma is small or t' large
+    finished : {e : ℕ} {t tau : Whole} {xs : List Whole} → Gathered p (M + e) xs tau → (tau1 p t tau ≈ nat 0 → ⊥)
+        → (M + e < p) ⊎ (enough p M e ≤ mag (tau1 p t tau)) → Walk e t xs 0 (answer p t tau (remainders p (M + e) xs))
+    -- rule 4: otherwise sigma becomes 2^M eps sigma, which is 2 ^ (M + (M + e - p)), and t becomes t'
+    further : {e : ℕ} {t tau : Whole} {xs : List Whole} {m : ℕ} {r : Whole} → Gathered p (M + e) xs tau → (tau1 p t tau ≈ nat 0 → ⊥) → p ≤ M + e
+        → mag (tau1 p t tau) < enough p M e → Walk (M + e - p) (tau1 p t tau) (remainders p (M + e) xs) m r → Walk e t xs (suc m) r

@@ -21,8 +21,8 @@ module _ (p M n : ℕ) (two : 2 ≤ M) (fit : M + M < p) (few : n + 2 ≤ 2 ^ M)
   pub walk-faithful : {e : ℕ} {S t : Whole} {xs : List Whole} {m : ℕ} {r : Whole} → Opened p M n e S t xs → Walk p M e t xs m r → Faithful p r S
   walk-faithful {S = S} O (nothing g z h) = let x = close-nothing p M n two fit few (closes O g) z h in faithful-same (nat 0) S (omega arith) (zero-faithful p)
   walk-faithful O (restart e' g z o h c w) = walk-faithful (close-restart p M n two fit few (closes O g) e' z h) w
-  walk-faithful O (finished g h) = close-finish p M n two fit few (closes O g) h
-  walk-faithful O (further g l h w) = walk-faithful (close-further p M n two fit few (closes O g) l h) w
+  walk-faithful O (finished g o h) = close-finish p M n two fit few (closes O g) h
+  walk-faithful O (further g o l h w) = walk-faithful (close-further p M n two fit few (closes O g) l h) w
 
   lowered : (m : ℕ) {e e' : ℕ} → m * (p - M) ≤ e' → e' + (p - M) ≤ e → suc m * (p - M) ≤ e
   lowered m h l = rw (suc-mul m (p - M)) (omega arith)
@@ -36,8 +36,8 @@ module _ (p M n : ℕ) (two : 2 ≤ M) (fit : M + M < p) (few : n + 2 ≤ 2 ^ M)
         lowered m (walk-rounds (close-restart p M n two fit few (closes O g) e' z h) w) (omega arith)
     | inr l ↦ absurd (o (left-none p M n two fit few (closes O g) l))
   ]
-  walk-rounds O (finished g h) = omega arith
-  walk-rounds O (further {m = m} g l h w) = lowered m (walk-rounds (close-further p M n two fit few (closes O g) l h) w) (omega arith)
+  walk-rounds O (finished g o h) = omega arith
+  walk-rounds O (further {m = m} g o l h w) = lowered m (walk-rounds (close-further p M n two fit few (closes O g) l h) w) (omega arith)
 
   -- all rounds of a walk that opens with numbers of at most 2 ^ E units, where E + 1 = C + p: the bound as document 01 writes it, and a number for it
   walk-rounds-most : (C E : ℕ) → C + p ≡ E + 1 → {e : ℕ} {S t : Whole} {xs : List Whole} {m : ℕ} {r : Whole} → e ≤ E → Opened p M n e S t xs

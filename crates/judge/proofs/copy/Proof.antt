@@ -1,0 +1,83 @@
+-- `judge::copy` meets its contract: the places passed are the list's floats, and no allowed pattern is a NaN's. Assumes nothing.
+use mathlib.Core.Path.{_≡_, _∙_}
+use mathlib.Core.List.{_++_}
+use Prim.Native.Nat.{_<_, _-_}
+use native.Mathlib.Omega.{arith}
+use borrow.Author.Needs.{needs}
+use lib.Ieee.{nan, ofBits}
+use lib.ListN.{length, take, drop}
+use Rattle.lists.specs.Front.{store-map, end-map}
+use Rattle.kinds.specs.Limits.{doubles}
+use Rattle.judge.specs.Judge.{floats}
+use Rattle.judge.specs.FaultLaws.{allowed-no-nan}
+use Rattle.judge.specs.FirstFaultLaws.{first-good}
+use Rattle.judge.proofs.copy.Statement.{statement}
+use Rattle.judge.proofs.copy.Tie as tie
+
+abbrev Inv-loop : tie.InvT-loop
+Inv-loop list work₀ i₀ work i = (length work ≡ length work₀) × (work ≡ floats doubles (take i list) ++ drop i work₀)
+
+abbrev μ-loop : tie.MeasureT-loop
+μ-loop list work₀ i₀ work i = length list - i
+
+loop-holds : tie.Need-loop-holds Inv-loop μ-loop
+loop-holds c = search needs
+
+mul-work : tie.Need-mul-work Inv-loop μ-loop
+mul-work c = search needs
+
+shared-slice-read-work : tie.Need-shared-slice-read-work Inv-loop μ-loop
+shared-slice-read-work c = search needs
+
+float-from-bits-work : tie.Need-float-from-bits-work Inv-loop μ-loop
+float-from-bits-work c =
+    let g = c .before .before .before in
+    allowed-no-nan doubles _ (first-good doubles (g .args .list .now) .0 (g .pre .1) .none _ (omega arith))
+
+mul-work-2 : tie.Need-mul-work-2 Inv-loop μ-loop
+mul-work-2 c = search needs
+
+slice-write-work : tie.Need-slice-write-work Inv-loop μ-loop
+slice-write-work c = search needs
+
+add-i : tie.Need-add-i Inv-loop μ-loop
+add-i c = search needs
+
+loop-less : tie.Need-loop-less Inv-loop μ-loop
+loop-less c = search needs
+
+loop-again : tie.Need-loop-again Inv-loop μ-loop
+loop-again c =
+    let l = c .before .before in
+    let a = l .before .args in
+    let h : l .loop .i < length (a .work .now) = omega (arith, l .before .pre .0) in (
+      search needs,
+      rw (l .loop .inv .1) (store-map (ofBits (doubles .format)) (a .list .now) (a .work .now) (l .loop .i) 0 nan (omega arith) h),
+    )
+
+same-length : tie.Need-same-length Inv-loop μ-loop
+same-length c = search needs
+
+returns : tie.Need-returns Inv-loop μ-loop
+returns c =
+    let l = c .before in
+    let a = l .before .args in
+    l .loop .inv .1 ∙ end-map (ofBits (doubles .format)) (a .list .now) (a .work .now) (l .loop .i) (omega arith) (omega (arith, l .before .pre .0))
+
+pub copy-spec : {M : Type 1} → statement M
+copy-spec =
+    tie.close
+    (tie.spec
+    Inv-loop
+    μ-loop
+    loop-holds
+    mul-work
+    shared-slice-read-work
+    float-from-bits-work
+    mul-work-2
+    slice-write-work
+    add-i
+    loop-less
+    loop-again
+    same-length
+    returns)
