@@ -16,3 +16,4 @@ pub mod FaithfulFloat
 pub mod InRange
 pub mod Instances
 pub mod PatternFields
+pub mod OppositePattern

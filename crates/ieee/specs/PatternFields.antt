@@ -18,6 +18,9 @@ module _ (f : Format) (b : ℕ) (F : T (finite (ofBits f b))) where
       let h : b % top f < ones f * hid f = ltb→lt (b % top f) (ones f * hid f) (rw (pattern-finite f b) at F) in
       is-units f (ofBits f b) (leb (top f) b) (patternUnits f (b % top f)) (pattern-is f b h)
 
+  pub pattern-magnitude : magnitude f (ofBits f b) ≡ patternUnits f (b % top f)
+  pattern-magnitude = known .1
+
   -- ---- the sign
   pub pattern-plus : b < top f → value f (ofBits f b) ≡ pos (magnitude f (ofBits f b))
   unfolding value

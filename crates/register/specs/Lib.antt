@@ -2,3 +2,5 @@
 pub mod Register
 pub mod Place
 pub mod RegisterWords
+pub mod EnterLaws
+pub mod Range
