@@ -15,3 +15,5 @@ pub mod Nearest
 pub mod FaithfulFloat
 pub mod InRange
 pub mod Instances
+pub mod PatternFields
+pub mod OppositePattern

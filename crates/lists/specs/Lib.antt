@@ -3,3 +3,7 @@ pub mod Digits
 pub mod Front
 pub mod LeadingZeros
 pub mod DigitLaws
+pub mod TwoDigits
+pub mod Carry
+pub mod TwosComplement
+pub mod SignedDigits

@@ -1,1 +1,5 @@
 // The exact register: 33 lent words that count units in two's complement.
+pub mod finite;
+mod place;
+mod ripple;
+mod word;
