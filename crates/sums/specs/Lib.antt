@@ -3,3 +3,4 @@ pub mod Sums
 pub mod NonOverlapping
 pub mod FirstPlace
 pub mod PartsLaws
+pub mod SumLaws

@@ -1,1 +1,2 @@
 // The sums of a list: nearest, and in parts.
+mod exact;
