@@ -7,7 +7,7 @@ mod word;
 
 ghost use mathlib.Core.Path.{_≡_};
 ghost use Rattle.register.specs.Register.{added, withdrawn};
-ghost use Rattle.register.specs.EnterLaws.{outcome};
+ghost use Rattle.register.specs.Steps.{outcome};
 use kinds::Entry;
 
 // "Register: 33 words of 64 bits"

@@ -3,7 +3,7 @@ ghost use mathlib.Core.Path.{_≡_};
 ghost use Prim.Native.Nat.{_-_, _<_};
 ghost use lib.ListN.{length};
 ghost use Rattle.register.specs.Register.{wordCount};
-ghost use Rattle.register.specs.Range.{signBit, leaves};
+ghost use Rattle.register.specs.Steps.{signBit, leaves};
 use super::WORDS;
 use super::place::SIGN;
 

@@ -5,9 +5,10 @@ use mathlib.Core.Path.{_≡_, sym, _∙_}
 use Rattle.kinds.specs.Limits.{doubles}
 use Rattle.judge.specs.Judge.{faultOf}
 use Rattle.judge.specs.FaultLaws.{fault-0}
+use Rattle.register.specs.Steps.{signBit, leaves}
 use Rattle.register.specs.RegisterWords.{held}
 use Rattle.register.specs.EnterLaws.{enter-long, enter-bad}
-use Rattle.register.specs.Range.{signBit, leaves, left, stayed}
+use Rattle.register.specs.Range.{left, stayed}
 use Rattle.register.proofs.add.Statement.{statement}
 use Rattle.register.proofs.add.Tie as tie
 
