@@ -1,10 +1,12 @@
 -- The pattern of the opposite number: the same but for the sign. Assumes nothing.
 use mathlib.Core.Path.{_≡_, sym, ap, _∙_}
 use mathlib.Core.Logic.{_⊎_, inl, inr}
-use Prim.Native.Nat.{ℕ, _+_, _-_, _*_, _%_, _≤_, _<_}
-use native.Mathlib.Nat.{mod-eq-of-lt, add-mod-right}
+use Prim.Native.Nat.{ℕ, _+_, _-_, _*_, _/_, _%_, _^_, _≤_, _<_}
+use native.Mathlib.Nat.{mod-eq-of-lt, add-mod-right, div-eq-of-lt, div-eq-of-lt-le}
 use native.Mathlib.Omega.{arith}
+use lib.Bits.{bitAnd, bitXor, xor-add-and, and-high}
 use lib.Dec.{T}
+use lib.Pow.{pow-add}
 use lib.IntN.{negℤ, negℤ-negℤ}
 use lib.Ieee.{Format, top, ofBits}
 use lib.Ieee.Scale.{finite}
@@ -25,6 +27,19 @@ turned t b h = elim (le-or-lt t b) [
       inr (l, omega arith)
   | inr l ↦ inl (l, mod-eq-of-lt (omega arith))
 ]
+
+-- as the code turns it, where the sign is the bit k
+pub xor-sign : (f : Format) (k b : ℕ) → top f ≡ 2 ^ k → b < 2 * top f → bitXor b (2 ^ k) ≡ opposite f b
+unfolding opposite
+xor-sign f k b e h = rw e (elim (turned (2 ^ k) b (rw e at h)) [
+  | inl s ↦ omega (arith, xor-add-and b (2 ^ k), both 0 (div-eq-of-lt (s .0)), s .1)
+  | inr s ↦ omega (arith, xor-add-and b (2 ^ k), both 1 (div-eq-of-lt-le (2 ^ k) {m = b} (omega (arith, s .0)) (omega (arith, rw e at h))), s .1)
+])
+  where
+    both : (q : ℕ) → b / 2 ^ k ≡ q → bitAnd b (2 ^ k) ≡ q % 2 * 2 ^ k
+    both q d =
+        let one : 2 ^ (1 + k) - 2 ^ k ≡ 2 ^ k = omega (arith, pow-add 2 1 k) in
+        rw (d, one) at (and-high b 1 k)
 
 module _ (f : Format) (b : ℕ) (h : b < 2 * top f) where
   sides : ((b < top f) × (opposite f b ≡ b + top f)) ⊎ ((top f ≤ b) × (opposite f b + top f ≡ b))

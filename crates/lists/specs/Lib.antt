@@ -3,7 +3,8 @@ pub mod Digits
 pub mod Front
 pub mod LeadingZeros
 pub mod DigitLaws
-pub mod TwoDigits
 pub mod Carry
+pub mod CarryLaws
+pub mod TwoDigits
 pub mod TwosComplement
 pub mod SignedDigits

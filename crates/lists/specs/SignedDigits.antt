@@ -1,13 +1,13 @@
 -- A signed number as n digits of base 2 ^ w in two's complement: number and digits determine each other, sums by their carry equations, and the top bit.
 -- Assumes nothing.
 use mathlib.Core.Path.{_≡_, sym, ap, _∙_}
-use mathlib.Core.Bool.{not}
+use mathlib.Core.Bool.{true, not}
 use mathlib.Core.List.{List, [], _∷_}
 use Prim.Native.Nat.{ℕ, zero, suc, _+_, _-_, _*_, _/_, _^_, _≤_, _<_}
 use native.Mathlib.Nat.{mod-eq-of-lt, div-one, zero-div, add-comm, mul-pos, zero-lt-suc}
 use native.Mathlib.Omega.{arith}
 use lib.Arith.{digits-div}
-use lib.Dec.{T, ltb}
+use lib.Dec.{ltb}
 use lib.IntN.{ℤ, pos, _+ℤ_, _-ℤ_}
 use lib.ListN.{length, getD, drop, drop-of-length-le}
 use lib.Pow.{shr-shr}
@@ -15,7 +15,7 @@ use lib.Seq.{drop-cons}
 use Rattle.lists.specs.Digits.{number, digits, Digits, signed, residue, inside}
 use Rattle.lists.specs.DigitLaws.{weight-zero, number-nil, number-cons, digits-head, digits-tail}
 use Rattle.lists.specs.DigitLaws.{number-lt, number-digits, digits-length, digits-below, number-unique}
-use Rattle.lists.specs.TwosComplement.{residue-lt, residue-signed, signed-residue, residue-plus, top}
+use Rattle.lists.specs.TwosComplement.{residue-lt, signed-inside, residue-signed, signed-residue, residue-plus, top}
 use Rattle.lists.specs.TwosComplement.{add-residue, sub-residue, plus-inside, minus-inside}
 
 module _ (w n : ℕ) where
@@ -49,7 +49,10 @@ module _ (w n : ℕ) where
     pub cut-whole : {ds : List ℕ} → Words ds → cut (whole ds) ≡ ds
     cut-whole {ds} D = sym (cut-only (whole ds) D (residue-signed (w * n) P (number w ds) (words-lt D)))
 
-    pub whole-cut : (z : ℤ) → T (inside (w * n) z) → whole (cut z) ≡ z
+    pub whole-inside : {ds : List ℕ} → Words ds → inside (w * n) (whole ds) ≡ true
+    whole-inside {ds} D = signed-inside (w * n) P (number w ds) (words-lt D)
+
+    pub whole-cut : (z : ℤ) → inside (w * n) z ≡ true → whole (cut z) ≡ z
     whole-cut z h = ap (signed (w * n)) (cut-number z) ∙ signed-residue (w * n) P z h
 
     -- digits that were cut off do not matter to a sum

@@ -1,4 +1,4 @@
--- Two adjacent digits in base 2 ^ w: a number below 2 ^ w, shifted to the left, lies in two of them. Assumes nothing.
+-- A number below 2 ^ w, shifted to the left, lies in two adjacent digits of base 2 ^ w. Assumes nothing.
 use mathlib.Core.Path.{_≡_, sym, ap, _∙_}
 use Prim.Native.Nat.{ℕ, _+_, _-_, _*_, _/_, _%_, _^_, _<_}
 use native.Mathlib.Nat.{mod-lt, mod-add-div}
@@ -6,10 +6,7 @@ use native.Mathlib.Numerals.{add-one}
 use native.Mathlib.Omega.{arith}
 use lib.Pow.{pow-add, shl-shr, shr-shr, split}
 use Rattle.lists.specs.DigitLaws.{weight-next}
-
--- lo at place k and hi at the next
-abbrev pub two : ℕ → ℕ → ℕ → ℕ → ℕ
-two w k lo hi = lo * 2 ^ (w * k) + hi * 2 ^ (w * (k + 1))
+use Rattle.lists.specs.Carry.{two}
 
 module _ (w m : ℕ) where
   -- what m shifted by s leaves above a digit, with no shift by w

@@ -1,14 +1,14 @@
 -- Two's complement at b bits, over differences of naturals: what number u stands for, that the b bits of a number are determined up to multiples of
 -- 2 ^ b, and which sums leave the range, read from the top bits before and after. Assumes nothing.
 use mathlib.Core.Path.{_≡_, sym, ap, _∙_}
-use mathlib.Core.Logic.{inl, inr}
+use mathlib.Core.Logic.{inl, inr, _↔_}
 use mathlib.Core.Bool.{true, false, not}
 use Prim.Native.Nat.{ℕ, zero, suc, _+_, _-_, _*_, _/_, _%_, _^_, _≤_, _<_}
 use native.Mathlib.Nat.{mod-lt, mod-eq-of-lt, add-mul-mod-self-left, div-add-mod', mod-add-div', div-eq-of-lt, div-eq-of-lt-le, div-lt-iff-lt-mul}
 use native.Mathlib.Omega.{arith}
-use borrow.Author.Tests.{lt-ltb, le-ltb}
-use lib.Dec.{T, ltb, ltb→lt}
-use lib.IntN.{ℤ, pos, negsuc, _+ℤ_, _-ℤ_}
+use borrow.Author.Tests.{ltb-true, lt-ltb, le-ltb}
+use lib.Dec.{ltb}
+use lib.IntN.{ℤ, pos, negsuc, natAbs, _+ℤ_, _-ℤ_}
 use lib.Pow.{pow-pos}
 use Rattle.units.specs.Powers.{le-or-lt, pow-pred}
 use Rattle.units.specs.Whole.{Whole, nat, neg, _⊕_, _⊖_, _⊗_, _≈_, _≼_, _≺_, int, difference}
@@ -61,15 +61,14 @@ module _ (b : ℕ) where
   pub residue-only : {a : Whole} {v : ℕ} → v < 2 ^ b → Congruent (2 ^ b) a v → residue b (int a) ≡ v
   residue-only {a} {v} h C = only (int a) h (record { times = C .times; is = omega (arith, int-is a, C .is) })
 
-  -- ---- the range
+  -- ---- the range: from -2 ^ (b - 1) to below 2 ^ (b - 1)
 
-  pub inside-is : (z : ℤ) → T (inside b z) → (difference z ≺ nat (2 ^ (b - 1))) × (neg (nat (2 ^ (b - 1))) ≼ difference z)
-  inside-is (pos n) h = omega (arith, ltb→lt)
-  inside-is (negsuc n) h = omega (arith, ltb→lt)
+  abbrev pub Range : Whole → Type 0
+  Range a = (a ≺ nat (2 ^ (b - 1))) × (neg (nat (2 ^ (b - 1))) ≼ a)
 
-  within : (z : ℤ) → difference z ≺ nat (2 ^ (b - 1)) → neg (nat (2 ^ (b - 1))) ≼ difference z → inside b z ≡ true
-  within (pos n) h l = lt-ltb n (2 ^ (b - 1)) (omega arith)
-  within (negsuc n) h l = lt-ltb n (2 ^ (b - 1)) (omega arith)
+  pub inside-when : (z : ℤ) → (inside b z ≡ true) ↔ Range (difference z)
+  inside-when (pos n) = (λ e. omega (arith, ltb-true n (2 ^ (b - 1)) e), λ r. lt-ltb n (2 ^ (b - 1)) (omega (arith, r .0)))
+  inside-when (negsuc n) = (λ e. omega (arith, ltb-true n (2 ^ (b - 1)) e), λ r. lt-ltb n (2 ^ (b - 1)) (omega (arith, r .1)))
 
   above : (z : ℤ) → nat (2 ^ (b - 1)) ≼ difference z → inside b z ≡ false
   above (pos n) h = le-ltb n (2 ^ (b - 1)) (omega arith)
@@ -79,14 +78,18 @@ module _ (b : ℕ) where
   below (pos n) h = absurd (omega arith)
   below (negsuc n) h = le-ltb n (2 ^ (b - 1)) (omega arith)
 
-  module _ (a : Whole) where
-    pub inside-yes : a ≺ nat (2 ^ (b - 1)) → neg (nat (2 ^ (b - 1))) ≼ a → inside b (int a) ≡ true
-    inside-yes h l = within (int a) (omega (arith, int-is a)) (omega (arith, int-is a))
+  pub inside-small : (z : ℤ) → natAbs z < 2 ^ (b - 1) → inside b z ≡ true
+  inside-small (pos n) h = lt-ltb n (2 ^ (b - 1)) h
+  inside-small (negsuc n) h = lt-ltb n (2 ^ (b - 1)) (omega arith)
 
-    pub inside-above : nat (2 ^ (b - 1)) ≼ a → inside b (int a) ≡ false
+  module _ (a : Whole) where
+    inside-yes : a ≺ nat (2 ^ (b - 1)) → neg (nat (2 ^ (b - 1))) ≼ a → inside b (int a) ≡ true
+    inside-yes h l = inside-when (int a) .1 (omega (arith, int-is a), omega (arith, int-is a))
+
+    inside-above : nat (2 ^ (b - 1)) ≼ a → inside b (int a) ≡ false
     inside-above h = above (int a) (omega (arith, int-is a))
 
-    pub inside-below : a ≺ neg (nat (2 ^ (b - 1))) → inside b (int a) ≡ false
+    inside-below : a ≺ neg (nat (2 ^ (b - 1))) → inside b (int a) ≡ false
     inside-below h = below (int a) (omega (arith, int-is a))
 
   -- ---- u is itself below 2 ^ (b - 1), and from there on u - 2 ^ b
@@ -119,16 +122,22 @@ module _ (b : ℕ) where
       | inr g ↦ signed-low g ∙ sym (int-only (standsFor u) (pos u) (rw (top-low g) (omega arith)))
     ]
 
+    pub signed-inside : (u : ℕ) → u < 2 ^ b → inside b (signed b u) ≡ true
+    signed-inside u h = elim (le-or-lt (2 ^ (b - 1)) u) [
+      | inl g ↦ rw (signed-high g) (lt-ltb (2 ^ b - suc u) (2 ^ (b - 1)) (omega (arith, twice)))
+      | inr g ↦ rw (signed-low g) (lt-ltb u (2 ^ (b - 1)) g)
+    ]
+
     pub residue-signed : (u : ℕ) → u < 2 ^ b → residue b (signed b u) ≡ u
     residue-signed u h = rw (signed-is u h) (residue-only h (record { times = neg (nat (top u)); is = omega arith }))
 
-    pub signed-residue : (z : ℤ) → T (inside b z) → signed b (residue b z) ≡ z
+    pub signed-residue : (z : ℤ) → inside b z ≡ true → signed b (residue b z) ≡ z
     unfolding residue
     signed-residue (pos n) h =
-        let l : n < 2 ^ (b - 1) = ltb→lt n (2 ^ (b - 1)) h in
+        let l : n < 2 ^ (b - 1) = ltb-true n (2 ^ (b - 1)) h in
         ap (signed b) (mod-eq-of-lt {n = n} {m = 2 ^ b} (omega (arith, twice))) ∙ signed-low l
     signed-residue (negsuc n) h =
-        let l : n < 2 ^ (b - 1) = ltb→lt n (2 ^ (b - 1)) h in
+        let l : n < 2 ^ (b - 1) = ltb-true n (2 ^ (b - 1)) h in
         let e : n % 2 ^ b ≡ n = mod-eq-of-lt (omega (arith, twice)) in
         rw e (signed-high (omega (arith, twice)) ∙ ap negsuc (omega (arith, twice)))
 

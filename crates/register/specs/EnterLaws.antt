@@ -16,16 +16,11 @@ use Rattle.units.specs.Powers.{le-or-lt}
 use Rattle.ieee.specs.OppositePattern.{opposite, opposite-mod, opposite-value}
 use Rattle.lists.specs.Digits.{inside}
 use Rattle.kinds.specs.Limits.{doubles}
-use Rattle.kinds.specs.declared.Entry.{Entry}
 use Rattle.kinds.specs.declared.Entry.the-variants.{Refused, Entered}
 use Rattle.judge.specs.Judge.{faultOf}
 use Rattle.judge.specs.FaultLaws.{fault-0, pattern-0, pattern-2, pattern-3, proper-doubles}
-use Rattle.register.specs.Register as R
 use Rattle.register.specs.Register.{wordCount, registerBits, wholeOf, wordsOf, unitsOf, enter, added, withdrawn}
-
--- an answer and the words afterwards
-abbrev pub outcome : Entry → List ℕ → R.Entered
-outcome a ws = record { answer = a; words = ws }
+use Rattle.register.specs.Steps.{outcome}
 
 module _ (ws : List ℕ) (p : ℕ) (z : ℤ) where
   pub enter-long : (length ws ≡ wordCount → ⊥) → enter ws p z ≡ outcome (Refused 4 0) ws

@@ -1,6 +1,9 @@
 -- The exact register.
 pub mod Register
-pub mod Place
+pub mod Steps
 pub mod RegisterWords
 pub mod EnterLaws
 pub mod Range
+pub mod Entries
+pub mod RegisterLaws
+pub mod RunLaws

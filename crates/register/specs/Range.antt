@@ -1,33 +1,27 @@
 -- Whether a sum of the register and an allowed number is in range, read from the top bits before and after, and that taking the number again gives the
 -- words back. Assumes nothing.
-use mathlib.Core.Path.{_≡_, ap, _∙_}
+use mathlib.Core.Path.{_≡_, sym, ap, _∙_}
 use mathlib.Core.Logic.{inl, inr}
-use mathlib.Core.Bool.{Bool, not, cond}
+use mathlib.Core.Bool.{Bool, true, false, not}
 use mathlib.Core.List.{List}
 use Prim.Native.Nat.{ℕ, _-_, _^_, _≤_}
 use native.Mathlib.Nat.{le-trans}
 use borrow.Author.Tests.{lt-ltb, le-ltb}
-use lib.Dec.{ltb, lit<, lit≤}
+use lib.Dec.{lit<, lit≤}
 use lib.IntN.{ℤ, negℤ, _+ℤ_, _-ℤ_, +ℤ-negℤ-cancel}
 use lib.Ieee.{top}
 use Rattle.units.specs.Powers.{le-or-lt}
 use Rattle.ieee.specs.PatternFields.{pattern-plus, pattern-minus}
 use Rattle.lists.specs.Digits.{inside}
-use Rattle.lists.specs.SignedDigits.{topBit, cut-plus, cut-whole, cut-plus-inside, cut-minus-inside}
+use Rattle.lists.specs.SignedDigits.{cut-plus, cut-whole, cut-plus-inside, cut-minus-inside}
 use Rattle.kinds.specs.Limits.{doubles}
+use Rattle.kinds.specs.declared.Entry.the-variants.{Refused, Entered}
 use Rattle.judge.specs.Judge.{faultOf}
 use Rattle.judge.specs.Table.{sizeOf}
 use Rattle.judge.specs.FaultLaws.{fault-0, most-doubles}
-use Rattle.register.specs.Register.{wordBits, wordCount, registerBits, wholeOf, wordsOf, unitsOf}
-use Rattle.register.specs.RegisterWords.{Held}
-
--- the sign of the words
-abbrev pub signBit : List ℕ → ℕ
-signBit ws = topBit wordBits (wordCount - 1) ws
-
--- an addition leaves the range where the top bit was clear and is set afterwards, a negative number's where it was set and is clear afterwards
-abbrev pub leaves : ℕ → ℕ → ℕ → Bool
-leaves p before after = cond (ltb p (top (doubles .format))) (ltb before after) (ltb after before)
+use Rattle.register.specs.Register.{wordBits, wordCount, registerBits, wholeOf, wordsOf, unitsOf, added}
+use Rattle.register.specs.Steps.{Held, signBit, leaves, outcome}
+use Rattle.register.specs.EnterLaws.{enter-out, enter-in}
 
 module _ {ws : List ℕ} (W : Held ws) where
   pub undone : (u : ℤ) → wordsOf (wholeOf (wordsOf (wholeOf ws +ℤ u)) -ℤ u) ≡ ws
@@ -47,3 +41,14 @@ module _ {ws : List ℕ} (W : Held ws) where
             rw (lt-ltb p (top (doubles .format)) h, pattern-plus (doubles .format) p (a .0) h)
             (cut-plus-inside wordBits (lit< tt) (wordCount - 1) (sizeOf doubles p) W small)
       ]
+
+-- ---- so an addition of p that left the words es is entered, or is refused and undone
+module _ {ws es : List ℕ} (W : Held ws) (p : ℕ) (e : faultOf doubles p ≡ 0) (s : es ≡ wordsOf (wholeOf ws +ℤ unitsOf p)) where
+  out : (b : Bool) → leaves p (signBit ws) (signBit es) ≡ b → inside registerBits (wholeOf ws +ℤ unitsOf p) ≡ not b
+  out b l = in-range W p e ∙ ap not (rw s at l)
+
+  pub stayed : leaves p (signBit ws) (signBit es) ≡ false → outcome Entered es ≡ added ws p
+  stayed l = rw s (sym (enter-in ws p (wholeOf ws +ℤ unitsOf p) (W .long) e (out false l)))
+
+  pub left : {vs : List ℕ} → leaves p (signBit ws) (signBit es) ≡ true → vs ≡ wordsOf (wholeOf es -ℤ unitsOf p) → outcome (Refused 9 0) vs ≡ added ws p
+  left l v = rw (v, s, undone W (unitsOf p)) (sym (enter-out ws p (wholeOf ws +ℤ unitsOf p) (W .long) e (out true l)))

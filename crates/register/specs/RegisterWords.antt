@@ -11,15 +11,10 @@ use mir.Syntax.{w64}
 use mir.Val.{Fits}
 use Rattle.ieee.specs.PatternFields.{pattern-plus, pattern-minus}
 use Rattle.kinds.specs.Limits.{doubles}
-use Rattle.lists.specs.TwoDigits.{two}
-use Rattle.lists.specs.Carry.{Carried}
-use Rattle.lists.specs.SignedDigits.{Words, cut-add, cut-sub}
+use Rattle.lists.specs.Carry.{two, Carried}
+use Rattle.lists.specs.SignedDigits.{cut-add, cut-sub}
 use Rattle.register.specs.Register.{wordBits, wordCount, wholeOf, wordsOf, unitsOf}
-use Rattle.register.specs.Place.{Placed}
-
--- 33 words of 64 bits
-abbrev pub Held : List ℕ → Type 0
-Held ws = Words wordBits wordCount ws
+use Rattle.register.specs.Steps.{Held, Placed}
 
 -- words of the language are such
 pub held : {ws : List ℕ} → length ws ≡ wordCount → ((i : ℕ) → Fits w64 (getD ws i 0)) → Held ws

@@ -5,6 +5,7 @@ ghost use lib.Ieee.{ofBits};
 ghost use lib.Ieee.Scale.{finite};
 ghost use lib.IntN.{_+ℤ_, _-ℤ_};
 ghost use lib.ListN.{length};
+ghost use Rattle.ieee.specs.OppositePattern.{opposite};
 ghost use Rattle.kinds.specs.Limits.{doubles};
 ghost use Rattle.register.specs.Register.{wordCount, wholeOf, wordsOf, unitsOf};
 use super::place::SIGN;
@@ -25,15 +26,17 @@ pub fn add(words: &mut [u64], p: u64)
     }
 }
 
-// What is required is as above.
+// The pattern of the opposite number.
+pub fn opposite(p: u64) -> u64
+    ensures { λ r. ⌜ r ≡ opposite (doubles .format) p ⌝ }
+{
+    p ^ SIGN
+}
+
+// A withdrawal is the addition of the opposite number. What is required is as above.
 pub fn withdraw(words: &mut [u64], p: u64)
     requires { ⌜ (length (now words) ≡ wordCount) × T (finite (ofBits (doubles .format) p)) ⌝ }
     ensures { λ _. ⌜ now (words .exit) ≡ wordsOf (wholeOf (now (words .entry)) -ℤ unitsOf p) ⌝ }
 {
-    let at = place(p);
-    if p < SIGN {
-        sub_at(words, at.word, at.lo, at.hi);
-    } else {
-        add_at(words, at.word, at.lo, at.hi);
-    }
+    add(words, opposite(p));
 }

@@ -5,9 +5,9 @@ ghost use lib.Dec.{T};
 ghost use lib.Ieee.{ofBits};
 ghost use lib.Ieee.Scale.{finite};
 ghost use Rattle.kinds.specs.Limits.{doubles};
-ghost use Rattle.lists.specs.TwoDigits.{two};
+ghost use Rattle.lists.specs.Carry.{two};
 ghost use Rattle.register.specs.Register.{wordBits, wordCount};
-ghost use Rattle.register.specs.Place.{Placed};
+ghost use Rattle.register.specs.Steps.{Placed};
 
 pub struct Pair {
     pub word: usize,

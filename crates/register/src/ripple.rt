@@ -2,8 +2,7 @@
 ghost use Prim.Native.Nat.{_+_, _*_, _^_, _≤_, _<_};
 ghost use lib.ListN.{length};
 ghost use Rattle.register.specs.Register.{wordBits};
-ghost use Rattle.lists.specs.TwoDigits.{two};
-ghost use Rattle.lists.specs.Carry.{Carried};
+ghost use Rattle.lists.specs.Carry.{two, Carried};
 use super::word::add_word;
 use super::word::sub_word;
 

@@ -1,50 +1,27 @@
--- `register::finite::withdraw` meets its contract: a positive number is taken at its place, and a negative one's magnitude added there. Assumes nothing.
+-- `register::finite::withdraw` meets its contract: the opposite number has the opposite units. Assumes nothing.
 use borrow.Author.Needs.{needs}
-use mathlib.Core.Path.{_∙_}
-use lib.IntN.{negℤ-negℤ}
-use Rattle.register.specs.RegisterWords.{held, rises, falls, units-plus, units-minus}
+use Rattle.ieee.specs.OppositePattern.{opposite-finite}
+use Rattle.kinds.specs.Limits.{doubles}
+use Rattle.register.specs.EnterLaws.{opposite-units}
 use Rattle.register.proofs.finite.withdraw.Statement.{statement}
 use Rattle.register.proofs.finite.withdraw.Tie as tie
 
-place-requires : tie.Need-place-requires
-place-requires c κs = search needs
+opposite-requires : tie.Need-opposite-requires
+opposite-requires c κs = search needs
 
-sub-at-requires : tie.Need-sub-at-requires
-sub-at-requires c κs = search needs
-
-add-at-requires : tie.Need-add-at-requires
-add-at-requires c κs = search needs
+add-requires : tie.Need-add-requires
+add-requires c κs =
+    let g = c .before .before .before in
+    (g .pre .0, rw (c .opposite .ensures, opposite-finite (doubles .format) (g .args .p) (g .fits .p .fits)) (g .pre .1))
 
 same-length : tie.Need-same-length
 same-length c = search needs
 
 returns : tie.Need-returns
 returns c =
-    let down = c .before .before in
-    let at = down .before .before .before in
-    let g = at .before .before in
-    rw (units-plus (g .pre .1) (at .place .ensures) (down .before .before .if1 .taken))
-    (falls (held (g .pre .0) (at .before .slice-known .given)) (held (down .sub-at .kept .0 ∙ g .pre .0) (c .slice-known2 .given)) (down .sub-at .ensures))
-
-same-length-2 : tie.Need-same-length-2
-same-length-2 c = search needs
-
-returns-2 : tie.Need-returns-2
-returns-2 c =
-    let up = c .before .before in
-    let at = up .before .before .before in
-    let g = at .before .before in
-    rw (units-minus (g .pre .1) (at .place .ensures) (up .before .before .if1 .left), negℤ-negℤ)
-    (rises (held (g .pre .0) (at .before .slice-known .given)) (held (up .add-at .kept .0 ∙ g .pre .0) (c .slice-known3 .given)) (up .add-at .ensures))
+    let other = c .before .before .before in
+    let g = other .before .before .before in
+    rw (other .opposite .ensures, opposite-units (g .args .p) (g .fits .p .fits) (g .pre .1)) at (c .before .before .add .ensures)
 
 pub withdraw-spec : {M : Type 1} → statement M
-withdraw-spec =
-    tie.close
-    (tie.spec
-    place-requires
-    sub-at-requires
-    add-at-requires
-    same-length
-    returns
-    same-length-2
-    returns-2)
+withdraw-spec = tie.close (tie.spec opposite-requires add-requires same-length returns)

@@ -5,7 +5,8 @@ use mathlib.Core.Path.{_≡_}
 use Prim.Native.Nat.{_-_, _*_, _^_, _≤_}
 use native.Mathlib.Omega.{arith}
 use lib.ListN.{length}
-use Rattle.lists.specs.Carry.{Carried, carried-sub}
+use Rattle.lists.specs.Carry.{Carried}
+use Rattle.lists.specs.CarryLaws.{carried-sub}
 use Rattle.register.specs.Register.{wordBits}
 use Rattle.register.proofs.ripple.borrow_up.Statement.{statement}
 use Rattle.register.proofs.ripple.borrow_up.Tie as tie

@@ -3,7 +3,7 @@ use borrow.Author.Needs.{needs}
 use mathlib.Core.Path.{_∙_}
 use native.Mathlib.Omega.{arith}
 use lib.ListN.{length-set}
-use Rattle.lists.specs.Carry.{sub-two}
+use Rattle.lists.specs.CarryLaws.{sub-two}
 use Rattle.register.proofs.ripple.sub_at.Statement.{statement}
 use Rattle.register.proofs.ripple.sub_at.Tie as tie
 
