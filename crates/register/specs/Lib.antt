@@ -1,2 +1,4 @@
 -- The exact register.
 pub mod Register
+pub mod Head
+pub mod HeadLaws

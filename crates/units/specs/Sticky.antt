@@ -2,7 +2,7 @@
 use mathlib.Core.Path.{_≡_, refl, sym, ap, _∙_}
 use mathlib.Core.Logic.{_⊎_, inl, inr}
 use mathlib.Core.Bool.{Bool, cond}
-use Prim.Native.Nat.{ℕ, _+_, _-_, _*_, _/_, _%_, _^_, _≤_, _<_, compare, Ordering, Ordering·lt, Ordering·eq, Ordering·gt}
+use Prim.Native.Nat.{ℕ, suc, _+_, _-_, _*_, _/_, _%_, _^_, _≤_, _<_, compare, Ordering, Ordering·lt, Ordering·eq, Ordering·gt}
 use native.Mathlib.Nat.{le-antisymm, le-of-lt, lt-of-lt-of-le, eq-zero-or-pos, add-comm, mul-comm, mul-le-mul-right, mod-lt, div-lt-iff-lt-mul}
 use native.Mathlib.Omega.{arith}
 use borrow.Author.Tests.{lt-ltb}
@@ -10,6 +10,7 @@ use lib.Dec.{ltb}
 use lib.Pow.{pow-add, pow-pos, shr-shr, mod-pow-add}
 use lib.Ieee.{size, nearest}
 use lib.Ieee.Digits.{size-lt, size-le}
+use lib.Ieee.Fits.{nearest-le}
 use lib.Ieee.Nearest.{closest}
 use Rattle.units.specs.Rounding.{dropped}
 use Rattle.units.specs.Powers.{pow-pred, cover}
@@ -20,6 +21,10 @@ abbrev pub closestOver : Bool → ℕ → ℕ → ℕ
 closestOver s a b = nearest (a / b) (compare (a % b * 2 + cond s 1 0) b)
 
 -- ---- how many digits there are
+
+pub dropped-is : (p n : ℕ) → dropped p n ≡ size n - p
+unfolding dropped
+dropped-is p n = refl
 
 size-shift : (n k : ℕ) → size (n / 2 ^ k) ≡ size n - k
 size-shift n k = le-antisymm (size-le (n / 2 ^ k) (size n - k) fewer) (back (size n) (size (n / 2 ^ k)) (size-le n (size (n / 2 ^ k) + k) more))
@@ -53,6 +58,23 @@ agree Ordering·eq Ordering·gt a b h k = absurd (omega arith)
 agree Ordering·gt Ordering·lt a b h k = absurd (omega arith)
 agree Ordering·gt Ordering·eq a b h k = absurd (omega arith)
 agree Ordering·gt Ordering·gt a b h k = refl
+
+-- the three cases of the rounding
+module _ (s : Bool) (a b : ℕ) where
+  case : (o : Ordering) → Compared o (a % b * 2 + cond s 1 0) b → closestOver s a b ≡ nearest (a / b) o
+  case o h = ap (nearest (a / b)) (agree (compare (a % b * 2 + cond s 1 0) b) o (a % b * 2 + cond s 1 0) b (compared (a % b * 2 + cond s 1 0) b) h)
+
+  pub over-most : closestOver s a b ≤ suc (a / b)
+  over-most = nearest-le (a / b) (compare (a % b * 2 + cond s 1 0) b)
+
+  pub over-down : a % b * 2 + cond s 1 0 < b → closestOver s a b ≡ a / b
+  over-down = case Ordering·lt
+
+  pub over-tie : a % b * 2 + cond s 1 0 ≡ b → closestOver s a b ≡ a / b + a / b % 2
+  over-tie = case Ordering·eq
+
+  pub over-up : b < a % b * 2 + cond s 1 0 → closestOver s a b ≡ suc (a / b)
+  over-up = case Ordering·gt
 
 alike : (a b c d : ℕ) → ((o : Ordering) → Compared o a b → Compared o c d) → compare c d ≡ compare a b
 alike a b c d f = agree (compare c d) (compare a b) c d (compared c d) (f (compare a b) (compared a b))
