@@ -2,16 +2,18 @@
 -- nearest float isn't finite, and it is zero only at zero. Assumes nothing.
 use mathlib.Core.Path.{_≡_, refl, sym, ap, _∙_}
 use mathlib.Core.Logic.{inl, inr, _↔_}
-use mathlib.Core.Bool.{Bool, false, cond}
-use Prim.Native.Nat.{ℕ, suc, _+_, _-_, _*_, _^_, _≤_, _<_, compare, Ordering, Ordering·lt, Ordering·eq, Ordering·gt}
-use native.Mathlib.Nat.{eq-zero-or-pos, not-le-of-lt, lt-of-not-le, zero-add, mul-pos, mul-le-mul-left, mul-le-mul-right, mul-lt-mul-of-pos-right}
-use native.Mathlib.Nat.{le-of-mul-le-mul-right, lt-of-mul-lt-mul-right}
+use mathlib.Core.Bool.{Bool, true, false, not, cond}
+use Prim.Native.Nat.{ℕ, suc, _+_, _-_, _*_, _%_, _^_, _≤_, _<_, compare, Ordering, Ordering·lt, Ordering·eq, Ordering·gt}
+use native.Mathlib.Nat.{eq-zero-or-pos, not-le-of-lt, lt-of-not-le, zero-add, mod-eq-of-lt, add-mod-left, mul-pos}
+use native.Mathlib.Nat.{mul-le-mul-left, mul-le-mul-right, mul-lt-mul-of-pos-right, le-of-mul-le-mul-right, lt-of-mul-lt-mul-right}
 use native.Mathlib.Omega.{arith}
 use borrow.Author.Tests.{ne-eqb}
 use lib.IntN.{ℤ, natAbs}
-use lib.Dec.{eqb}
+use lib.Dec.{T, eqb}
+use lib.Arith.{le→nltb}
 use lib.Pow.{pow-add, pow-pos}
-use lib.Ieee.{Format, binary32, binary64, prec, emax, low, hid, ones, top, ofBits}
+use lib.Ieee.{Format, binary32, binary64, prec, emax, low, hid, ones, top, ofBits, nanBits}
+use lib.Ieee.Bits.{nanBits-above}
 use lib.Ieee.Nearest.{closest}
 use Rattle.units.specs.Rounding.{dropped, rnd}
 use Rattle.units.specs.Powers.{pow-pred, twice-le}
@@ -81,3 +83,11 @@ module _ (f : Format) where
 
   pub bits-nearest : (z : Bool) (S : ℤ) → natAbs S < limit f → ofBits f (cond (signOf z S) (top f) 0 + roundedBits f false (natAbs S)) ≡ nearestFloat f z S
   bits-nearest z S l = rw (plain (natAbs S)) (bits-round f (signOf z S) (natAbs S) (rnd-finite f l) ∙ sym (nearest-round f z S))
+
+  -- below the infinity's it is no NaN's pattern
+  pub bits-number : (s : Bool) {m : ℕ} → m < ones f * hid f → T (not (nanBits f (cond s (top f) 0 + m)))
+  bits-number s {m} h = rw (nanBits-above f (cond s (top f) 0 + m), without s) (le→nltb (ones f * hid f) m (omega arith))
+    where
+      without : (s : Bool) → (cond s (top f) 0 + m) % top f ≡ m
+      without false = rw (zero-add m) (mod-eq-of-lt (omega arith))
+      without true = add-mod-left (top f) m ∙ mod-eq-of-lt (omega arith)

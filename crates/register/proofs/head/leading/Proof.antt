@@ -1,7 +1,6 @@
 -- `register::head::leading` meets its contract: the head is that of the words in use, one or two at the top. Assumes nothing.
 use borrow.Author.Needs.{needs}
-use mathlib.Core.Path.{_∙_}
-use Prim.Native.Nat.{_+_, _-_, _*_, _^_, _≤_, _<_}
+use Prim.Native.Nat.{_-_, _^_, _≤_, _<_}
 use native.Mathlib.Omega.{arith}
 use lib.ListN.{getD}
 use Rattle.lists.specs.Digits.{Digits}
@@ -72,8 +71,8 @@ returns-2 c =
     let l = s .before .before .before .before in
     let ws = l .before .before .args .words .now in
     let D : Digits wordBits ws = record { below = λ i. s .before .shared-slice-known4 .given i .fits } in
-    (λ i. record { digits = c .before .joined .ensures i; below = wordBits * (l .used .result - 2) + s .size .result; rest = c .rest .ensures i })
-    ∙ head-two ws (l .used .result) D (l .used .ensures) (s .before .before .before .if1 .left) (s .size .result) (s .size .ensures)
+    rw (c .before .joined .ensures, c .rest .ensures)
+    (head-two ws (l .used .result) D (l .used .ensures) (s .before .before .before .if1 .left) (s .size .result) (s .size .ensures))
 
 pub leading-spec : {M : Type 1} → statement M
 leading-spec =
