@@ -4,3 +4,4 @@ pub mod NonOverlapping
 pub mod FirstPlace
 pub mod PartsLaws
 pub mod SumLaws
+pub mod AnswerLaws

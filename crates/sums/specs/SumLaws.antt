@@ -5,20 +5,21 @@ use mathlib.Core.List.{List, [], _∷_, map, map-append}
 use Prim.Native.Nat.{ℕ, _+_, _*_, _^_, _≤_, _<_}
 use native.Mathlib.Nat.{le-trans, le-of-suc-le, lt-of-le-of-lt, lt-of-lt-of-le, mul-le-mul-right}
 use lib.Dec.{T, lit<, lit≤, lt→ltb}
-use lib.IntN.{ℤ, pos, negsuc, _+ℤ_, natAbs, +ℤ-assoc, +ℤ-idr}
-use lib.ListN.{length, take, getD, length-map}
+use lib.IntN.{ℤ, pos, negsuc, _+ℤ_, natAbs, +ℤ-assoc, +ℤ-idl, +ℤ-idr}
+use lib.ListN.{length, take, getD, replicate, length-map}
 use lib.Ieee.{Format, ofBits}
+use lib.Ieee.Bits.{is-true}
 use Rattle.units.specs.ExactSum.{sum-append, sum-bound}
 use Rattle.ieee.specs.Units.{value, limit}
 use Rattle.ieee.specs.Sum.{value-mag}
-use Rattle.lists.specs.Digits.{inside}
+use Rattle.lists.specs.Digits.{number, signed, inside}
 use Rattle.lists.specs.Front.{take-next, map-at}
 use Rattle.lists.specs.SignedDigits.{cut-whole, whole-cut, cut-plus}
 use Rattle.kinds.specs.Limits.{Width, doubles}
 use Rattle.judge.specs.Table.{Allowed, most}
 use Rattle.judge.specs.FaultLaws.{fault-0, most-doubles}
 use Rattle.register.specs.Register.{wordBits, wordCount, registerBits, wholeOf, wordsOf, unitsOf}
-use Rattle.register.specs.RegisterWords.{Held}
+use Rattle.register.specs.Steps.{Held}
 use Rattle.sums.specs.Sums.{sumOf}
 
 -- one number more
@@ -69,8 +70,13 @@ module _ {ps : List ℕ} (few : length ps ≤ doubles .length) (C : Allowed doub
 
 -- what is below the limit is whole in the register's words
 pub whole-words : (z : ℤ) → natAbs z < limit (doubles .format) → wholeOf (wordsOf z) ≡ z
-whole-words z l = whole-cut wordBits wordCount (lit< tt) z (fits z (lt-of-lt-of-le l (lit≤ tt)))
+whole-words z l = whole-cut wordBits wordCount (lit< tt) z (is-true (inside registerBits z) (fits z (lt-of-lt-of-le l (lit≤ tt))))
   where
     fits : (z : ℤ) → natAbs z < 2 ^ 2111 → T (inside registerBits z)
     fits (pos n) h = lt→ltb n (2 ^ 2111) h
     fits (negsuc n) h = lt→ltb n (2 ^ 2111) (le-of-suc-le h)
+
+-- the words of zeros and a list's sum stand for that sum
+pub total-whole : {ws : List ℕ} (S : ℤ) → natAbs S < limit (doubles .format) → ws ≡ wordsOf (wholeOf (replicate wordCount 0) +ℤ S) → wholeOf ws ≡ S
+unfolding number signed
+total-whole S l e = ap wholeOf (e ∙ ap wordsOf (+ℤ-idl S)) ∙ whole-words S l
