@@ -5,3 +5,4 @@ pub mod FirstPlace
 pub mod PartsLaws
 pub mod SumLaws
 pub mod AnswerLaws
+pub mod SplitLaws

@@ -1,7 +1,7 @@
 -- The parts of S are a non-overlapping sequence, each a number of the format and nearest to S less the parts before. Assumes nothing.
 use mathlib.Core.Path.{_≡_, refl, sym, ap, _∙_}
 use mathlib.Core.Bool.{Bool, false}
-use mathlib.Core.List.{List, _∷_, [], _++_, map, append-assoc}
+use mathlib.Core.List.{List, _∷_, [], _++_, map, append-nil, append-assoc}
 use Prim.Native.Nat.{ℕ, zero, suc, _+_, _-_, _≤_, _<_}
 use native.Mathlib.Nat.{lt-of-le-of-lt}
 use native.Mathlib.Numerals.{add-one}
@@ -81,6 +81,14 @@ module _ (f : Format) where
       let m = parts-more (length area) i h in
       let x = nearestFloat f z S in
       rw (m .1 .0, m .1 .1, add-one i, take-suc-set area i x h) (sym (append-assoc (take i area) (x ∷ []) (parts f (m .0) false (left z S))))
+
+  pub parts-none : (z : Bool) (S : ℤ) (area : List Float) → area ++ parts f 0 z S ≡ area
+  unfolding parts
+  parts-none z S area = append-nil area
+
+  pub remaining-none : (z : Bool) (S : ℤ) → remaining 0 z S ≡ S
+  unfolding remaining
+  remaining-none z S = refl
 
   pub remaining-next : (n i : ℕ) (z : Bool) (S : ℤ) → i < n → remaining (n - i) z S ≡ remaining (n - (i + 1)) false (left z S)
   unfolding remaining

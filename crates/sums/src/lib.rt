@@ -4,6 +4,7 @@ use kinds::Verdict;
 use register::WORDS;
 
 mod exact;
+mod split;
 
 ghost use mathlib.Core.Path.{_≡_};
 ghost use Rattle.sums.specs.Sums.{nearestOf};
