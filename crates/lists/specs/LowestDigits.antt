@@ -2,12 +2,13 @@
 use mathlib.Core.Path.{_≡_, ap, _∙_}
 use mathlib.Core.List.{List, [], _∷_, _++_}
 use Prim.Native.Nat.{ℕ, zero, suc, _+_, _*_, _^_, _≤_, _<_}
+use native.Mathlib.Nat.{mul-le-mul-right}
 use native.Mathlib.Omega.{arith}
 use lib.Pow.{pow-pos}
 use lib.ListN.{length, getD, take, set}
 use lib.Seq.{take-suc, take-suc-set, length-take-le}
 use Rattle.lists.specs.Digits.{number, Digits}
-use Rattle.lists.specs.DigitLaws.{number-nil, number-cons, number-append, number-lt, digits-head, digits-tail, digits-more}
+use Rattle.lists.specs.DigitLaws.{number-nil, number-cons, number-append, number-cut, number-lt, digits-head, digits-tail, digits-more}
 
 module _ (w : ℕ) (ds : List ℕ) where
   longer : (i d : ℕ) → i < length ds → number w (take i ds ++ (d ∷ [])) ≡ number w (take i ds) + d * 2 ^ (w * i)
@@ -26,3 +27,7 @@ module _ (w : ℕ) (ds : List ℕ) where
       digits-take zero ds D = record { below = λ j. pow-pos w }
       digits-take (suc i) [] D = D
       digits-take (suc i) (d ∷ ds) D = digits-more w (digits-head w D) (digits-take i ds (digits-tail w D))
+
+  -- a digit that isn't zero
+  pub number-some : {i : ℕ} → i < length ds → 0 < getD ds i 0 → 0 < number w ds
+  number-some {i} h d = omega (arith, number-cut w ds h, number-next h, mul-le-mul-right (2 ^ (w * i)) d, pow-pos (w * i))
