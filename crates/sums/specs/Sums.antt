@@ -43,6 +43,9 @@ pub record Split : Type 0 where
   pub answer : Parted
   pub area : List Float
 
+abbrev pub split : Parted → List Float → Split
+split r xs = record { answer = r; area = xs }
+
 unfoldable pub partsAfter : Verdict → List ℕ → List Float → Split
 partsAfter verdicts.Good ps area =
     let S = sumOf (doubles .format) ps in

@@ -1,15 +1,11 @@
 -- `sums::nearest` meets its contract: the words hold the sum of an allowed list, and are rounded; a refusal is the judge's. Assumes nothing.
 use borrow.Author.Needs.{needs}
-use mathlib.Core.Path.{_≡_, sym, ap, _∙_}
+use mathlib.Core.Path.{sym, ap, _∙_}
 use mathlib.Core.Bool.{true}
-use mathlib.Core.List.{List}
-use Prim.Native.Nat.{ℕ}
-use lib.IntN.{ℤ}
 use Rattle.ieee.specs.Units.{nearestFloat}
 use Rattle.kinds.specs.Limits.{doubles}
 use Rattle.kinds.specs.declared.Nearest.the-variants.{Sum}
 use Rattle.judge.specs.JudgeLaws.{given-when}
-use Rattle.judge.specs.Judge.{zeroSign}
 use Rattle.kinds.specs.declared.Verdict.the-variants.{Good}
 use Rattle.sums.specs.Sums.{sumOf}
 use Rattle.sums.specs.SumLaws.{sum-below-limit, total-whole}
