@@ -17,7 +17,7 @@ use lib.Ieee.Bits.{nanBits-above}
 use lib.Ieee.Nearest.{closest}
 use lib.Ieee.Scale.{overflow}
 use Rattle.units.specs.Rounding.{dropped, rnd}
-use Rattle.units.specs.Powers.{pow-pred, twice-le}
+use Rattle.units.specs.Powers.{le-or-lt, pow-pred, twice-le}
 use Rattle.units.specs.NaturalRounding.{Compared, compared, dropped-reaches, rnd-is, rnd-kept, rnd-whole, reach}
 use Rattle.ieee.specs.Units.{signOf, nearestFloat, limit, roundedBits}
 use Rattle.ieee.specs.Rounded.{prec-pos}
@@ -67,6 +67,9 @@ module _ (f : Format) where
       below =
           rw (shape f .0, ← (pow-add 2 (prec f) (ones f - 2)), shape f .1, ← (plain n)) at
           (rounded-below (prec f) (prec-pos f) n (ones f - 2))
+
+  pub bits-infinite : (n : ℕ) → ones f * hid f ≤ roundedBits f false n → limit f ≤ n
+  bits-infinite n h = elim (le-or-lt (limit f) n) [ inl l ↦ l | inr l ↦ absurd (not-le-of-lt (bits-finite n .1 l) h) ]
 
   pub bits-zero : (n : ℕ) → eqb (roundedBits f false n) 0 ≡ eqb n 0
   bits-zero n = elim (eq-zero-or-pos (dropped (prec f) n)) [

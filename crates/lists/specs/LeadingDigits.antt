@@ -74,21 +74,18 @@ size-over q k r Q R = le-antisymm (size-le (q * 2 ^ k + r) (size q + k) (rw (pow
         clash h = omega (arith, rw (pow-add 2 j k) at h, size-lt (q * 2 ^ k + r), mul-le-mul-right (2 ^ k) (size-reaches q j (omega arith)))
 
 -- as many digits of the word b are cut off as the word a over it has
-module _ (w m a b low : ℕ) (a-below : a < 2 ^ w) (low-below : low < 2 ^ (w * m)) where
-  cut : low + b * 2 ^ (w * m) + a * 2 ^ (w * suc m) ≡ (a * 2 ^ (w - size a) + b / 2 ^ size a) * 2 ^ (w * m + size a) + (b % 2 ^ size a * 2 ^ (w * m) + low)
-  cut = rw (weight-next w m, pow-add 2 (w * m) (size a)) (omega (arith, lower, upper))
-    where
-      lower : (b / 2 ^ size a * 2 ^ size a + b % 2 ^ size a) * 2 ^ (w * m) ≡ b * 2 ^ (w * m)
-      lower = ap (λ (x : ℕ). x * 2 ^ (w * m)) (div-add-mod' b (2 ^ size a))
+cut : (w m a b low : ℕ) → a < 2 ^ w
+    → low + b * 2 ^ (w * m) + a * 2 ^ (w * suc m) ≡ (a * 2 ^ (w - size a) + b / 2 ^ size a) * 2 ^ (w * m + size a) + (b % 2 ^ size a * 2 ^ (w * m) + low)
+cut w m a b low h = rw (weight-next w m, pow-add 2 (w * m) (size a)) (omega (arith, lower, upper))
+  where
+    lower : (b / 2 ^ size a * 2 ^ size a + b % 2 ^ size a) * 2 ^ (w * m) ≡ b * 2 ^ (w * m)
+    lower = ap (λ (x : ℕ). x * 2 ^ (w * m)) (div-add-mod' b (2 ^ size a))
 
-      back : (y : ℕ) → y ≤ w → w - y + y ≡ w
-      back y h = omega arith
+    back : (y : ℕ) → y ≤ w → w - y + y ≡ w
+    back y h = omega arith
 
-      upper : a * 2 ^ (w * m) * (2 ^ (w - size a) * 2 ^ size a) ≡ a * 2 ^ (w * m) * 2 ^ w
-      upper = ap (λ (x : ℕ). a * 2 ^ (w * m) * x) (sym (pow-add 2 (w - size a) (size a)) ∙ ap (λ (x : ℕ). 2 ^ x) (back (size a) (size-le a w a-below)))
-
-  cut-below : b % 2 ^ size a * 2 ^ (w * m) + low < 2 ^ (w * m + size a)
-  cut-below = rw (add-comm (w * m) (size a), pow-add 2 (size a) (w * m)) (digits-lt (mod-lt b (pow-pos (size a))) low-below)
+    upper : a * 2 ^ (w * m) * (2 ^ (w - size a) * 2 ^ size a) ≡ a * 2 ^ (w * m) * 2 ^ w
+    upper = ap (λ (x : ℕ). a * 2 ^ (w * m) * x) (sym (pow-add 2 (w - size a) (size a)) ∙ ap (λ (x : ℕ). 2 ^ x) (back (size a) (size-le a w h)))
 
 -- n words are in use, two or more: a and b are the upper ones, over the number low
 module _ (w : ℕ) (ds : List ℕ) (n : ℕ) (D : Digits w ds) (U : Used w ds (length ds) n) (two : 2 ≤ n) where
@@ -103,6 +100,9 @@ module _ (w : ℕ) (ds : List ℕ) (n : ℕ) (D : Digits w ds) (U : Used w ds (l
 
   low-below : low < 2 ^ (w * (n - 2))
   low-below = number-take-lt w ds D (omega (arith, U .within))
+
+  rest-below : b % 2 ^ size a * 2 ^ (w * (n - 2)) + low < 2 ^ (w * (n - 2) + size a)
+  rest-below = rw (add-comm (w * (n - 2)) (size a), pow-add 2 (size a) (w * (n - 2))) (digits-lt (mod-lt b (pow-pos (size a))) low-below)
 
   split : number w ds ≡ low + b * 2 ^ (w * (n - 2)) + a * 2 ^ (w * suc (n - 2))
   split =
@@ -120,13 +120,13 @@ module _ (w : ℕ) (ds : List ℕ) (n : ℕ) (D : Digits w ds) (U : Used w ds (l
       lower = omega arith
 
   parts : number w ds ≡ (a * 2 ^ (w - size a) + b / 2 ^ size a) * 2 ^ (w * (n - 2) + size a) + (b % 2 ^ size a * 2 ^ (w * (n - 2)) + low)
-  parts = split ∙ cut w (n - 2) a b low (D .below (n - 1)) low-below
+  parts = split ∙ cut w (n - 2) a b low (D .below (n - 1))
 
   pub leading-digits : number w ds / 2 ^ (w * (n - 2) + size a) ≡ a * 2 ^ (w - size a) + b / 2 ^ size a
-  leading-digits = rw parts (digits-div (a * 2 ^ (w - size a) + b / 2 ^ size a) (cut-below w (n - 2) a b low (D .below (n - 1)) low-below))
+  leading-digits = rw parts (digits-div (a * 2 ^ (w - size a) + b / 2 ^ size a) rest-below)
 
   pub leading-rest : number w ds % 2 ^ (w * (n - 2) + size a) ≡ b % 2 ^ size a * 2 ^ (w * (n - 2)) + low
-  leading-rest = rw parts (digits-mod (a * 2 ^ (w - size a) + b / 2 ^ size a) (cut-below w (n - 2) a b low (D .below (n - 1)) low-below))
+  leading-rest = rw parts (digits-mod (a * 2 ^ (w - size a) + b / 2 ^ size a) rest-below)
 
   pub leading-size : size (number w ds) ≡ size a + w * suc (n - 2)
   leading-size =

@@ -23,7 +23,8 @@ pub struct Bits {
     pub magnitude: u64,
 }
 
-// The bits of the double nearest to the register's number. Where none is finite, the pattern is the infinity's or a larger one. A zero gets the sign `zero`.
+// The bits of the double nearest to the number of a register, whose length the callers know. Where that double isn't finite, the pattern is the infinity's or
+// a larger one. A zero gets the sign `zero`.
 pub fn nearest_bits(register: &[u64], zero: bool) -> Bits
     requires { ⌜ length (now register) ≡ wordCount ⌝ }
     ensures { λ r. ⌜ r ≡ bitsOf zero (wholeOf (now (register .entry))) ⌝ }
@@ -43,7 +44,7 @@ pub fn nearest_bits(register: &[u64], zero: bool) -> Bits
     }
 }
 
-// The double with these bits, which are a finite one's.
+// The double with these bits, which the callers know to be a finite one's.
 pub fn double(b: Bits) -> f64
     requires { ⌜ b .magnitude < ones binary64 * hid binary64 ⌝ }
     ensures { λ r. ⌜ r ≡ ofBits binary64 (cond (b .negative) (top binary64) 0 + b .magnitude) ⌝ }

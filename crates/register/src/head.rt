@@ -23,7 +23,7 @@ pub fn size(x: u64) -> u64
     (64 - u64::leading_zeros(x)) as u64
 }
 
-// How many of the n lowest words are in use. It looks no further than the highest that isn't zero.
+// How many of the n lowest words are in use; there are n or more. It looks no further than the highest that isn't zero.
 fn used(words: &[u64], n: usize) -> usize
     requires { ⌜ n ≤ length (now words) ⌝ }
     ensures { λ r. ⌜ Used wordBits (now (words .entry)) n r ⌝ }
@@ -38,7 +38,7 @@ fn used(words: &[u64], n: usize) -> usize
     k
 }
 
-// The leading 64 digits of the words a and b, where a has y digits. No shift is by 64.
+// The leading 64 digits of the words a and b, where a has y digits, one or more. No shift is by 64.
 fn joined(a: u64, b: u64, y: u64) -> u64
     requires { ⌜ (0 < y) × (y ≤ wordBits) × (a < 2 ^ y) ⌝ }
     ensures { λ r. ⌜ r ≡ a * 2 ^ (wordBits - y) + b / 2 ^ y ⌝ }
@@ -46,7 +46,7 @@ fn joined(a: u64, b: u64, y: u64) -> u64
     (a << (64 - y)) + ((b >> 1) >> (y - 1))
 }
 
-// Whether anything stands in what was cut off a word or in the n words below it.
+// Whether anything stands in what was cut off a word or in the n words below it; there are n or more.
 fn rest(cut: u64, words: &[u64], n: usize) -> bool
     requires { ⌜ n ≤ length (now words) ⌝ }
     ensures { λ r. ⌜ r ≡ ltb 0 (cut + number wordBits (take n (now (words .entry)))) ⌝ }
@@ -57,7 +57,8 @@ fn rest(cut: u64, words: &[u64], n: usize) -> bool
     0 < used(words, n)
 }
 
-// A number of one word is its own head. Any other has its leading digits in the two upper words in use.
+// A number of one word is its own head. Any other has its leading digits in the two upper words in use. Callers hold a register's 33 words, so that the
+// digits below can be counted.
 pub fn leading(words: &[u64]) -> Head
     requires { ⌜ length (now words) ≡ wordCount ⌝ }
     ensures { λ r. ⌜ r ≡ headOf (number wordBits (now (words .entry))) ⌝ }

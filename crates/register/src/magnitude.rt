@@ -5,8 +5,8 @@ ghost use lib.ListN.{length};
 ghost use Rattle.lists.specs.Digits.{number};
 ghost use Rattle.register.specs.Register.{wordBits};
 
-// The negation in two's complement: each word's complement, and one added to the lowest. The carry out of each word is read from the wrapped sum. Only the
-// zero, which has no other sign, carries out of the top.
+// The negation in two's complement: each word's complement, and one added to the lowest. The carry out of each word is read from the wrapped sum. It is
+// asked of negative numbers alone: zero would carry out of the top.
 pub fn negate(register: &[u64], words: &mut [u64])
     requires { ⌜ (length (now words) ≡ length (now register)) × (0 < number wordBits (now register)) ⌝ }
     ensures { λ _. ⌜ number wordBits (now (words .exit)) ≡ 2 ^ (wordBits * length (now (register .entry))) - number wordBits (now (register .entry)) ⌝ }

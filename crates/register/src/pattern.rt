@@ -1,5 +1,6 @@
 // The pattern of the double nearest to a number of units, by its leading digits.
 use crate::head::Head;
+use crate::head::size;
 ghost use mathlib.Core.Path.{_≡_};
 ghost use Prim.Native.Nat.{_*_, _^_, _<_, _≤_};
 ghost use lib.Ieee.{binary64, prec};
@@ -11,14 +12,15 @@ ghost use Rattle.register.specs.Head.{headBits};
 fn excess(x: u64) -> u64
     ensures { λ r. ⌜ r ≡ dropped (prec binary64) x ⌝ }
 {
-    let n = crate::head::size(x);
+    let n = size(x);
     if n < 53 {
         return 0;
     }
     n - 53
 }
 
-// x / 2^d to the nearest whole number, a tie to the even one. A rest below x moves it off a tie.
+// x / 2^d to the nearest whole number, a tie to the even one. A rest below x moves it off a tie. A significand has room for what is left of x, so that one
+// more fits a word.
 fn quotient(x: u64, d: u64, rest: bool) -> u64
     requires { ⌜ (d < 64) × (x < 2 ^ prec binary64 * 2 ^ d) ⌝ }
     ensures { λ r. ⌜ r ≡ closestOver rest x (2 ^ d) ⌝ }

@@ -1,14 +1,13 @@
 -- `register::round` meets its contract: the pattern reaches the infinity's exactly where the nearest double isn't finite. Assumes nothing.
 use borrow.Author.Needs.{needs}
 use mathlib.Core.Path.{_≡_, sym, ap, _∙_}
-use mathlib.Core.Logic.{inl, inr}
 use mathlib.Core.Bool.{false}
-use native.Mathlib.Nat.{not-le-of-lt}
+use Prim.Native.Nat.{_*_, _≤_}
+use native.Mathlib.Omega.{arith}
 use lib.IntN.{natAbs}
-use lib.Ieee.{binary64}
-use Rattle.units.specs.Powers.{le-or-lt}
-use Rattle.ieee.specs.Units.{limit, nearestFloat}
-use Rattle.ieee.specs.NearestBits.{bits-finite, bits-nearest}
+use lib.Ieee.{binary64, hid, ones}
+use Rattle.ieee.specs.Units.{nearestFloat}
+use Rattle.ieee.specs.NearestBits.{bits-finite, bits-infinite, bits-nearest}
 use Rattle.kinds.specs.declared.Nearest.the-variants.{Sum}
 use Rattle.register.specs.Register.{wholeOf}
 use Rattle.register.specs.RoundedLaws.{rounded-length, rounded-beyond, rounded-sum}
@@ -16,7 +15,7 @@ use Rattle.register.proofs.round.Statement.{statement}
 use Rattle.register.proofs.round.Tie as tie
 
 returns : tie.Need-returns
-returns c = sym (rounded-length (c .before .before .args .register .now) (c .if1 .taken))
+returns c = sym (rounded-length (c .before .before .args .register .now) (λ e. omega (arith, e)))
 
 nearest-bits-requires : tie.Need-nearest-bits-requires
 nearest-bits-requires c κs = search needs
@@ -25,11 +24,8 @@ returns-2 : tie.Need-returns-2
 returns-2 c =
     let b = c .before .before in
     let ws = b .before .before .before .args .register .now in
-    let n = natAbs (wholeOf ws) in
-    sym (rounded-beyond ws (b .before .if1 .left) (elim (le-or-lt (limit binary64) n) [
-      | inl l ↦ l
-      | inr l ↦ absurd (not-le-of-lt (bits-finite binary64 n .1 l) (rw (b .nearest-bits .ensures) at (c .if2 .taken)))
-    ]))
+    let t : ones binary64 * hid binary64 ≤ b .nearest-bits .result .magnitude = omega arith in
+    sym (rounded-beyond ws (b .before .if1 .left) (bits-infinite binary64 (natAbs (wholeOf ws)) (rw (b .nearest-bits .ensures) at t)))
 
 double-requires : tie.Need-double-requires
 double-requires c κs = search needs

@@ -20,7 +20,7 @@ returns : tie.Need-returns
 returns c =
     let l = c .before .before in
     let ws = l .before .before .args .words .now in
-    head-one ws (l .used .result) (record { below = λ i. c .shared-slice-known2 .given i .fits }) (l .used .ensures) (c .before .if1 .taken)
+    head-one ws (l .used .result) (record { below = λ i. c .shared-slice-known2 .given i .fits }) (l .used .ensures) (omega arith)
 
 sub-a : tie.Need-sub-a
 sub-a c = search needs

@@ -49,7 +49,7 @@ add-twice c = rw (unit (c .pre .0), byte (c .args .rest)) (omega (arith, small (
 returns : tie.Need-returns
 returns c =
     let g = c .before in
-    sym (over-down (g .args .rest) (g .args .x) (2 ^ g .args .d) (rw (unit (g .pre .0), byte (g .args .rest)) at (c .if1 .taken)))
+    sym (over-down (g .args .rest) (g .args .x) (2 ^ g .args .d) (omega (arith, rw (unit (g .pre .0), byte (g .args .rest)) at (c .if1 .taken))))
 
 add-result : tie.Need-add-result
 add-result c = omega (arith, div-lt-iff-lt-mul (pow-pos (c .before .before .args .d)) .1 (c .before .before .pre .1))
@@ -57,7 +57,7 @@ add-result c = omega (arith, div-lt-iff-lt-mul (pow-pos (c .before .before .args
 returns-2 : tie.Need-returns-2
 returns-2 c =
     let g = c .before .before in
-    rw add-one (sym (over-up (g .args .rest) (g .args .x) (2 ^ g .args .d) (rw (unit (g .pre .0), byte (g .args .rest)) at (c .if2 .taken))))
+    rw add-one (sym (over-up (g .args .rest) (g .args .x) (2 ^ g .args .d) (omega (arith, rw (unit (g .pre .0), byte (g .args .rest)) at (c .if2 .taken)))))
 
 add-result-2 : tie.Need-add-result-2
 add-result-2 c = omega (arith, div-lt-iff-lt-mul (pow-pos (c .before .before .args .d)) .1 (c .before .before .pre .1))
