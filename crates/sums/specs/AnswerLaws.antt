@@ -2,17 +2,18 @@
 use mathlib.Core.Logic.{inl, inr}
 use mathlib.Core.Path.{_≡_, sym, ap, _∙_}
 use mathlib.Core.Bool.{Bool, false}
-use mathlib.Core.List.{List}
+use mathlib.Core.List.{List, map}
 use Prim.Native.Nat.{ℕ, suc, _-_, _^_, _≤_}
 use borrow.Author.Tests.{ne-eqb}
 use native.Mathlib.Nat.{not-le-of-lt}
 use lib.Dec.{eqb, eqb·suc-zero}
-use lib.IntN.{ℤ, natAbs}
+use lib.IntN.{ℤ, natAbs, _-ℤ_}
 use lib.Pow.{pow-pos}
 use lib.ListN.{length}
 use lib.Ieee.{Float, Format}
+use Rattle.units.specs.Whole.{exactSum}
 use Rattle.units.specs.Powers.{le-or-lt}
-use Rattle.ieee.specs.Units.{nearestFloat}
+use Rattle.ieee.specs.Units.{value, nearestFloat}
 use Rattle.lists.specs.Digits.{number}
 use Rattle.lists.specs.TwosComplement.{signed-low, signed-high}
 use Rattle.register.specs.Register.{wordBits, registerBits, wholeOf}
@@ -34,12 +35,6 @@ module _ (ps : List ℕ) where
   pub nearest-refused : {v : Verdict} (k p : ℕ) → v ≡ verdicts.Refused k p → nearestAfter v ps ≡ nearests.Refused k p
   unfolding nearestAfter
   nearest-refused k p e = rw e
-
-  parts-good : {v : Verdict} (area : List Float) → v ≡ verdicts.Good → (partsAfter v ps area .area
-      ≡ parts (doubles .format) (length area) (zeroSign ps) (sumOf (doubles .format) ps)) × (partsAfter v ps area .answer
-      ≡ parteds.Parts (addUp (doubles .format) (parts (doubles .format) (length area) (zeroSign ps) (sumOf (doubles .format) ps)) (sumOf (doubles .format) ps)))
-  unfolding partsAfter
-  parts-good area e = (rw e, rw e)
 
   pub parts-refused : {v : Verdict} (area : List Float) (k p : ℕ) → v ≡ verdicts.Refused k p → split (parteds.Refused k p) area ≡ partsAfter v ps area
   unfolding partsAfter
@@ -63,22 +58,14 @@ pub parts-answer : {v : Verdict} (ps ws : List ℕ) (area xs : List Float) (z b 
     → xs ≡ parts (doubles .format) (length area) z (sumOf (doubles .format) ps)
     → wholeOf ws ≡ remaining (doubles .format) (length area) z (sumOf (doubles .format) ps) → b ≡ eqb (number wordBits ws) 0
     → split (parteds.Parts b) xs ≡ partsAfter v ps area
-parts-answer {v} ps ws area xs z b e zs x w n = sym (λ i. record { answer = (g .1 ∙ ap parteds.Parts adds) i; area = (g .0 ∙ sym given) i })
+unfolding partsAfter
+parts-answer ps ws area xs z b e zs x w n = rw (e, ← zs) (λ i. record { answer = parteds.Parts (adds i); area = x i })
   where
-    f : Format
-    f = doubles .format
-
     S : ℤ
     S = sumOf (doubles .format) ps
 
-    g : (partsAfter v ps area .area ≡ parts (doubles .format) (length area) (zeroSign ps) (sumOf (doubles .format) ps)) × (partsAfter v ps area .answer
-        ≡ parteds.Parts (addUp (doubles .format) (parts (doubles .format) (length area) (zeroSign ps) (sumOf (doubles .format) ps)) (sumOf (doubles .format) ps)))
-    g = parts-good ps area e
+    same : wholeOf ws ≡ S -ℤ exactSum (map (value (doubles .format)) (parts (doubles .format) (length area) z S))
+    same = w ∙ sym (parts-left (doubles .format) (length area) z S)
 
-    given : xs ≡ parts (doubles .format) (length area) (zeroSign ps) (sumOf (doubles .format) ps)
-    given = x ∙ ap (λ (s : Bool). parts (doubles .format) (length area) s S) zs
-
-    adds : addUp (doubles .format) (parts (doubles .format) (length area) (zeroSign ps) (sumOf (doubles .format) ps)) (sumOf (doubles .format) ps) ≡ b
-    adds =
-        ap (λ (r : ℤ). eqb (natAbs r) 0) (parts-left (doubles .format) (length area) (zeroSign ps) S ∙ sym (w ∙ ap (λ (s : Bool). remaining (doubles .format) (length area) s S) zs))
-        ∙ sym (n ∙ whole-zero ws)
+    adds : b ≡ addUp (doubles .format) (parts (doubles .format) (length area) z S) S
+    adds = n ∙ whole-zero ws ∙ ap (λ (r : ℤ). eqb (natAbs r) 0) same

@@ -49,7 +49,9 @@ module _ {part : Float} (z : Bool) (S : ℤ) (l : natAbs S < limit (doubles .for
       units = ap (value (doubles .format)) (part-back ∙ e)
 
       whole : wholeOf ws ≡ S -ℤ value (doubles .format) (nearestFloat (doubles .format) z S)
-      whole = ap wholeOf (w ∙ ap (λ (u : ℤ). wordsOf (S -ℤ u)) units) ∙ whole-words (S -ℤ value (doubles .format) (nearestFloat (doubles .format) z S)) left-below
+      whole =
+          ap wholeOf (w ∙ ap (λ (u : ℤ). wordsOf (S -ℤ u)) units)
+          ∙ whole-words (S -ℤ value (doubles .format) (nearestFloat (doubles .format) z S)) left-below
 
 -- ---- a loop over n parts of S: i of them stand in the area, the words hold what is left, and the next zero has the sign `sign`
 pub record Splitting (n : ℕ) (z : Bool) (S : ℤ) (ws : List ℕ) (area : List Float) (sign : Bool) (i : ℕ) : Type 0 where
@@ -78,7 +80,8 @@ module _ {n : ℕ} {z : Bool} {S : ℤ} {ws : List ℕ} {area : List Float} {sig
     left = I .left ∙ rw (p .0) (remaining-next (doubles .format) n i sign (wholeOf ws) h);
   }
     where
-      p : (wholeOf es ≡ wholeOf ws -ℤ value (doubles .format) (nearestFloat (doubles .format) sign (wholeOf ws))) × (natAbs (wholeOf es) < limit (doubles .format))
+      p : (wholeOf es ≡ wholeOf ws -ℤ value (doubles .format) (nearestFloat (doubles .format) sign (wholeOf ws)))
+          × (natAbs (wholeOf es) < limit (doubles .format))
       p = part-left sign (wholeOf ws) (I .below) e w
 
       next : take i area ++ parts (doubles .format) (n - i) sign (wholeOf ws)

@@ -54,7 +54,8 @@ loop-again c =
     let t = d .before .before in
     let l = t .before in
     let v = l .loop .inv in
-    splitting-goes-on v (w .withdraw .last .0) (rw (v .wide) at (t .loop-test .taken)) (d .nearest-double .ensures) (w .withdraw .kept .0 ∙ v .long) (w .withdraw .ensures)
+    splitting-goes-on v (w .withdraw .last .0) (rw (v .wide) at (t .loop-test .taken)) (d .nearest-double .ensures)
+    (w .withdraw .kept .0 ∙ v .long) (w .withdraw .ensures)
 
 same-length : tie.Need-same-length Inv-loop μ-loop
 same-length c = let l = c .before in l .loop .inv .long ∙ sym (l .before .before .before .pre .0)
