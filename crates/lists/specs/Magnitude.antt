@@ -6,31 +6,22 @@ use mathlib.Core.List.{List}
 use Prim.Native.Nat.{ℕ, zero, suc, _+_, _-_, _*_, _^_, _≤_, _<_}
 use native.Mathlib.Nat.{add-comm, mul-suc, lt-of-not-le, mul-le-mul-right}
 use native.Mathlib.Omega.{arith}
-use borrow.Author.Tests.{lt-ltb, le-ltb}
 use lib.Arith.{digits-lt}
 use lib.Pow.{pow-add}
-use lib.IntN.{pos, negsuc, natAbs}
+use lib.IntN.{natAbs}
 use lib.ListN.{length, getD, take, set}
 use lib.Seq.{take-all, take-length}
 use Rattle.lists.specs.Digits.{number, Digits, signed}
 use Rattle.lists.specs.DigitLaws.{weight-next, number-nil}
+use Rattle.lists.specs.TwosComplement.{signed-high}
 use Rattle.lists.specs.LowestDigits.{number-next, number-next-set, number-take-lt}
 
-module _ (b u : ℕ) where
-  pub signed-positive : u < 2 ^ (b - 1) → signed b u ≡ pos u
-  unfolding signed
-  signed-positive h = rw (lt-ltb u (2 ^ (b - 1)) h)
-
-  pub signed-negative : 2 ^ (b - 1) ≤ u → signed b u ≡ negsuc (2 ^ b - suc u)
-  unfolding signed
-  signed-negative h = rw (le-ltb u (2 ^ (b - 1)) h)
-
-  -- 2 ^ b - u, and no less at the lowest number of all
-  pub magnitude-negative : 2 ^ (b - 1) ≤ u → u < 2 ^ b → natAbs (signed b u) ≡ 2 ^ b - u
-  magnitude-negative h l = rw (signed-negative h) (back (2 ^ b) l)
-    where
-      back : (B : ℕ) → u < B → suc (B - suc u) ≡ B - u
-      back B l = omega arith
+-- 2 ^ b - u, and no less at the lowest number of all
+pub magnitude-negative : (b u : ℕ) → 2 ^ (b - 1) ≤ u → u < 2 ^ b → natAbs (signed b u) ≡ 2 ^ b - u
+magnitude-negative b u h l = rw (signed-high b h) (back (2 ^ b) l)
+  where
+    back : (B : ℕ) → u < B → suc (B - suc u) ≡ B - u
+    back B l = omega arith
 
 -- the sign is told by the top digit
 pub top-digit : {w : ℕ} (ds : List ℕ) (m : ℕ) → 0 < w → length ds ≡ suc m → Digits w ds → (getD ds m 0 < 2 ^ (w - 1)) ↔ (number w ds < 2 ^ (w * suc m - 1))

@@ -17,7 +17,8 @@ use Rattle.ieee.specs.Units.{signOf, roundedBits}
 use Rattle.ieee.specs.NearestBits.{bits-zero}
 use Rattle.lists.specs.Digits.{number, Digits}
 use Rattle.lists.specs.DigitLaws.{number-lt}
-use Rattle.lists.specs.Magnitude.{signed-positive, signed-negative, magnitude-negative, top-digit}
+use Rattle.lists.specs.TwosComplement.{signed-low, signed-high}
+use Rattle.lists.specs.Magnitude.{magnitude-negative, top-digit}
 use Rattle.register.specs.Register.{wordBits, wordCount, registerBits, wholeOf}
 use Rattle.register.specs.Head.{headOf, headBits}
 use Rattle.register.specs.HeadLaws.{head-bits}
@@ -35,7 +36,7 @@ module _ (ds : List ℕ) (l : length ds ≡ wordCount) (D : Digits wordBits ds) 
   bits-positive z p h e = rw (whole, sign-positive z (number wordBits ds), ← (bits-zero binary64 (number wordBits ds)), ← rounded)
     where
       whole : wholeOf ds ≡ pos (number wordBits ds)
-      whole = signed-positive registerBits (number wordBits ds) (top-digit ds (wordCount - 1) (lit< tt) l D .0 h)
+      whole = signed-low registerBits (top-digit ds (wordCount - 1) (lit< tt) l D .0 h)
 
       rounded : p ≡ roundedBits binary64 false (number wordBits ds)
       rounded = e ∙ head-bits (number wordBits ds)
@@ -55,7 +56,7 @@ module _ (ds : List ℕ) (l : length ds ≡ wordCount) (D : Digits wordBits ds) 
     bits-negative z p v e f = λ i. record { negative = sign i; magnitude = rounded i }
       where
         sign : true ≡ signOf z (wholeOf ds)
-        sign = sym (ap (signOf z) (signed-negative registerBits (number wordBits ds) half-or-more))
+        sign = sym (ap (signOf z) (signed-high registerBits half-or-more))
 
         below : number wordBits ds < 2 ^ registerBits
         below = rw l at (number-lt wordBits ds D)
