@@ -17,10 +17,10 @@ pub const WORDS: usize = 33;
 pub fn add(register: &mut [u64], p: u64) -> Entry
     ensures { λ r. ⌜ outcome r (now (register .exit)) ≡ added (now (register .entry)) p ⌝ }
 {
+    let fault = judge::fault(p);
     if register.len() != WORDS {
         return Entry::Refused(4, 0);
     }
-    let fault = judge::fault(p);
     if fault != 0 {
         return Entry::Refused(fault, 0);
     }
