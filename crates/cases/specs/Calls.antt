@@ -1,0 +1,36 @@
+-- A call of the library on given input, and what is told of it: what its caller hears, and its lent area afterwards. Definitions only.
+-- The meanings are those that the public contracts cite.
+use mathlib.Core.List.{List, [], _∷_, map}
+use Prim.Native.Nat.{ℕ}
+use lib.ListN.{replicate}
+use lib.Ieee.{binary64, ofBits, toBits}
+use Rattle.kinds.specs.Heard.{Heard, nearestHeard, partedHeard, entryHeard}
+use Rattle.register.specs.Register.{added, withdrawn, rounded}
+use Rattle.sums.specs.Sums.{nearestOf, partsOf}
+
+pub data Call : Type 0 where
+  -- the nearest sum of a list; its sum in k parts, from an area of zeros
+  nearestSum : List ℕ → Call
+  sumInParts : List ℕ → ℕ → Call
+  -- a register's words, and the pattern of the number to add or to withdraw; rounding them
+  add : List ℕ → ℕ → Call
+  withdraw : List ℕ → ℕ → Call
+  round : List ℕ → Call
+
+pub record Told : Type 0 where
+  pub heard : Heard
+  pub area : List ℕ
+
+unfoldable pub told : Call → Told
+told (nearestSum ps) = record { heard = nearestHeard (nearestOf ps); area = [] }
+told (sumInParts ps k) =
+    let s = partsOf ps (replicate k (ofBits binary64 0)) in
+    record { heard = partedHeard (s .answer); area = map (toBits binary64) (s .area) }
+told (add ws p) = record { heard = entryHeard (added ws p .answer); area = added ws p .words }
+told (withdraw ws p) = record { heard = entryHeard (withdrawn ws p .answer); area = withdrawn ws p .words }
+told (round ws) = record { heard = nearestHeard (rounded ws); area = [] }
+
+-- one row of the table
+pub record Row : Type 0 where
+  pub call : Call
+  pub expected : Told

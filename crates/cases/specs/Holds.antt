@@ -1,0 +1,111 @@
+-- Every row of the table holds: one test that is computed over the whole table, and one law from the test to each row. Assumes nothing.
+use mathlib.Core.Path.{_≡_, refl, sym, ap, _∙_}
+use mathlib.Core.Bool.{Bool, true, false, cond, _&&_}
+use mathlib.Core.List.{List, [], _∷_}
+use Prim.Native.Nat.{ℕ, zero, suc, _<_}
+use native.Mathlib.Omega.{arith}
+use lib.Dec.{T, eqb, eqb→eq}
+use lib.ListN.{length, getD}
+use lib.Ieee.Fits.{and-l, and-r}
+use lib.Ieee.{ofBits, toBits}
+use Rattle.lists.specs.Digits.{number, digits, signed, residue}
+use Rattle.ieee.specs.Units.{value, nearestFloat}
+use Rattle.judge.specs.Judge.{faultOf, firstFault, judged}
+use Rattle.register.specs.Register.{enter, rounded}
+use Rattle.sums.specs.Sums as S
+use Rattle.kinds.specs.Heard.{nowhere, at, Heard, refused, more, done, nearest, parts, accepted, count}
+use Rattle.cases.specs.Calls.{Told, Row, told}
+use Rattle.cases.specs.Table.{table}
+
+-- ---- what is heard, as numbers, and back
+code : Heard → List ℕ
+code (refused k nowhere) = 0 ∷ k ∷ []
+code (refused k (at p)) = 1 ∷ k ∷ p ∷ []
+code (more s t u n b r) = 2 ∷ s ∷ t ∷ u ∷ n ∷ b ∷ r ∷ []
+code (done x r) = 3 ∷ x ∷ r ∷ []
+code (nearest x) = 4 ∷ x ∷ []
+code (parts true) = 5 ∷ []
+code (parts false) = 6 ∷ []
+code accepted = 7 ∷ []
+code (count n) = 8 ∷ n ∷ []
+
+decode : List ℕ → Heard
+decode l =
+    let tag = getD l 0 0 in
+    cond (eqb tag 0) (refused (getD l 1 0) nowhere)
+    (cond (eqb tag 1) (refused (getD l 1 0) (at (getD l 2 0)))
+    (cond (eqb tag 2) (more (getD l 1 0) (getD l 2 0) (getD l 3 0) (getD l 4 0) (getD l 5 0) (getD l 6 0))
+    (cond (eqb tag 3) (done (getD l 1 0) (getD l 2 0))
+    (cond (eqb tag 4) (nearest (getD l 1 0))
+    (cond (eqb tag 5) (parts true)
+    (cond (eqb tag 6) (parts false)
+    (cond (eqb tag 7) accepted
+    (count (getD l 1 0)))))))))
+
+decoded : (h : Heard) → decode (code h) ≡ h
+unfolding decode code
+decoded (refused k nowhere) = refl
+decoded (refused k (at p)) = refl
+decoded (more s t u n b r) = refl
+decoded (done x r) = refl
+decoded (nearest x) = refl
+decoded (parts true) = refl
+decoded (parts false) = refl
+decoded accepted = refl
+decoded (count n) = refl
+
+-- ---- the test
+same : List ℕ → List ℕ → Bool
+same [] [] = true
+same [] (y ∷ ys) = false
+same (x ∷ xs) [] = false
+same (x ∷ xs) (y ∷ ys) = eqb x y && same xs ys
+
+passes : Row → Bool
+unfolding same code told
+passes r = same (code (told (r .call) .heard)) (code (r .expected .heard)) && same (told (r .call) .area) (r .expected .area)
+
+every : List Row → Bool
+unfolding passes
+every [] = true
+every (r ∷ rs) = passes r && every rs
+
+-- ---- the law
+same-lists : (xs ys : List ℕ) → T (same xs ys) → xs ≡ ys
+unfolding same
+same-lists [] [] t = refl
+same-lists [] (y ∷ ys) t = absurd t
+same-lists (x ∷ xs) [] t = absurd t
+same-lists (x ∷ xs) (y ∷ ys) t = λ i. eqb→eq x y (and-l (eqb x y) (same xs ys) t) i ∷ same-lists xs ys (and-r (eqb x y) (same xs ys) t) i
+
+row-holds : (r : Row) → T (passes r) → told (r .call) ≡ r .expected
+unfolding passes
+row-holds r t = λ i. record { heard = heard i; area = area i }
+  where
+    a : Told
+    a = told (r .call)
+
+    b : Told
+    b = r .expected
+
+    codes : code (a .heard) ≡ code (b .heard)
+    codes = same-lists (code (a .heard)) (code (b .heard)) (and-l (same (code (a .heard)) (code (b .heard))) (same (a .area) (b .area)) t)
+
+    heard : a .heard ≡ b .heard
+    heard = sym (decoded (a .heard)) ∙ ap decode codes ∙ decoded (b .heard)
+
+    area : a .area ≡ b .area
+    area = same-lists (a .area) (b .area) (and-r (same (code (a .heard)) (code (b .heard))) (same (a .area) (b .area)) t)
+
+rows-hold : (rs : List Row) → T (every rs) → (k : ℕ) (d : Row) → k < length rs → told (getD rs k d .call) ≡ getD rs k d .expected
+unfolding every
+rows-hold [] t k d h = absurd (omega arith)
+rows-hold (r ∷ rs) t zero d h = row-holds r (and-l (passes r) (every rs) t)
+rows-hold (r ∷ rs) t (suc k) d h = rows-hold rs (and-r (passes r) (every rs) t) k d (omega arith)
+
+computed : every table ≡ true
+unfolding every table judged firstFault faultOf S.nearestAfter S.partsAfter S.parts enter rounded number digits signed residue nearestFloat value ofBits toBits
+computed = refl
+
+pub table-holds : (k : ℕ) (d : Row) → k < length table → told (getD table k d .call) ≡ getD table k d .expected
+table-holds k d h = rows-hold table (rw computed tt) k d h

@@ -1,0 +1,47 @@
+-- The table. Definitions only. A number of document 01 is written by its pattern: 1 is 3FF0000000000000, 2^-53 is 3CA0000000000000, 2^-1074 is 1.
+use mathlib.Core.Bool.{true}
+use mathlib.Core.List.{List, [], _∷_, _++_}
+use Prim.Native.Nat.{ℕ, _-_, _^_}
+use lib.ListN.{replicate}
+use Rattle.kinds.specs.Heard.{nowhere, at, refused, nearest, parts, accepted}
+use Rattle.cases.specs.Calls.{Row, nearestSum, sumInParts, add, withdraw, round}
+
+-- the register of zeros; the one after 1 was withdrawn from it: "words 0 to 15 zero, word 16 = 2^64 - 2^50, the rest all ones"
+abbrev zeros : List ℕ
+zeros = replicate 33 0
+
+abbrev lessOne : List ℕ
+lessOne = replicate 16 0 ++ ((2 ^ 64 - 2 ^ 50) ∷ replicate 16 (2 ^ 64 - 1))
+
+-- the largest register
+abbrev largest : List ℕ
+largest = replicate 32 (2 ^ 64 - 1) ++ ((2 ^ 63 - 1) ∷ [])
+
+-- 2^2098 - 2^2044 units: 54 ones from digit 2044 on, which is digit 60 of word 31; and one unit less
+abbrev tooLarge : List ℕ
+tooLarge = replicate 31 0 ++ ((2 ^ 64 - 2 ^ 60) ∷ (2 ^ 50 - 1) ∷ [])
+
+abbrev justNot : List ℕ
+justNot = replicate 31 (2 ^ 64 - 1) ++ ((2 ^ 64 - 2 ^ 60 - 1) ∷ (2 ^ 50 - 1) ∷ [])
+
+unfoldable pub table : List Row
+table =
+    -- 5, "nearest 1; two parts 1 and 2^-53, exact"
+    record { call = nearestSum (0x3FF0000000000000 ∷ 0x3CA0000000000000 ∷ []); expected = record { heard = nearest 0x3FF0000000000000; area = [] } }
+    ∷ record {
+      call = sumInParts (0x3FF0000000000000 ∷ 0x3CA0000000000000 ∷ []) 2;
+      expected = record { heard = parts true; area = 0x3FF0000000000000 ∷ 0x3CA0000000000000 ∷ [] };
+    }
+    -- 6, "nearest 3FF0000000000001"
+    ∷ record { call = nearestSum (0x3FF0000000000000 ∷ 0x3CA0000000000000 ∷ 1 ∷ []); expected = record { heard = nearest 0x3FF0000000000001; area = [] } }
+    -- 9, "refusal 3, place 0"
+    ∷ record { call = nearestSum (0x7E70000000000001 ∷ []); expected = record { heard = refused 3 (at 0); area = [] } }
+    -- 10
+    ∷ record { call = withdraw zeros 0x3FF0000000000000; expected = record { heard = accepted; area = lessOne } }
+    ∷ record { call = add lessOne 0x3FF0000000000000; expected = record { heard = accepted; area = zeros } }
+    -- 11
+    ∷ record { call = add largest 1; expected = record { heard = refused 9 nowhere; area = largest } }
+    -- 12
+    ∷ record { call = round tooLarge; expected = record { heard = refused 10 nowhere; area = [] } }
+    ∷ record { call = round justNot; expected = record { heard = nearest 0x7FEFFFFFFFFFFFFF; area = [] } }
+    ∷ []
