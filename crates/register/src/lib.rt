@@ -26,7 +26,8 @@ pub fn add(register: &mut [u64], p: u64) -> Entry
     ensures { λ r. ⌜ outcome r (now (register .exit)) ≡ added (now (register .entry)) p ⌝ }
 {
     let fault = judge::fault(p);
-    if register.len() != WORDS {
+    let n = register.len();
+    if n != WORDS {
         return Entry::Refused(4, 0);
     }
     if fault != 0 {
