@@ -10,19 +10,27 @@ use Rattle.lists.specs.Carry.{two, Carries, Carried}
 
 module _ {w : ℕ} {xs ys : List ℕ} {m i c b d carry : ℕ} where
   -- the next digit of a sum, and of a difference
-  pub carried-add : i < length ys → Carried w xs m ys i c → Carries w (getD ys i 0) b c d carry
+  carried-add : i < length ys → Carried w xs m ys i c → Carries w (getD ys i 0) b c d carry
       → Carried w xs (m + b * 2 ^ (w * i)) (set ys i d) (i + 1) carry
   carried-add h A s = record {
     total = rw (add-one i, weight-next w i) (omega (arith, number-set w ys i d h, ap (λ (n : ℕ). n * 2 ^ (w * i)) (s .total)));
     small = s .small;
   }
 
-  pub carried-sub : i < length xs → Carried w xs m ys i c → Carries w d b c (getD xs i 0) carry
+  carried-sub : i < length xs → Carried w xs m ys i c → Carries w d b c (getD xs i 0) carry
       → Carried w (set xs i d) (m + b * 2 ^ (w * i)) ys (i + 1) carry
   carried-sub h A s = record {
     total = rw (add-one i, weight-next w i) (omega (arith, number-set w xs i d h, ap (λ (n : ℕ). n * 2 ^ (w * i)) (s .total)));
     small = s .small;
   }
+
+-- and where nothing but the carry is added or taken
+module _ {w : ℕ} {xs ys : List ℕ} {m i c d carry : ℕ} where
+  pub carried-up : i < length ys → Carried w xs m ys i c → Carries w (getD ys i 0) 0 c d carry → Carried w xs m (set ys i d) (i + 1) carry
+  carried-up h A s = let n = carried-add h A s in record { total = omega (arith, n .total); small = n .small }
+
+  pub borrowed-up : i < length xs → Carried w xs m ys i c → Carries w d 0 c (getD xs i 0) carry → Carried w (set xs i d) m ys (i + 1) carry
+  borrowed-up h A s = let n = carried-sub h A s in record { total = omega (arith, n .total); small = n .small }
 
 next : (k : ℕ) → k + 1 + 1 ≡ k + 2
 next k = omega arith

@@ -25,10 +25,11 @@ pub const WORDS: usize = 33;
 pub fn add(register: &mut [u64], p: u64) -> Entry
     ensures { λ r. ⌜ outcome r (now (register .exit)) ≡ added (now (register .entry)) p ⌝ }
 {
-    if register.len() != WORDS {
+    let fault = judge::fault(p);
+    let n = register.len();
+    if n != WORDS {
         return Entry::Refused(4, 0);
     }
-    let fault = judge::fault(p);
     if fault != 0 {
         return Entry::Refused(fault, 0);
     }

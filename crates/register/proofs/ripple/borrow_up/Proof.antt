@@ -6,7 +6,7 @@ use Prim.Native.Nat.{_-_, _*_, _^_, _≤_}
 use native.Mathlib.Omega.{arith}
 use lib.ListN.{length}
 use Rattle.lists.specs.Carry.{Carried}
-use Rattle.lists.specs.CarryLaws.{carried-sub}
+use Rattle.lists.specs.CarryLaws.{borrowed-up}
 use Rattle.register.specs.Register.{wordBits}
 use Rattle.register.proofs.ripple.borrow_up.Statement.{statement}
 use Rattle.register.proofs.ripple.borrow_up.Tie as tie
@@ -54,8 +54,7 @@ loop-less c = search needs
 loop-again : tie.Need-loop-again Inv-loop μ-loop
 loop-again c =
     let l = c .before .before .before .before in
-    let next = carried-sub (omega arith) (l .loop .inv .2) (c .sub-word .ensures) in
-    (search needs, omega arith, record { total = omega (arith, next .total); small = next .small })
+    (search needs, omega arith, borrowed-up (omega arith) (l .loop .inv .2) (c .sub-word .ensures))
 
 same-length-2 : tie.Need-same-length-2 Inv-loop μ-loop
 same-length-2 c = search needs
