@@ -13,13 +13,14 @@ use lib.Ieee.{ones, hid, top, ofBits}
 use lib.Ieee.Scale.{finite}
 use lib.ListN.{length}
 use Rattle.units.specs.Powers.{le-or-lt}
-use Rattle.ieee.specs.OppositePattern.{opposite, opposite-mod, opposite-value}
+use Rattle.register.specs.OppositePattern.{opposite, opposite-mod, opposite-value}
 use Rattle.lists.specs.Digits.{inside}
 use Rattle.kinds.specs.Limits.{doubles}
 use Rattle.kinds.specs.declared.Entry.the-variants.{Refused, Entered}
 use Rattle.judge.specs.Judge.{faultOf}
 use Rattle.judge.specs.FaultLaws.{fault-0, pattern-0, pattern-2, pattern-3, proper-doubles}
-use Rattle.register.specs.Register.{wordCount, registerBits, wholeOf, wordsOf, unitsOf, enter, added, withdrawn}
+use Rattle.words.specs.Words.{wordCount, registerBits, wholeOf, wordsOf}
+use Rattle.register.specs.Register.{unitsOf, enter, added, withdrawn}
 use Rattle.register.specs.Steps.{outcome}
 
 module _ (ws : List ℕ) (p : ℕ) (z : ℤ) where

@@ -11,7 +11,7 @@ use lib.Dec.{lit<, lit≤}
 use lib.IntN.{ℤ, negℤ, _+ℤ_, _-ℤ_, +ℤ-negℤ-cancel}
 use lib.Ieee.{top}
 use Rattle.units.specs.Powers.{le-or-lt}
-use Rattle.ieee.specs.PatternFields.{pattern-plus, pattern-minus}
+use Rattle.register.specs.PatternFields.{pattern-plus, pattern-minus}
 use Rattle.lists.specs.Digits.{inside}
 use Rattle.lists.specs.SignedDigits.{cut-plus, cut-whole, cut-plus-inside, cut-minus-inside}
 use Rattle.kinds.specs.Limits.{doubles}
@@ -19,7 +19,8 @@ use Rattle.kinds.specs.declared.Entry.the-variants.{Refused, Entered}
 use Rattle.judge.specs.Judge.{faultOf}
 use Rattle.judge.specs.Table.{sizeOf}
 use Rattle.judge.specs.FaultLaws.{fault-0, most-doubles}
-use Rattle.register.specs.Register.{wordBits, wordCount, registerBits, wholeOf, wordsOf, unitsOf, added}
+use Rattle.words.specs.Words.{wordBits, wordCount, registerBits, wholeOf, wordsOf}
+use Rattle.register.specs.Register.{unitsOf, added}
 use Rattle.register.specs.Steps.{Held, signBit, leaves, outcome}
 use Rattle.register.specs.EnterLaws.{enter-out, enter-in}
 

@@ -7,7 +7,8 @@ use lib.IntN.{ℤ, _+ℤ_, _-ℤ_}
 use lib.ListN.{length}
 use lib.Ieee.{ofBits}
 use lib.Ieee.Scale.{finite}
-use Rattle.lists.specs.Digits.{number, digits, signed, residue, inside}
+use Rattle.lists.specs.Digits.{inside}
+use Rattle.words.specs.Words.{wordCount, registerBits, wholeOf, wordsOf}
 use Rattle.ieee.specs.Units.{value, nearestFloat}
 use Rattle.kinds.specs.Limits.{doubles}
 use Rattle.kinds.specs.declared.Entry.{Entry}
@@ -15,22 +16,6 @@ use Rattle.kinds.specs.declared.Entry.the-variants as entries
 use Rattle.kinds.specs.declared.Nearest.{Nearest}
 use Rattle.kinds.specs.declared.Nearest.the-variants as nearests
 use Rattle.judge.specs.Judge.{faultOf}
-
-abbrev pub wordBits : ℕ
-wordBits = 64
-
-abbrev pub wordCount : ℕ
-wordCount = 33
-
-abbrev pub registerBits : ℕ
-registerBits = 2112
-
--- the whole number that words stand for, and the words of a whole number
-abbrev pub wholeOf : List ℕ → ℤ
-wholeOf ws = signed registerBits (number wordBits ws)
-
-abbrev pub wordsOf : ℤ → List ℕ
-wordsOf z = digits wordBits wordCount (residue registerBits z)
 
 -- the units of a pattern
 abbrev pub unitsOf : ℕ → ℤ

@@ -11,7 +11,7 @@ use lib.Dec.{lit<}
 use lib.IntN.{ℤ, pos, negℤ, _+ℤ_, +ℤ-idr, +ℤ-negℤ-cancel, -ℤ-+ℤ-cancel}
 use lib.Ieee.{top}
 use lib.ListN.{length}
-use Rattle.ieee.specs.PatternFields.{zero-value}
+use Rattle.register.specs.PatternFields.{zero-value}
 use Rattle.lists.specs.Digits.{inside}
 use Rattle.lists.specs.SignedDigits.{cut-words, cut-whole, whole-cut, whole-inside}
 use Rattle.kinds.specs.Limits.{doubles}
@@ -20,7 +20,8 @@ use Rattle.kinds.specs.declared.Entry.the-variants.{Refused, Entered}
 use Rattle.judge.specs.Judge.{faultOf}
 use Rattle.judge.specs.FaultLaws.{pattern-0, proper-doubles}
 use Rattle.register.specs.Register as R
-use Rattle.register.specs.Register.{wordBits, wordCount, registerBits, wholeOf, unitsOf, enter, added, withdrawn}
+use Rattle.words.specs.Words.{wordBits, wordCount, registerBits, wholeOf}
+use Rattle.register.specs.Register.{unitsOf, enter, added, withdrawn}
 use Rattle.register.specs.Steps.{Held, outcome}
 use Rattle.register.specs.EnterLaws.{enter-long, enter-bad, enter-out, enter-in}
 use Rattle.register.specs.Entries.{EntryWhen, entered, wrong-length, bad-number, out-of-range, afterwards}

@@ -9,11 +9,12 @@ use lib.IntN.{pos, negℤ, _+ℤ_, _-ℤ_}
 use lib.ListN.{length, getD}
 use mir.Syntax.{w64}
 use mir.Val.{Fits}
-use Rattle.ieee.specs.PatternFields.{pattern-plus, pattern-minus}
+use Rattle.register.specs.PatternFields.{pattern-plus, pattern-minus}
 use Rattle.kinds.specs.Limits.{doubles}
 use Rattle.lists.specs.Carry.{two, Carried}
 use Rattle.lists.specs.SignedDigits.{cut-add, cut-sub}
-use Rattle.register.specs.Register.{wordBits, wordCount, wholeOf, wordsOf, unitsOf}
+use Rattle.words.specs.Words.{wordBits, wordCount, wholeOf, wordsOf}
+use Rattle.register.specs.Register.{unitsOf}
 use Rattle.register.specs.Steps.{Held, Placed}
 
 -- words of the language are such

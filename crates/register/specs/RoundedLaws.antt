@@ -10,7 +10,8 @@ use lib.Ieee.{binary64}
 use Rattle.ieee.specs.Units.{limit, nearestFloat}
 use Rattle.ieee.specs.Overflow.{nearest-finite}
 use Rattle.kinds.specs.declared.Nearest.the-variants.{Sum, Refused}
-use Rattle.register.specs.Register.{wordCount, wholeOf, rounded}
+use Rattle.words.specs.Words.{wordCount, wholeOf}
+use Rattle.register.specs.Register.{rounded}
 
 module _ (ws : List ℕ) where
   pub rounded-length : (length ws ≡ wordCount → ⊥) → rounded ws ≡ Refused 4 0

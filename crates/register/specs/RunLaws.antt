@@ -24,7 +24,8 @@ use Rattle.kinds.specs.declared.Entry.the-variants.{Refused, Entered}
 use Rattle.judge.specs.Judge.{faultOf}
 use Rattle.judge.specs.Table.{floatOf, sizeOf, most, Allowed}
 use Rattle.judge.specs.FaultLaws.{fault-0, fault-number, most-doubles}
-use Rattle.register.specs.Register.{wordBits, wordCount, registerBits, wholeOf, unitsOf, added, withdrawn}
+use Rattle.words.specs.Words.{wordBits, wordCount, registerBits, wholeOf}
+use Rattle.register.specs.Register.{unitsOf, added, withdrawn}
 use Rattle.register.specs.Entries.{EntryWhen, entered, wrong-length, bad-number, out-of-range}
 use Rattle.register.specs.Entries.{Change, add, withdraw, patternOf, changeOf, changed, run, AllEntered, zeros}
 use Rattle.register.specs.RegisterLaws.{entry-when, entry-leaves, no-fault, whole-after}

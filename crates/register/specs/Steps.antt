@@ -10,7 +10,8 @@ use Rattle.lists.specs.Carry.{two}
 use Rattle.lists.specs.SignedDigits.{Words, topBit}
 use Rattle.kinds.specs.Limits.{doubles}
 use Rattle.kinds.specs.declared.Entry.{Entry}
-use Rattle.register.specs.Register.{Entered, wordBits, wordCount}
+use Rattle.words.specs.Words.{wordBits, wordCount}
+use Rattle.register.specs.Register.{Entered}
 
 -- 33 words of 64 bits
 abbrev pub Held : List ℕ → Type 0

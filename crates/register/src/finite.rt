@@ -5,13 +5,14 @@ ghost use lib.Ieee.{ofBits};
 ghost use lib.Ieee.Scale.{finite};
 ghost use lib.IntN.{_+ℤ_, _-ℤ_};
 ghost use lib.ListN.{length};
-ghost use Rattle.ieee.specs.OppositePattern.{opposite};
+ghost use Rattle.register.specs.OppositePattern.{opposite};
 ghost use Rattle.kinds.specs.Limits.{doubles};
-ghost use Rattle.register.specs.Register.{wordCount, wholeOf, wordsOf, unitsOf};
+ghost use Rattle.words.specs.Words.{wordCount, wholeOf, wordsOf};
+ghost use Rattle.register.specs.Register.{unitsOf};
 use super::place::SIGN;
 use super::place::place;
-use super::ripple::add_at;
-use super::ripple::sub_at;
+use words::ripple::add_at;
+use words::ripple::sub_at;
 
 // A NaN or an infinity has no units, and the place of a number is one of 33 words.
 pub fn add(words: &mut [u64], p: u64)

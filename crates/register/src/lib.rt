@@ -1,25 +1,16 @@
 // The exact register: 33 lent words that count units in two's complement.
-use crate::bits::INFINITY;
 use kinds::Entry;
 use kinds::Nearest;
+use nearest::bits::INFINITY;
+use words::WORDS;
 
-mod bits;
 pub mod finite;
-mod head;
-mod magnitude;
-pub mod nearest;
-mod pattern;
 mod place;
 mod range;
-mod ripple;
-mod word;
 
 ghost use mathlib.Core.Path.{_≡_};
 ghost use Rattle.register.specs.Register.{added, withdrawn, rounded};
 ghost use Rattle.register.specs.Steps.{outcome};
-
-// "Register: 33 words of 64 bits, least significant first, two's complement, counting units."
-pub const WORDS: usize = 33;
 
 // Adds one allowed number. "On a register addition or withdrawal: 4, then 2 or 3 at place 0, then 9."
 pub fn add(register: &mut [u64], p: u64) -> Entry
@@ -56,9 +47,9 @@ pub fn round(register: &[u64]) -> Nearest
     if register.len() != WORDS {
         return Nearest::Refused(4, 0);
     }
-    let b = bits::nearest_bits(register, false);
+    let b = nearest::bits::nearest_bits(register, false);
     if INFINITY <= b.magnitude {
         return Nearest::Refused(10, 0);
     }
-    Nearest::Sum(bits::double(b))
+    Nearest::Sum(nearest::bits::double(b))
 }

@@ -6,7 +6,7 @@ ghost use lib.Ieee.{ofBits};
 ghost use lib.Ieee.Scale.{finite};
 ghost use Rattle.kinds.specs.Limits.{doubles};
 ghost use Rattle.lists.specs.Carry.{two};
-ghost use Rattle.register.specs.Register.{wordBits, wordCount};
+ghost use Rattle.words.specs.Words.{wordBits, wordCount};
 ghost use Rattle.register.specs.Steps.{Placed};
 
 pub struct Pair {

@@ -2,10 +2,10 @@
 ghost use mathlib.Core.Path.{_≡_};
 ghost use Prim.Native.Nat.{_-_, _<_};
 ghost use lib.ListN.{length};
-ghost use Rattle.register.specs.Register.{wordCount};
+ghost use Rattle.words.specs.Words.{wordCount};
 ghost use Rattle.register.specs.Steps.{signBit, leaves};
-use super::WORDS;
 use super::place::SIGN;
+use words::WORDS;
 
 // The sign of the register. It has to have its words.
 pub fn sign(words: &[u64]) -> u64

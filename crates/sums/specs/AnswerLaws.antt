@@ -16,7 +16,7 @@ use Rattle.units.specs.Powers.{le-or-lt}
 use Rattle.ieee.specs.Units.{value, nearestFloat}
 use Rattle.lists.specs.Digits.{number}
 use Rattle.lists.specs.TwosComplement.{signed-low, signed-high}
-use Rattle.register.specs.Register.{wordBits, registerBits, wholeOf}
+use Rattle.words.specs.Words.{wordBits, registerBits, wholeOf}
 use Rattle.kinds.specs.Limits.{doubles}
 use Rattle.kinds.specs.declared.Verdict.{Verdict}
 use Rattle.kinds.specs.declared.Verdict.the-variants as verdicts

@@ -18,7 +18,8 @@ use Rattle.lists.specs.SignedDigits.{cut-whole, whole-cut, cut-plus}
 use Rattle.kinds.specs.Limits.{Width, doubles}
 use Rattle.judge.specs.Table.{Allowed, most}
 use Rattle.judge.specs.FaultLaws.{fault-0, most-doubles}
-use Rattle.register.specs.Register.{wordBits, wordCount, registerBits, wholeOf, wordsOf, unitsOf}
+use Rattle.words.specs.Words.{wordBits, wordCount, registerBits, wholeOf, wordsOf}
+use Rattle.register.specs.Register.{unitsOf}
 use Rattle.register.specs.Steps.{Held}
 use Rattle.sums.specs.Sums.{sumOf}
 

@@ -5,7 +5,7 @@ ghost use lib.IntN.{_+ℤ_};
 ghost use lib.ListN.{length};
 ghost use Rattle.kinds.specs.Limits.{doubles};
 ghost use Rattle.judge.specs.Table.{Allowed};
-ghost use Rattle.register.specs.Register.{wordBits, wordCount, wholeOf, wordsOf};
+ghost use Rattle.words.specs.Words.{wordBits, wordCount, wholeOf, wordsOf};
 ghost use Rattle.lists.specs.Digits.{number};
 ghost use Rattle.sums.specs.Sums.{sumOf};
 

@@ -3,7 +3,7 @@ use kinds::Doubles;
 use kinds::Nearest;
 use kinds::Parted;
 use kinds::Verdict;
-use register::WORDS;
+use words::WORDS;
 
 mod exact;
 mod split;
@@ -21,7 +21,7 @@ pub fn nearest(list: &[u64]) -> Nearest
             let mut words = [0u64; WORDS];
             exact::total(list, &mut words);
             let zero = judge::zero_sign(list);
-            Nearest::Sum(register::nearest::nearest_double(&words, zero))
+            Nearest::Sum(nearest::nearest_double(&words, zero))
         }
     }
 }

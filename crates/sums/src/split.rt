@@ -5,7 +5,7 @@ ghost use lib.IntN.{natAbs};
 ghost use lib.ListN.{length};
 ghost use Rattle.ieee.specs.Units.{limit};
 ghost use Rattle.kinds.specs.Limits.{doubles};
-ghost use Rattle.register.specs.Register.{wordCount, wholeOf};
+ghost use Rattle.words.specs.Words.{wordCount, wholeOf};
 ghost use Rattle.sums.specs.Sums.{parts};
 ghost use Rattle.sums.specs.PartsLaws.{remaining};
 
@@ -19,7 +19,7 @@ pub fn split(words: &mut [u64], area: &mut [f64], zero: bool)
     let mut sign = zero;
     let mut i = 0;
     while i < area.len() {
-        let part = register::nearest::nearest_double(words, sign);
+        let part = nearest::nearest_double(words, sign);
         area[i] = part;
         register::finite::withdraw(words, f64::to_bits(part));
         sign = false;

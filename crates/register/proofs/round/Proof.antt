@@ -7,9 +7,9 @@ use native.Mathlib.Omega.{arith}
 use lib.IntN.{natAbs}
 use lib.Ieee.{binary64, hid, ones}
 use Rattle.ieee.specs.Units.{nearestFloat}
-use Rattle.ieee.specs.NearestBits.{bits-finite, bits-infinite, bits-nearest}
+use Rattle.nearest.specs.NearestBits.{bits-finite, bits-infinite, bits-nearest}
 use Rattle.kinds.specs.declared.Nearest.the-variants.{Sum}
-use Rattle.register.specs.Register.{wholeOf}
+use Rattle.words.specs.Words.{wholeOf}
 use Rattle.register.specs.RoundedLaws.{rounded-length, rounded-beyond, rounded-sum}
 use Rattle.register.proofs.round.Statement.{statement}
 use Rattle.register.proofs.round.Tie as tie

@@ -1,6 +1,6 @@
 -- `register::finite::opposite` meets its contract: to turn the top bit is to add its weight, cut off. Assumes nothing.
 use mathlib.Core.Path.{refl}
-use Rattle.ieee.specs.OppositePattern.{xor-sign}
+use Rattle.register.specs.OppositePattern.{xor-sign}
 use Rattle.kinds.specs.Limits.{doubles}
 use Rattle.register.proofs.finite.opposite.Statement.{statement}
 use Rattle.register.proofs.finite.opposite.Tie as tie

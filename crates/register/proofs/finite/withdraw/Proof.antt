@@ -5,9 +5,10 @@ use lib.Dec.{T}
 use lib.Ieee.{ofBits}
 use lib.Ieee.Scale.{finite}
 use lib.IntN.{ℤ, negℤ, _+ℤ_}
-use Rattle.ieee.specs.OppositePattern.{opposite-finite}
+use Rattle.register.specs.OppositePattern.{opposite-finite}
 use Rattle.kinds.specs.Limits.{doubles}
-use Rattle.register.specs.Register.{wholeOf, wordsOf, unitsOf}
+use Rattle.words.specs.Words.{wholeOf, wordsOf}
+use Rattle.register.specs.Register.{unitsOf}
 use Rattle.register.specs.EnterLaws.{opposite-units}
 use Rattle.register.proofs.finite.withdraw.Statement.{statement}
 use Rattle.register.proofs.finite.withdraw.Tie as tie

@@ -4,7 +4,7 @@ use mathlib.Core.Path.{sym, _∙_}
 use Prim.Native.Nat.{_%_, _^_}
 use native.Mathlib.Nat.{mul-one}
 use native.Mathlib.Omega.{arith}
-use Rattle.ieee.specs.PatternFields.{pattern-subnormal, pattern-normal}
+use Rattle.register.specs.PatternFields.{pattern-subnormal, pattern-normal}
 use Rattle.kinds.specs.Limits.{doubles}
 use Rattle.register.proofs.place.place.Statement.{statement}
 use Rattle.register.proofs.place.place.Tie as tie

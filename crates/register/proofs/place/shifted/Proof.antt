@@ -2,7 +2,7 @@
 use borrow.Author.Needs.{needs}
 use native.Mathlib.Omega.{arith}
 use Rattle.lists.specs.TwoDigits.{two-shifted}
-use Rattle.register.specs.Register.{wordBits}
+use Rattle.words.specs.Words.{wordBits}
 use Rattle.register.proofs.place.shifted.Statement.{statement}
 use Rattle.register.proofs.place.shifted.Tie as tie
 

@@ -10,7 +10,7 @@ use lib.Seq.{take-all}
 use Rattle.lists.specs.Digits.{number}
 use Rattle.lists.specs.DigitLaws.{number-nil}
 use Rattle.lists.specs.LowestDigits.{number-next, number-some}
-use Rattle.register.specs.Register.{wordBits}
+use Rattle.words.specs.Words.{wordBits}
 use Rattle.sums.proofs.exact.is_zero.Statement.{statement}
 use Rattle.sums.proofs.exact.is_zero.Tie as tie
 

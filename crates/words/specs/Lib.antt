@@ -1,0 +1,2 @@
+-- The words of a register as a whole number.
+pub mod Words
