@@ -10,7 +10,7 @@ use lib.Dec.{eqb, eqb·suc-zero}
 use lib.IntN.{ℤ, natAbs, _-ℤ_}
 use lib.Pow.{pow-pos}
 use lib.ListN.{length}
-use lib.Ieee.{Float, Format}
+use lib.Ieee.{Float}
 use Rattle.units.specs.Whole.{exactSum}
 use Rattle.units.specs.Powers.{le-or-lt}
 use Rattle.ieee.specs.Units.{value, nearestFloat}

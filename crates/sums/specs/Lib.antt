@@ -6,3 +6,4 @@ pub mod PartsLaws
 pub mod SumLaws
 pub mod AnswerLaws
 pub mod SplitLaws
+pub mod Promised
