@@ -9,10 +9,10 @@ ghost use Rattle.kinds.specs.declared.Verdict.the-variants.{Good};
 ghost use Rattle.judge.specs.Judge.{faultOf, firstFault, judged, floats, zeroSign};
 
 // What the sign adds to a pattern. Patterns without it are in the order of their magnitudes.
-const SIGN: u64 = 0x8000_0000_0000_0000;
+pub const SIGN: u64 = 0x8000_0000_0000_0000;
 
 // The pattern of the infinity. From it on, a pattern without its sign stands for no number.
-const INFINITY: u64 = 0x7FF0_0000_0000_0000;
+pub const INFINITY: u64 = 0x7FF0_0000_0000_0000;
 
 // The number of a pattern's fault, 0 for none: 2 "a NaN or infinity", 3 "a finite number of magnitude above 2^1000".
 pub fn fault(p: u64) -> u32

@@ -14,9 +14,6 @@ ghost use Rattle.nearest.specs.Bits.{bitsOf};
 // The sign of a word in two's complement.
 const SIGN: u64 = 0x8000_0000_0000_0000;
 
-// Without its sign the pattern of a finite double is below the infinity's.
-pub const INFINITY: u64 = 0x7FF0_0000_0000_0000;
-
 // A double's sign, and its pattern without the sign.
 pub struct Bits {
     pub negative: bool,

@@ -9,8 +9,8 @@ ghost use Rattle.register.specs.OppositePattern.{opposite};
 ghost use Rattle.kinds.specs.Limits.{doubles};
 ghost use Rattle.words.specs.Words.{wordCount, wholeOf, wordsOf};
 ghost use Rattle.register.specs.Register.{unitsOf};
-use super::place::SIGN;
 use super::place::place;
+use judge::SIGN;
 use words::ripple::add_at;
 use words::ripple::sub_at;
 

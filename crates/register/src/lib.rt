@@ -1,7 +1,7 @@
 // The exact register: 33 lent words that count units in two's complement.
+use judge::INFINITY;
 use kinds::Entry;
 use kinds::Nearest;
-use nearest::bits::INFINITY;
 use words::WORDS;
 
 pub mod finite;

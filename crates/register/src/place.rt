@@ -8,6 +8,7 @@ ghost use Rattle.kinds.specs.Limits.{doubles};
 ghost use Rattle.lists.specs.Carry.{two};
 ghost use Rattle.words.specs.Words.{wordBits, wordCount};
 ghost use Rattle.register.specs.Steps.{Placed};
+use judge::SIGN;
 
 pub struct Pair {
     pub word: usize,
@@ -15,9 +16,7 @@ pub struct Pair {
     pub hi: u64,
 }
 
-// A pattern's sign, and the leading digit that it does not store.
-pub const SIGN: u64 = 0x8000_0000_0000_0000;
-
+// The leading digit that a pattern does not store.
 const LEADING: u64 = 0x0010_0000_0000_0000;
 
 // m * 2^e. An exponent field has 11 bits. No shift by 64: at a shift of 0 the upper word is m / 2 / 2^63.
