@@ -6,24 +6,25 @@
 
 The model follows document 01 and knows nothing of the library's code. Only the inputs and the lines' layout are written the same way in both places.
 """
+import itertools
 import os
 import sys
 
 # ---- document 01: numbers and limits. A number is its whole units of 2^-1074.
 LENGTH, MAGNITUDE, PARTS, WORDS = 4094, 0x7E70000000000000, 8, 33
-SIGN, INFINITY = 1 << 63, 0x7FF << 52
-BITS = 64 * WORDS
+SIGN, INFINITY, ONE, UNIT = 1 << 63, 0x7FF << 52, 0x3FF << 52, 1
+BITS, ONES = 64 * WORDS, 2**64 - 1
 
 
 class Refused(Exception):
-    """A refusal's number and place; 0 for the place where none is told."""
+    """A refusal's number and place, 0 where none is told."""
 
     def __str__(self):
-        return "refused %d/%d" % self.args
+        return "%d/%d" % self.args
 
 
 def size(magnitude):
-    """The units of a pattern without its sign. Above the finite ones it goes on as if there were more exponents, so that every number has neighbours."""
+    """The units of a pattern without its sign."""
     exponent, fraction = divmod(magnitude, 1 << 52)
     return fraction if exponent == 0 else (2**52 + fraction) << (exponent - 1)
 
@@ -33,16 +34,15 @@ def units(pattern):
 
 
 def nearest(number):
-    """The pattern nearest a whole number of units. Patterns are in the order of their magnitudes: of the two around it the nearer, at a tie the even one."""
+    """The pattern of the double nearest a whole number of units. Patterns are in the order of their magnitudes: of the two around the number's the nearer, at a
+    tie the even one."""
     goal = abs(number)
-    low, high = 0, 1 << 64
+    low, high = 0, INFINITY
     while high - low > 1:
         middle = (low + high) // 2
         low, high = (middle, high) if size(middle) <= goal else (low, middle)
     below, above = goal - size(low), size(high) - goal
     magnitude = high if above < below or (above == below and low % 2) else low
-    if magnitude >= INFINITY:
-        raise Refused(10, 0)
     return magnitude + SIGN if number < 0 else magnitude
 
 
@@ -77,7 +77,7 @@ def sum_in_parts(patterns, count):
 
 
 class Register:
-    """Words, least significant first. The call of a wrong length is tried with any number of them."""
+    """Words, least significant first, in two's complement. Calls are tried with a wrong number of them too."""
 
     def __init__(self, words):
         self.words = list(words)
@@ -87,10 +87,10 @@ class Register:
         return natural - (1 << BITS) if natural >> (BITS - 1) else natural
 
     def turned_over(self):
-        return Register(word ^ 2**64 - 1 for word in self.words)
+        return Register(word ^ ONES for word in self.words)
 
     def store(self, whole):
-        self.words = [whole >> 64 * i & 2**64 - 1 for i in range(WORDS)]
+        self.words = [whole >> 64 * i & ONES for i in range(WORDS)]
 
     def enter(self, pattern, sign):
         """Addition (sign 1) and withdrawal (sign -1)."""
@@ -106,13 +106,13 @@ class Register:
     def round(self):
         if len(self.words) != WORDS:
             raise Refused(4, 0)
+        if abs(self.whole()) >= 2**2098 - 2**2044:
+            raise Refused(10, 0)
         return nearest(self.whole())
 
 
 # ---- the inputs, as the program makes them
 START = 0x9E3779B97F4A7C15
-ONE, UNIT = 0x3FF << 52, 1
-ONES = 2**64 - 1
 
 
 def following(r):
@@ -122,9 +122,9 @@ def following(r):
     return r ^ r << 17 & ONES
 
 
-def seed(k):
-    """Where case k begins: three turns from START with k's digits turned over."""
-    return following(following(following(START ^ k)))
+def seed(group, k):
+    """Where case k of a group begins: three turns from START with digits turned over, k's and from the 32nd on the group's."""
+    return following(following(following(START ^ group << 32 ^ k)))
 
 
 SPECIAL = [
@@ -154,8 +154,7 @@ RANGE = [
     (MAGNITUDE - 30, 32),  # one in 32 just above the limit
     (0, SIGN),  # every pattern: NaNs, infinities and numbers above the limit too
 ]
-ANY = 9
-KINDS = 11  # the last: SPECIAL
+KINDS = len(RANGE) + 1  # the last: SPECIAL
 
 
 def number(kind, r):
@@ -165,13 +164,18 @@ def number(kind, r):
     return (r & 1) << 63 | base + (r >> 1) % span
 
 
-def filled(n, kind, r):
-    """n numbers of a kind, one for each turn of the generator after r."""
+def turns(n, r):
+    """The n turns of the generator after r."""
     numbers = []
     for _ in range(n):
         r = following(r)
-        numbers.append(number(kind, r))
+        numbers.append(r)
     return numbers
+
+
+def filled(n, kind, r):
+    """n numbers of a kind, one for each turn."""
+    return [number(kind, turn) for turn in turns(n, r)]
 
 
 def mirrored(numbers, flip):
@@ -215,7 +219,7 @@ def faulty(n, kind, a, b, c):
 def shaped(k):
     """The lists of cases 0 to 175: each shape with each kind and each of four lengths."""
     shape, kind, length = k % 4, k // 4 % KINDS, k // 4 // KINDS
-    a = seed(k)
+    a = seed(0, k)
     b = following(a)
     c = following(b)
     n = [1 + a % 9, 64, 65, 3 + a % 150][length]
@@ -234,26 +238,27 @@ EXAMPLES = [
     [UNIT, UNIT],
     [MAGNITUDE + 1],
 ]
-LONGEST = [(4094, 0), (4094, 5), (4094, 6), (4095, 0), (4095, 9), (4095, 10)]
+LONGEST = [(LENGTH, 0), (LENGTH, 6), (LENGTH, 1), (LENGTH, 7), (LENGTH + 1, 2), (LENGTH + 1, 8)]
 SHAPED = 4 * 4 * KINDS
 
 
 def lists():
     yield from map(shaped, range(SHAPED))
     yield from EXAMPLES
-    for n, kind in LONGEST:
-        yield filled(n, kind, seed(n + kind))
+    for k, (n, kind) in enumerate(LONGEST, SHAPED + len(EXAMPLES)):
+        yield filled(n, kind, seed(0, k))
 
 
 # ---- the lines. A refusal is its number, a bar and its place.
-HELD = 0x3FF8000000000000  # what the parts slice holds before the call
+COUNTS = PARTS + 2  # lengths of the parts slice, 0 to one more than allowed
+HELD = 0x3FF8000000000000  # what it holds before the call
 
 
 def told(call, *arguments):
     try:
         return " " + text(call(*arguments))
     except Refused as refusal:
-        return " %d/%d" % refusal.args
+        return f" {refusal}"
 
 
 def text(pattern):
@@ -265,19 +270,19 @@ def parts_told(numbers, count):
         parts, exact = sum_in_parts(numbers, count)
         return (" exact " if exact else " short ") + " ".join(map(text, parts))
     except Refused as refusal:
-        return " %d/%d" % refusal.args + (" " + text(HELD)) * count
+        return f" {refusal}" + (" " + text(HELD)) * count
 
 
 def list_lines():
     for k, numbers in enumerate(lists()):
-        count = (k + k // 10) % 10
+        count = (k + k // COUNTS) % COUNTS
         yield f"list {k} n {len(numbers)} nearest" + told(nearest_sum, numbers) + f" parts {count}" + parts_told(numbers, count)
 
 
 # ---- the registers
 def start(k, r):
-    """One of 15: words of zeros, of ones or of any digits, under a top word that makes them small, the largest, the smallest, negative or middling."""
-    words = [[0] * WORDS, [ONES] * WORDS, filled(WORDS, ANY, r)][k % 3]
+    """One of 15: words of zeros, of ones or of turns, under a top word that makes them small, the largest, the smallest, negative or middling."""
+    words = [[0] * WORDS, [ONES] * WORDS, turns(WORDS, r)][k % 3]
     words[-1] = [0, SIGN - 1, SIGN, ONES, r >> 20][k // 3 % 5]
     return Register(words)
 
@@ -297,24 +302,23 @@ def entry_told(at, register, pattern, sign):
         register.enter(pattern, sign)
         return ""
     except Refused as refusal:
-        return " %d: %d/%d" % (at, *refusal.args)
+        return f" {at}: {refusal}"
 
 
 def run_told(register, kind, r, calls, back):
     """Numbers of a kind, added or withdrawn; `back` does the opposite of each."""
-    line = ""
-    for at in range(calls):
-        r = following(r)
-        line += entry_told(at, register, number(kind, r), 1 if r >> 40 & 1 == back else -1)
+    line = f" calls {calls}"
+    for at, turn in enumerate(turns(calls, r)):
+        line += entry_told(at, register, number(kind, turn), 1 if turn >> 40 & 1 == back else -1)
     return line + words_told(register)
 
 
 def run_lines():
     for k in range(15 * 6):
-        r = seed(1000 + k)
+        r = seed(1, k)
         register, kind, calls = start(k, r), k // 15 * 2, 1 + r % 16
-        yield f"run {k} calls {calls}" + run_told(register, kind, r, calls, 0) + " round" + told(register.round)
-        yield f"back {k} calls {calls}" + run_told(register, kind, r, calls, 1)
+        yield f"run {k}" + run_told(register, kind, r, calls, 0) + " round" + told(register.round)
+        yield f"back {k}" + run_told(register, kind, r, calls, 1)
 
 
 def around_told(register):
@@ -334,14 +338,15 @@ def both_told(register):
 
 def round_lines():
     for k in range(15):
-        yield f"start {k}" + both_told(start(k, seed(2000 + k)))
-    for k in range(WORDS):
+        yield f"start {k}" + both_told(start(k, seed(2, k)))
+    for k in range(2 * WORDS):
         register = Register([0] * WORDS)
-        register.store((1 << 53 | seed(3000 + k) >> 11 | 1) << 73 * k % 2045)
+        register.store((1 << 53 | seed(3, k) >> 13 << 2 | k % 2 << 1 | 1) << k // 2 * 61)
         yield f"tie {k}" + both_told(register)
-        r = seed(4000 + k)
-        register = Register(filled(k, ANY, r) + [r >> r % 64] + [0] * (WORDS - 1 - k))
-        yield f"any {k}" + told(register.round) + told(register.turned_over().round)
+    for k in range(WORDS):
+        r = seed(4, k)
+        register = Register(turns(k, r) + [r >> r % 64] + [0] * (WORDS - 1 - k))
+        yield f"random {k}" + told(register.round) + told(register.turned_over().round)
 
 
 def last_lines():
@@ -350,21 +355,23 @@ def last_lines():
     yield "case 10" + entry_told(0, register, ONE, -1) + words_told(register) + entry_told(1, register, ONE, 1) + words_told(register)
     register.store(2**2098 - 2**2044)
     yield "case 12" + both_told(register)
-    for length in (0, 32, 34):
-        register = Register(filled(length, ANY, seed(5000 + length)))
+    for length in (0, WORDS - 1, WORDS + 1):
+        register = Register(turns(length, seed(5, length)))
         line = entry_told(0, register, ONE, 1) + entry_told(1, register, INFINITY, -1) + told(register.round)
         yield f"length {length}" + line + words_told(register)
 
 
 def main():
-    lines = "".join(line + "\n" for group in (list_lines, run_lines, round_lines, last_lines) for line in group())
+    lines = [line for group in (list_lines, run_lines, round_lines, last_lines) for line in group()]
     if sys.argv[1:] != ["--check"]:
-        sys.stdout.write(lines)
+        print("\n".join(lines))
         return 0
     with open(os.path.join(os.path.dirname(__file__), "..", "crates", "trial", "stdout"), encoding="ascii") as f:
-        held = f.read()
-    print(f"trial: {lines.count(chr(10))} lines, {'as' if held == lines else 'NOT as'} in crates/trial/stdout")
-    return 0 if held == lines else 1
+        held = f.read().split("\n")
+    differing = [k for k, (line, other) in enumerate(itertools.zip_longest(lines + [""], held), 1) if line != other]
+    print(f"trial: {len(lines)} lines; of crates/trial/stdout differ {differing[:9] or 'none'}")
+    return 1 if differing else 0
 
 
-sys.exit(main())
+if __name__ == "__main__":
+    sys.exit(main())
