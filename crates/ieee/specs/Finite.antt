@@ -84,14 +84,14 @@ facts f (fin s (suc m) e) X = facts-at f s (suc m) e (suc m * 2 ^ j .0) units fa
     units : suc m * up e * 2 ^ low f ≡ suc m * 2 ^ j .0 * down e
     units = mul-assoc (suc m) (up e) (2 ^ low f) ∙ ap (λ (x : ℕ). suc m * x) (j .1) ∙ sym (mul-assoc (suc m) (2 ^ j .0) (down e))
 
-    -- 2 ^ (emax + 1) is `beyond` units
-    beyond-is : 2 ^ suc (emax f) * down e * 2 ^ low f ≡ overflow f * down e
-    beyond-is =
+    -- 2 ^ (emax + 1) is `overflow` units
+    overflow-is : 2 ^ suc (emax f) * down e * 2 ^ low f ≡ overflow f * down e
+    overflow-is =
         mul-right-comm (2 ^ suc (emax f)) (down e) (2 ^ low f)
         ∙ ap (λ (x : ℕ). x * down e) (mul-comm (2 ^ suc (emax f)) (2 ^ low f) ∙ sym (pow-add 2 (low f) (suc (emax f))))
 
     far : suc m * 2 ^ j .0 < overflow f
-    far = lt-of-mul-lt-mul-right (down e) (rw (← units, ← beyond-is) (mul-lt-mul-of-pos-right (p .far) (pow-pos (low f))))
+    far = lt-of-mul-lt-mul-right (down e) (rw (← units, ← overflow-is) (mul-lt-mul-of-pos-right (p .far) (pow-pos (low f))))
 
 -- ---- one sign and one number of units are one float
 pub bits-are : (f : Format) (x : Float) → T (finite x) →

@@ -11,7 +11,10 @@ pub mod Pattern
 pub mod Exponent
 pub mod Write
 pub mod Overflow
+pub mod NearestBits
 pub mod Nearest
 pub mod FaithfulFloat
 pub mod InRange
 pub mod Instances
+pub mod PatternFields
+pub mod OppositePattern

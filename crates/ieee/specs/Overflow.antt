@@ -22,7 +22,7 @@ use Rattle.units.specs.SignedRounding.{fl-nat, fl-neg}
 use Rattle.units.specs.Threshold.{rnd-stays, rnd-reaches}
 use Rattle.ieee.specs.Units.{Is, negative, magnitude, signedWhole, whole, signOf, nearestFloat, limit}
 use Rattle.ieee.specs.Finite.{is-units, is-finite}
-use Rattle.ieee.specs.Rounded.{prec-pos, round-value, round-beyond}
+use Rattle.ieee.specs.Rounded.{prec-pos, round-value, round-overflow}
 
 module _ (f : Format) where
   h : ℕ
@@ -33,16 +33,16 @@ module _ (f : Format) where
   unfolding h
   digits = omega (arith, two f, reach f)
 
-  beyond-is : overflow f ≡ 2 ^ prec f * 2 ^ suc h
-  beyond-is = ap (λ (x : ℕ). 2 ^ x) digits ∙ pow-add 2 (prec f) (suc h)
+  overflow-is : overflow f ≡ 2 ^ prec f * 2 ^ suc h
+  overflow-is = ap (λ (x : ℕ). 2 ^ x) digits ∙ pow-add 2 (prec f) (suc h)
 
   pub rnd-finite : {n : ℕ} → n < limit f → rnd (prec f) n < overflow f
   unfolding h
-  rnd-finite {n} l = rw beyond-is (rnd-stays (prec f) (prec-pos f) h n (omega (arith, beyond-is)))
+  rnd-finite {n} l = rw overflow-is (rnd-stays (prec f) (prec-pos f) h n (omega (arith, overflow-is)))
 
   pub rnd-overflows : {n : ℕ} → limit f ≤ n → overflow f ≤ rnd (prec f) n
   unfolding h
-  rnd-overflows {n} l = rw beyond-is (rnd-reaches (prec f) (prec-pos f) h n (omega (arith, beyond-is)))
+  rnd-overflows {n} l = rw overflow-is (rnd-reaches (prec f) (prec-pos f) h n (omega (arith, overflow-is)))
 
   -- 2 ^ emax is below the limit, and so is every lower power of two
   pub power-below : {k : ℕ} → k ≤ low f + emax f → 2 ^ k < limit f
@@ -69,7 +69,7 @@ module _ (f : Format) where
     pub nearest-finite : finite (nearestFloat f z S) ≡ ltb (natAbs S) (limit f)
     nearest-finite = elim (le-or-lt (limit f) (natAbs S)) [
       | inl l ↦
-          ap finite (nearest-round ∙ round-beyond f (signOf z S) (natAbs S) (rnd-overflows l))
+          ap finite (nearest-round ∙ round-overflow f (signOf z S) (natAbs S) (rnd-overflows l))
           ∙ sym (is-false (ltb (natAbs S) (limit f)) (le→nltb (natAbs S) (limit f) l))
       | inr l ↦
           is-true (finite (nearestFloat f z S)) (is-finite f (nearestFloat f z S) (signOf z S) (rnd (prec f) (natAbs S)) (nearest-is l))

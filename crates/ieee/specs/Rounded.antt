@@ -32,9 +32,9 @@ pub round-value : (f : Format) (s : Bool) (n : ℕ) → rnd (prec f) n < overflo
 unfolding rnd
 round-value f s n h = rw (round-units f s n) (units-val f s (closest n (2 ^ dropped (prec f) n)) (dropped (prec f) n) h)
 
-pub round-beyond : (f : Format) (s : Bool) (n : ℕ) → overflow f ≤ rnd (prec f) n → round f s n (2 ^ low f) ≡ inf s
+pub round-overflow : (f : Format) (s : Bool) (n : ℕ) → overflow f ≤ rnd (prec f) n → round f s n (2 ^ low f) ≡ inf s
 unfolding rnd units
-round-beyond f s n h = round-units f s n ∙ go (ltb (rnd (prec f) n) (overflow f)) (ltb→lt (rnd (prec f) n) (overflow f))
+round-overflow f s n h = round-units f s n ∙ go (ltb (rnd (prec f) n) (overflow f)) (ltb→lt (rnd (prec f) n) (overflow f))
   where
     k : ℕ
     k = dropped (prec f) n

@@ -6,7 +6,7 @@ use mathlib.Core.Bool.{Bool, true, false, not, _&&_}
 use Prim.Native.Nat.{ℕ, zero, suc, _+_, _-_, _*_, _^_, _≤_, _<_}
 use native.Mathlib.Nat.{mul-pos, mul-sub}
 use native.Mathlib.Omega.{arith}
-use lib.IntN.{pos, negℤ, _+ℤ_, _-ℤ_}
+use lib.IntN.{pos, negℤ, natAbs, _+ℤ_, _-ℤ_}
 use lib.Dec.{T, ltb, lt→ltb}
 use lib.Arith.{le→nltb}
 use lib.Ieee.{Float, nan, inf, fin, Format, low, round, neg, sum, add, sub}
@@ -16,7 +16,7 @@ use lib.Ieee.Scale.{finite, round-same}
 use Rattle.units.specs.Whole as W
 use Rattle.units.specs.Whole.{Whole, _⊕_, _≈_, int}
 use Rattle.units.specs.Powers.{le-or-lt}
-use Rattle.units.specs.Integers.{int-same, int-plus, int-neg, int-difference}
+use Rattle.units.specs.Integers.{int-same, int-plus, int-neg, int-mag, int-difference}
 use Rattle.ieee.specs.Units.{Number, negative, magnitude, signed, signedWhole, value, whole, nearestFloat}
 use Rattle.ieee.specs.Fractions.{ltb-scale, over-units}
 
@@ -36,6 +36,9 @@ whole-mag f x = of (negative x)
     of : (s : Bool) → W.mag (signedWhole s (magnitude f x)) ≡ magnitude f x
     of false = omega arith
     of true = omega arith
+
+pub value-mag : (f : Format) (x : Float) → natAbs (value f x) ≡ magnitude f x
+value-mag f x = ap natAbs (value-int f x) ∙ int-mag (whole f x) ∙ whole-mag f x
 
 -- ---- negation
 pub neg-negative : (x : Float) → T (finite x) → negative (neg x) ≡ not (negative x)

@@ -6,7 +6,7 @@ ghost use Prim.Native.Nat.{_≤_};
 ghost use lib.ListN.{length};
 ghost use Rattle.kinds.specs.Limits.{doubles};
 ghost use Rattle.kinds.specs.declared.Verdict.the-variants.{Good};
-ghost use Rattle.judge.specs.Judge.{faultOf, firstFault, judged, floats};
+ghost use Rattle.judge.specs.Judge.{faultOf, firstFault, judged, floats, zeroSign};
 
 // What the sign adds to a pattern. Patterns without it are in the order of their magnitudes.
 const SIGN: u64 = 0x8000_0000_0000_0000;
@@ -70,4 +70,11 @@ pub fn copy(list: &[u64], work: &mut [f64])
         work[i] = f64::from_bits(list[i]);
         i += 1;
     }
+}
+
+// The sign of the zero that a list with exact sum zero answers, the same for the faithful sum, the nearest and the first part: "A zero S gives +0."
+pub fn zero_sign(list: &[u64]) -> bool
+    ensures { λ r. ⌜ r ≡ zeroSign (now (list .entry)) ⌝ }
+{
+    false
 }

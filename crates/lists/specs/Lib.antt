@@ -1,5 +1,14 @@
 -- Facts on lists, and numbers written in digits of base 2 ^ w. Definitions first, then laws.
 pub mod Digits
+pub mod Carry
 pub mod Front
 pub mod LeadingZeros
+pub mod WordShifts
 pub mod DigitLaws
+pub mod LowestDigits
+pub mod LeadingDigits
+pub mod TwoDigits
+pub mod CarryLaws
+pub mod TwosComplement
+pub mod SignedDigits
+pub mod Magnitude

@@ -1,1 +1,64 @@
 // The exact register: 33 lent words that count units in two's complement.
+use crate::bits::INFINITY;
+use kinds::Entry;
+use kinds::Nearest;
+
+mod bits;
+pub mod finite;
+mod head;
+mod magnitude;
+pub mod nearest;
+mod pattern;
+mod place;
+mod range;
+mod ripple;
+mod word;
+
+ghost use mathlib.Core.Path.{_≡_};
+ghost use Rattle.register.specs.Register.{added, withdrawn, rounded};
+ghost use Rattle.register.specs.Steps.{outcome};
+
+// "Register: 33 words of 64 bits, least significant first, two's complement, counting units."
+pub const WORDS: usize = 33;
+
+// Adds one allowed number. "On a register addition or withdrawal: 4, then 2 or 3 at place 0, then 9."
+pub fn add(register: &mut [u64], p: u64) -> Entry
+    ensures { λ r. ⌜ outcome r (now (register .exit)) ≡ added (now (register .entry)) p ⌝ }
+{
+    let fault = judge::fault(p);
+    let n = register.len();
+    if n != WORDS {
+        return Entry::Refused(4, 0);
+    }
+    if fault != 0 {
+        return Entry::Refused(fault, 0);
+    }
+    let before = range::sign(register);
+    finite::add(register, p);
+    if range::left(p, before, range::sign(register)) {
+        finite::withdraw(register, p);
+        return Entry::Refused(9, 0);
+    }
+    Entry::Entered
+}
+
+// Takes one allowed number out, with the same refusals: it adds the opposite number.
+pub fn withdraw(register: &mut [u64], p: u64) -> Entry
+    ensures { λ r. ⌜ outcome r (now (register .exit)) ≡ withdrawn (now (register .entry)) p ⌝ }
+{
+    add(register, finite::opposite(p))
+}
+
+// "Rounding a register follows the nearest rule; refusal 10 is given when its magnitude is 2^2098 - 2^2044 units or more."
+pub fn round(register: &[u64]) -> Nearest
+    ensures { λ r. ⌜ r ≡ rounded (now (register .entry)) ⌝ }
+{
+    if register.len() != WORDS {
+        return Nearest::Refused(4, 0);
+    }
+    let b = bits::nearest_bits(register, false);
+    if INFINITY <= b.magnitude {
+        return Nearest::Refused(10, 0);
+    }
+    Nearest::Sum(bits::double(b))
+}

@@ -3,3 +3,6 @@ pub mod Sums
 pub mod NonOverlapping
 pub mod FirstPlace
 pub mod PartsLaws
+pub mod SumLaws
+pub mod AnswerLaws
+pub mod SplitLaws

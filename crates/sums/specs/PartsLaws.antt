@@ -1,13 +1,15 @@
 -- The parts of S are a non-overlapping sequence, each a number of the format and nearest to S less the parts before. Assumes nothing.
 use mathlib.Core.Path.{_≡_, refl, sym, ap, _∙_}
 use mathlib.Core.Bool.{Bool, false}
-use mathlib.Core.List.{map}
-use Prim.Native.Nat.{ℕ, zero, suc, _≤_, _<_}
+use mathlib.Core.List.{List, _∷_, [], _++_, map, append-nil, append-assoc}
+use Prim.Native.Nat.{ℕ, zero, suc, _+_, _-_, _≤_, _<_}
 use native.Mathlib.Nat.{lt-of-le-of-lt}
+use native.Mathlib.Numerals.{add-one}
 use native.Mathlib.Omega.{arith}
 use lib.IntN.{ℤ, negℤ, _+ℤ_, _-ℤ_, natAbs, negℤ-+ℤ, +ℤ-assoc, +ℤ-idr}
-use lib.ListN.{length}
-use lib.Ieee.{Format, prec}
+use lib.ListN.{length, take, set}
+use lib.Seq.{take-suc-set}
+use lib.Ieee.{Float, Format, prec}
 use Rattle.units.specs.Whole.{Whole, nat, _⊖_, _≈_, Within, mag, int, difference, exactSum}
 use Rattle.units.specs.Rounding.{fl}
 use Rattle.units.specs.SignedRounding.{rep-zero, fl-same, fl-best}
@@ -67,6 +69,30 @@ module _ (f : Format) where
   unfoldable pub remaining : ℕ → Bool → ℤ → ℤ
   remaining zero z S = S
   remaining (suc k) z S = remaining k false (left z S)
+
+  -- ---- a loop that fills an area: the first i of n places are done, and k of them are left
+  parts-more : (n i : ℕ) → i < n → (k : ℕ) × ((n - i ≡ suc k) × (n - (i + 1) ≡ k))
+  parts-more n i h = (n - (i + 1), (omega arith, refl))
+
+  pub parts-next : (area : List Float) (i : ℕ) (z : Bool) (S : ℤ) → i < length area
+      → take i area ++ parts f (length area - i) z S ≡ take (i + 1) (set area i (nearestFloat f z S)) ++ parts f (length area - (i + 1)) false (left z S)
+  unfolding parts
+  parts-next area i z S h =
+      let m = parts-more (length area) i h in
+      let x = nearestFloat f z S in
+      rw (m .1 .0, m .1 .1, add-one i, take-suc-set area i x h) (sym (append-assoc (take i area) (x ∷ []) (parts f (m .0) false (left z S))))
+
+  pub parts-none : (z : Bool) (S : ℤ) (area : List Float) → area ++ parts f 0 z S ≡ area
+  unfolding parts
+  parts-none z S area = append-nil area
+
+  pub remaining-none : (z : Bool) (S : ℤ) → remaining 0 z S ≡ S
+  unfolding remaining
+  remaining-none z S = refl
+
+  pub remaining-next : (n i : ℕ) (z : Bool) (S : ℤ) → i < n → remaining (n - i) z S ≡ remaining (n - (i + 1)) false (left z S)
+  unfolding remaining
+  remaining-next n i z S h = let m = parts-more n i h in rw (m .1 .0, m .1 .1)
 
   pub parts-left : (k : ℕ) (z : Bool) (S : ℤ) → S -ℤ exactSum (map (value f) (parts f k z S)) ≡ remaining k z S
   unfolding parts remaining

@@ -15,15 +15,11 @@ use Rattle.kinds.specs.declared.Nearest.{Nearest}
 use Rattle.kinds.specs.declared.Nearest.the-variants as nearests
 use Rattle.kinds.specs.declared.Parted.{Parted}
 use Rattle.kinds.specs.declared.Parted.the-variants as parteds
-use Rattle.judge.specs.Judge.{judged}
+use Rattle.judge.specs.Judge.{judged, zeroSign}
 
 -- "S is the exact sum of a list in units."
 abbrev pub sumOf : Format → List ℕ → ℤ
 sumOf f ps = exactSum (map (λ (p : ℕ). value f (ofBits f p)) ps)
-
--- what a list with exact sum zero answers: +0. The sign of that zero, negative where it is true.
-abbrev pub zeroSign : List ℕ → Bool
-zeroSign ps = false
 
 -- ---- "Nearest: the double nearest S, ties to even significand. A zero S gives +0."
 unfoldable pub nearestAfter : Verdict → List ℕ → Nearest
@@ -46,6 +42,9 @@ addUp f xs S = eqb (natAbs (S -ℤ exactSum (map (value f) xs))) 0
 pub record Split : Type 0 where
   pub answer : Parted
   pub area : List Float
+
+abbrev pub split : Parted → List Float → Split
+split r xs = record { answer = r; area = xs }
 
 unfoldable pub partsAfter : Verdict → List ℕ → List Float → Split
 partsAfter verdicts.Good ps area =

@@ -1,1 +1,45 @@
 // The sums of a list: nearest, and in parts.
+use kinds::Doubles;
+use kinds::Nearest;
+use kinds::Parted;
+use kinds::Verdict;
+use register::WORDS;
+
+mod exact;
+mod split;
+
+ghost use mathlib.Core.Path.{_≡_};
+ghost use Rattle.sums.specs.Sums.{nearestOf, partsOf, split};
+
+// "Nearest: the double nearest S, ties to even significand."
+pub fn nearest(list: &[u64]) -> Nearest
+    ensures { λ r. ⌜ r ≡ nearestOf (now (list .entry)) ⌝ }
+{
+    match judge::judge(list, true, true) {
+        Verdict::Refused(k, place) => Nearest::Refused(k, place),
+        Verdict::Good => {
+            let mut words = [0u64; WORDS];
+            exact::total(list, &mut words);
+            let zero = judge::zero_sign(list);
+            Nearest::Sum(register::nearest::nearest_double(&words, zero))
+        }
+    }
+}
+
+// "Parts: f1 is nearest to S, each next part nearest to S less the parts before, zeros +0. The answer also says whether the parts add up to S."
+pub fn parts(list: &[u64], area: &mut [f64]) -> Parted
+    ensures { λ r. ⌜ split r (now (area .exit)) ≡ partsOf (now (list .entry)) (now (area .entry)) ⌝ }
+{
+    let count = area.len();
+    let fits = (1 <= count) & (count <= Doubles::PARTS);
+    match judge::judge(list, true, fits) {
+        Verdict::Refused(k, place) => Parted::Refused(k, place),
+        Verdict::Good => {
+            let mut words = [0u64; WORDS];
+            exact::total(list, &mut words);
+            let zero = judge::zero_sign(list);
+            split::split(&mut words, area, zero);
+            Parted::Parts(exact::is_zero(&words))
+        }
+    }
+}

@@ -6,6 +6,7 @@ pub mod Walk
 pub mod Powers
 pub mod Ceiling
 pub mod NaturalRounding
+pub mod Sticky
 pub mod Scaling
 pub mod Multiples
 pub mod SignedRounding

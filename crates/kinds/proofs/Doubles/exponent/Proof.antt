@@ -14,7 +14,7 @@ add-result : tie.Need-add-result
 add-result c = search needs
 
 sub-result : tie.Need-sub-result
-sub-result c = leading-le 64 (c .args .self .n + 1)
+sub-result c = leading-le 64 _
 
 returns : tie.Need-returns
 returns c =

@@ -1,0 +1,57 @@
+-- When each answer to an addition or a withdrawal is given, and what a run of them is. Definitions only.
+use mathlib.Core.Path.{_≡_}
+use mathlib.Core.Bool.{true, false}
+use mathlib.Core.List.{List, [], _∷_}
+use Prim.Native.Nat.{ℕ}
+use lib.IntN.{ℤ, negℤ, _+ℤ_}
+use lib.ListN.{length, replicate}
+use Rattle.lists.specs.Digits.{inside}
+use Rattle.kinds.specs.Limits.{doubles}
+use Rattle.kinds.specs.declared.Entry.{Entry}
+use Rattle.kinds.specs.declared.Entry.the-variants.{Entered, Refused}
+use Rattle.judge.specs.Judge.{faultOf}
+use Rattle.register.specs.Register as R
+use Rattle.register.specs.Register.{wordCount, registerBits, wholeOf, wordsOf, unitsOf, enter}
+
+-- the table, a row for each answer, 4 and 9 without a place, 2 and 3 at place 0. z is the whole number that would be there afterwards.
+pub data EntryWhen (ws : List ℕ) (p : ℕ) (z : ℤ) : Entry → Type 0 where
+  entered : length ws ≡ wordCount → faultOf doubles p ≡ 0 → inside registerBits z ≡ true → EntryWhen ws p z Entered
+  wrong-length : (length ws ≡ wordCount → ⊥) → EntryWhen ws p z (Refused 4 0)
+  bad-number : length ws ≡ wordCount → (faultOf doubles p ≡ 0 → ⊥) → EntryWhen ws p z (Refused (faultOf doubles p) 0)
+  out-of-range : length ws ≡ wordCount → faultOf doubles p ≡ 0 → inside registerBits z ≡ false → EntryWhen ws p z (Refused 9 0)
+
+-- the words afterwards: "Every refusal writes nothing to any lent area."
+abbrev pub afterwards : List ℕ → ℤ → Entry → List ℕ
+afterwards ws z Entered = wordsOf z
+afterwards ws z (Refused k i) = ws
+
+-- ---- a run of additions and withdrawals
+pub data Change : Type 0 where
+  add : ℕ → Change
+  withdraw : ℕ → Change
+
+abbrev pub patternOf : Change → ℕ
+patternOf (add p) = p
+patternOf (withdraw p) = p
+
+-- what a change adds to the whole number
+abbrev pub changeOf : Change → ℤ
+changeOf (add p) = unitsOf p
+changeOf (withdraw p) = negℤ (unitsOf p)
+
+-- one call: `added` or `withdrawn`, of its pattern
+abbrev pub changed : List ℕ → Change → R.Entered
+changed ws c = enter ws (patternOf c) (wholeOf ws +ℤ changeOf c)
+
+-- the words after all calls
+unfoldable pub run : List ℕ → List Change → List ℕ
+run ws [] = ws
+run ws (c ∷ cs) = run (changed ws c .words) cs
+
+-- none of the calls refuses
+unfoldable pub AllEntered : List ℕ → List Change → Type 0
+AllEntered ws [] = Unit {0}
+AllEntered ws (c ∷ cs) = (changed ws c .answer ≡ Entered) × AllEntered (changed ws c .words) cs
+
+abbrev pub zeros : List ℕ
+zeros = replicate wordCount 0

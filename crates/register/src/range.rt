@@ -1,0 +1,27 @@
+// Whether a sum left the range, read from the top bits before and after.
+ghost use mathlib.Core.Path.{_≡_};
+ghost use Prim.Native.Nat.{_-_, _<_};
+ghost use lib.ListN.{length};
+ghost use Rattle.register.specs.Register.{wordCount};
+ghost use Rattle.register.specs.Steps.{signBit, leaves};
+use super::WORDS;
+use super::place::SIGN;
+
+// The sign of the register. It has to have its words.
+pub fn sign(words: &[u64]) -> u64
+    requires { ⌜ length (now words) ≡ wordCount ⌝ }
+    ensures { λ r. ⌜ r ≡ signBit (now (words .entry)) ⌝ }
+{
+    words[WORDS - 1] >> 63
+}
+
+// An addition leaves the range where the top bit was clear and is set afterwards, a subtraction where it was set and is clear afterwards.
+pub fn left(p: u64, before: u64, after: u64) -> bool
+    ensures { λ r. ⌜ r ≡ leaves p before after ⌝ }
+{
+    if p < SIGN {
+        before < after
+    } else {
+        after < before
+    }
+}

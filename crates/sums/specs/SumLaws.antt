@@ -1,0 +1,82 @@
+-- The exact sum of a list in a register's words, number by number; and that the sum of an allowed list is whole in them and below the format's limit.
+-- Assumes nothing.
+use mathlib.Core.Path.{_≡_, sym, ap, _∙_}
+use mathlib.Core.List.{List, [], _∷_, map, map-append}
+use Prim.Native.Nat.{ℕ, _+_, _*_, _^_, _≤_, _<_}
+use native.Mathlib.Nat.{le-trans, le-of-suc-le, lt-of-le-of-lt, lt-of-lt-of-le, mul-le-mul-right}
+use lib.Dec.{T, lit<, lit≤, lt→ltb}
+use lib.IntN.{ℤ, pos, negsuc, _+ℤ_, natAbs, +ℤ-assoc, +ℤ-idl, +ℤ-idr}
+use lib.ListN.{length, take, getD, replicate, length-map}
+use lib.Ieee.{Format, ofBits}
+use lib.Ieee.Bits.{is-true}
+use Rattle.units.specs.ExactSum.{sum-append, sum-bound}
+use Rattle.ieee.specs.Units.{value, limit}
+use Rattle.ieee.specs.Sum.{value-mag}
+use Rattle.lists.specs.Digits.{number, signed, inside}
+use Rattle.lists.specs.Front.{take-next, map-at}
+use Rattle.lists.specs.SignedDigits.{cut-whole, whole-cut, cut-plus}
+use Rattle.kinds.specs.Limits.{Width, doubles}
+use Rattle.judge.specs.Table.{Allowed, most}
+use Rattle.judge.specs.FaultLaws.{fault-0, most-doubles}
+use Rattle.register.specs.Register.{wordBits, wordCount, registerBits, wholeOf, wordsOf, unitsOf}
+use Rattle.register.specs.Steps.{Held}
+use Rattle.sums.specs.Sums.{sumOf}
+
+-- one number more
+pub sum-next : (f : Format) (ps : List ℕ) (i : ℕ) → i < length ps → sumOf f (take (i + 1) ps) ≡ sumOf f (take i ps) +ℤ value f (ofBits f (getD ps i 0))
+sum-next f ps i h =
+    rw (take-next 0 ps i h, map-append g (take i ps) (getD ps i 0 ∷ []), sum-append (map g (take i ps)) (g (getD ps i 0) ∷ []))
+    (ap (λ (z : ℤ). sumOf f (take i ps) +ℤ z) (+ℤ-idr (g (getD ps i 0))))
+  where
+    g : ℕ → ℤ
+    g p = value f (ofBits f p)
+
+-- ---- a loop that adds the numbers to words that stand for z
+pub total-begins : {ws : List ℕ} (ps : List ℕ) → Held ws → ws ≡ wordsOf (wholeOf ws +ℤ sumOf (doubles .format) (take 0 ps))
+total-begins {ws} ps W = sym (ap wordsOf (+ℤ-idr (wholeOf ws)) ∙ cut-whole wordBits wordCount (lit< tt) W)
+
+pub total-goes-on : {ws : List ℕ} (z : ℤ) (ps : List ℕ) (i : ℕ) → i < length ps → ws ≡ wordsOf (z +ℤ sumOf (doubles .format) (take i ps))
+    → wordsOf (wholeOf ws +ℤ unitsOf (getD ps i 0)) ≡ wordsOf (z +ℤ sumOf (doubles .format) (take (i + 1) ps))
+total-goes-on {ws} z ps i h e =
+    ap (λ (l : List ℕ). wordsOf (wholeOf l +ℤ u)) e
+    ∙ cut-plus wordBits wordCount (lit< tt) u (z +ℤ s)
+    ∙ ap wordsOf (+ℤ-assoc z s u ∙ ap (λ (x : ℤ). z +ℤ x) (sym (sum-next (doubles .format) ps i h)))
+  where
+    u : ℤ
+    u = unitsOf (getD ps i 0)
+
+    s : ℤ
+    s = sumOf (doubles .format) (take i ps)
+
+-- ---- how large the sum of an allowed list is
+pub sum-at-most : (W : Width) (ps : List ℕ) → Allowed W ps → natAbs (sumOf (W .format) ps) ≤ length ps * most W
+sum-at-most W ps C = rw (length-map ps g) at (sum-bound (most W) (map g ps) each)
+  where
+    g : ℕ → ℤ
+    g p = value (W .format) (ofBits (W .format) p)
+
+    each : (j : ℕ) → j < length (map g ps) → natAbs (getD (map g ps) j (pos 0)) ≤ most W
+    each j h =
+        let l : j < length ps = rw (length-map ps g) at h in
+        rw (map-at g ps j 0 (pos 0) l, value-mag (W .format) (ofBits (W .format) (getD ps j 0))) (fault-0 W (getD ps j 0) .0 (C .none j l) .1)
+
+module _ {ps : List ℕ} (few : length ps ≤ doubles .length) (C : Allowed doubles ps) where
+  -- 4,094 times 2 ^ 2074 units
+  sum-most : natAbs (sumOf (doubles .format) ps) ≤ doubles .length * 2 ^ 2074
+  sum-most = le-trans (rw most-doubles at (sum-at-most doubles ps C)) (mul-le-mul-right (2 ^ 2074) few)
+
+  pub sum-below-limit : natAbs (sumOf (doubles .format) ps) < limit (doubles .format)
+  sum-below-limit = lt-of-le-of-lt sum-most (lit< tt)
+
+-- what is below the limit is whole in the register's words
+pub whole-words : (z : ℤ) → natAbs z < limit (doubles .format) → wholeOf (wordsOf z) ≡ z
+whole-words z l = whole-cut wordBits wordCount (lit< tt) z (is-true (inside registerBits z) (fits z (lt-of-lt-of-le l (lit≤ tt))))
+  where
+    fits : (z : ℤ) → natAbs z < 2 ^ 2111 → T (inside registerBits z)
+    fits (pos n) h = lt→ltb n (2 ^ 2111) h
+    fits (negsuc n) h = lt→ltb n (2 ^ 2111) (le-of-suc-le h)
+
+-- the words of zeros and a list's sum stand for that sum
+pub total-whole : {ws : List ℕ} (S : ℤ) → natAbs S < limit (doubles .format) → ws ≡ wordsOf (wholeOf (replicate wordCount 0) +ℤ S) → wholeOf ws ≡ S
+unfolding number signed
+total-whole S l e = ap wholeOf (e ∙ ap wordsOf (+ℤ-idl S)) ∙ whole-words S l
