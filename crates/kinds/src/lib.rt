@@ -5,7 +5,7 @@ ghost use Rattle.units.specs.Rounding.{ceil};
 ghost use Rattle.units.specs.Walk.{roundedUp};
 ghost use Rattle.kinds.specs.Limits.{doubles, Tied};
 
-// A list of binary64 patterns, by its length. Document 01's limits on lists are constants of this type, and stand nowhere else.
+// A list of binary64 patterns, by its length. Document 01's limits on lists are constants of this type, and stand in no other function.
 pub struct Doubles {
     pub n: usize,
 }

@@ -9,4 +9,5 @@ pub mod EnterLaws
 pub mod Range
 pub mod RegisterLaws
 pub mod RunLaws
+pub mod Farewell
 pub mod RoundedLaws

@@ -1,24 +1,29 @@
 -- Document 01's promises about the nearest sum and the parts, said of the definitions that their contracts cite. Assumes nothing.
-use mathlib.Core.Path.{_≡_, sym}
+use mathlib.Core.Logic.{_↔_}
+use mathlib.Core.Path.{_≡_, refl, sym, ap, _∙_}
 use mathlib.Core.Bool.{Bool, true, false, _&&_}
-use mathlib.Core.List.{List, [], _∷_}
+use mathlib.Core.List.{List, [], _∷_, map}
 use Prim.Native.Nat.{ℕ, zero, suc, _<_}
 use native.Mathlib.Nat.{lt-of-le-of-lt}
 use lib.Dec.{leb}
-use lib.IntN.{ℤ, natAbs, _-ℤ_}
-use lib.ListN.{length}
-use lib.Ieee.{Float, Format}
+use lib.IntN.{ℤ, pos, natAbs, _-ℤ_}
+use lib.ListN.{length, replicate}
+use lib.Ieee.{Float, Format, toBits}
 use Rattle.ieee.specs.Units.{value, nearestFloat, limit}
 use Rattle.ieee.specs.Accuracy.{NearestTo}
 use Rattle.ieee.specs.Nearest.{nearest-nearest}
 use Rattle.kinds.specs.Limits.{doubles}
+use Rattle.kinds.specs.Heard.{placeOf, pattern, nearestHeard, refused, nearest}
+use Rattle.kinds.specs.declared.Verdict.{Verdict}
 use Rattle.kinds.specs.declared.Verdict.the-variants as verdicts
+use Rattle.kinds.specs.declared.Nearest.{Nearest}
+use Rattle.kinds.specs.declared.Parted.{Parted}
 use Rattle.kinds.specs.declared.Nearest.the-variants as nearests
 use Rattle.kinds.specs.declared.Parted.the-variants as parteds
-use Rattle.judge.specs.Judge.{zeroSign}
+use Rattle.judge.specs.Judge.{judged, zeroSign}
 use Rattle.judge.specs.Table.{GivenWhen}
 use Rattle.judge.specs.JudgeLaws.{given-when}
-use Rattle.sums.specs.Sums.{sumOf, nearestOf, parts, addUp, split, partsOf, partsAfter}
+use Rattle.sums.specs.Sums.{sumOf, nearestAfter, nearestOf, parts, addUp, Split, split, partsOf, partsAfter}
 use Rattle.sums.specs.NonOverlapping.{NonOverlapping}
 use Rattle.sums.specs.PartsLaws.{left-smaller, parts-apart}
 use Rattle.sums.specs.SumLaws.{sum-below-limit}
@@ -41,24 +46,72 @@ parts-nearest f (suc k) z S l = (
 abbrev pub fitting : List Float → Bool
 fitting area = leb 1 (length area) && leb (length area) (doubles .parts)
 
+-- which verdict an answer comes from
+abbrev nearest-verdict : Nearest → Verdict
+nearest-verdict (nearests.Sum x) = verdicts.Good
+nearest-verdict (nearests.Refused k i) = verdicts.Refused k i
+
+abbrev parts-verdict : Parted → Verdict
+parts-verdict (parteds.Parts b) = verdicts.Good
+parts-verdict (parteds.Refused k i) = verdicts.Refused k i
+
+-- a zero with a positive sign is +0
+zero-pattern : (z : Bool) (S : ℤ) → z ≡ false → S ≡ pos 0 → toBits (doubles .format) (nearestFloat (doubles .format) z S) ≡ 0
+unfolding nearestFloat toBits
+zero-pattern z S e s = rw (e, s)
+
+-- "zeros +0": every part of zero
+pub parts-zero : (k : ℕ) (z : Bool) (S : ℤ) → z ≡ false → S ≡ pos 0 → map (toBits (doubles .format)) (parts (doubles .format) k z S) ≡ replicate k 0
+unfolding parts nearestFloat toBits value
+parts-zero zero z S e s = refl
+parts-zero (suc k) z S e s = rw (e, s) (ap (λ (xs : List ℕ). 0 ∷ xs) (parts-zero k false (pos 0) refl refl))
+
 module _ (ps : List ℕ) where
   abbrev S : ℤ
   S = sumOf (doubles .format) ps
 
-  pub nearest-refusals : (k i : ℕ) → GivenWhen doubles true true ps (verdicts.Refused k i) → nearestOf ps ≡ nearests.Refused k i
-  nearest-refusals k i G = nearest-refused ps k i (given-when doubles true true ps (verdicts.Refused k i) .1 G)
+  nearest-from : (v : Verdict) → nearest-verdict (nearestAfter v ps) ≡ v
+  unfolding nearestAfter
+  nearest-from verdicts.Good = refl
+  nearest-from (verdicts.Refused k i) = refl
 
-  -- "the double nearest S, ties to even significand", for every list that isn't refused
-  pub nearest-promised : GivenWhen doubles true true ps verdicts.Good
-      → let x = nearestFloat (doubles .format) (zeroSign ps) S in (nearestOf ps ≡ nearests.Sum x) × NearestTo (doubles .format) S x
-  nearest-promised G = (
-    nearest-good ps (given-when doubles true true ps verdicts.Good .1 G),
-    nearest-nearest (doubles .format) (zeroSign ps) S (sum-below-limit (G .0 .few) (G .1)),
+  -- a refusal is given exactly when its row of the table says
+  pub nearest-refusals : (k i : ℕ) → (nearestOf ps ≡ nearests.Refused k i) ↔ GivenWhen doubles true true ps (verdicts.Refused k i)
+  nearest-refusals k i = (
+    λ e. given-when doubles true true ps (verdicts.Refused k i) .0 (sym (nearest-from (judged doubles true true ps)) ∙ ap nearest-verdict e),
+    λ G. nearest-refused ps k i (given-when doubles true true ps (verdicts.Refused k i) .1 G),
   )
 
+  -- and so it is heard, with a place for 2 and 3 alone
+  pub nearest-heard : (k i : ℕ) → GivenWhen doubles true true ps (verdicts.Refused k i) → nearestHeard (nearestOf ps) ≡ refused k (placeOf k i)
+  nearest-heard k i G = ap nearestHeard (nearest-refusals k i .1 G)
+
+  module _ (G : GivenWhen doubles true true ps verdicts.Good) where
+    -- "the double nearest S, ties to even significand", for every list that isn't refused
+    pub nearest-promised : let x = nearestFloat (doubles .format) (zeroSign ps) S in
+        (nearestHeard (nearestOf ps) ≡ nearest (pattern x)) × NearestTo (doubles .format) S x
+    nearest-promised = (
+      ap nearestHeard (nearest-good ps (given-when doubles true true ps verdicts.Good .1 G)),
+      nearest-nearest (doubles .format) (zeroSign ps) S (sum-below-limit (G .0 .few) (G .1)),
+    )
+
+    -- "A zero S gives +0."
+    pub nearest-zero : S ≡ pos 0 → nearestHeard (nearestOf ps) ≡ nearest 0
+    nearest-zero s = nearest-promised .0 ∙ ap nearest (zero-pattern (zeroSign ps) S refl s)
+
   module _ (area : List Float) where
-    pub parts-refusals : (k i : ℕ) → GivenWhen doubles true (fitting area) ps (verdicts.Refused k i) → partsOf ps area ≡ split (parteds.Refused k i) area
-    parts-refusals k i G = sym (parts-refused ps area k i (given-when doubles true (fitting area) ps (verdicts.Refused k i) .1 G))
+    parts-from : (v : Verdict) → parts-verdict (partsAfter v ps area .answer) ≡ v
+    unfolding partsAfter
+    parts-from verdicts.Good = refl
+    parts-from (verdicts.Refused k i) = refl
+
+    pub parts-refusals : (k i : ℕ) → (partsOf ps area ≡ split (parteds.Refused k i) area) ↔ GivenWhen doubles true (fitting area) ps (verdicts.Refused k i)
+    parts-refusals k i = (
+      λ e. given-when doubles true (fitting area) ps (verdicts.Refused k i) .0 (
+          sym (parts-from (judged doubles true (fitting area) ps)) ∙ ap (λ (r : Split). parts-verdict (r .answer)) e
+          ),
+      λ G. sym (parts-refused ps area k i (given-when doubles true (fitting area) ps (verdicts.Refused k i) .1 G)),
+    )
 
     -- what an accepted call leaves
     abbrev left : List Float
