@@ -4,7 +4,7 @@ use mathlib.Core.Path.{_≡_, sym, ap, _∙_}
 use mathlib.Core.List.{List, [], _∷_, _++_, map}
 use Prim.Native.Nat.{ℕ}
 use lib.Dec.{lit<}
-use lib.IntN.{ℤ, pos, negℤ, _+ℤ_, _-ℤ_, +ℤ-assoc, +ℤ-comm, +ℤ-idl, +ℤ-idr, -ℤ-+ℤ-cancel}
+use lib.IntN.{ℤ, negℤ, _+ℤ_, _-ℤ_, +ℤ-assoc, +ℤ-comm, +ℤ-idl, +ℤ-idr, -ℤ-+ℤ-cancel}
 use Rattle.units.specs.Whole.{exactSum}
 use Rattle.lists.specs.SignedDigits.{cut-whole}
 use Rattle.words.specs.Words.{wordBits, wordCount, wholeOf, wordsOf}
@@ -33,7 +33,10 @@ history xs ys p = xs ++ (add p ∷ (ys ++ (withdraw p ∷ [])))
 
 gone : (xs ys : List Change) (p : ℕ) → exactSum (map changeOf (history xs ys p)) ≡ exactSum (map changeOf (xs ++ ys))
 gone (x ∷ xs) ys p = ap (λ (z : ℤ). changeOf x +ℤ z) (gone xs ys p)
-gone [] ys p = ap (λ (z : ℤ). unitsOf p +ℤ z) (last ys) ∙ +ℤ-comm (unitsOf p) (exactSum (map changeOf ys) -ℤ unitsOf p) ∙ -ℤ-+ℤ-cancel (exactSum (map changeOf ys)) (unitsOf p)
+gone [] ys p =
+    ap (λ (z : ℤ). unitsOf p +ℤ z) (last ys)
+    ∙ +ℤ-comm (unitsOf p) (exactSum (map changeOf ys) -ℤ unitsOf p)
+    ∙ -ℤ-+ℤ-cancel (exactSum (map changeOf ys)) (unitsOf p)
   where
     last : (ys : List Change) → exactSum (map changeOf (ys ++ (withdraw p ∷ []))) ≡ exactSum (map changeOf ys) -ℤ unitsOf p
     last [] = +ℤ-idr (negℤ (unitsOf p)) ∙ sym (+ℤ-idl (negℤ (unitsOf p)))
