@@ -1,5 +1,5 @@
 -- The fault of one pattern, and what a list is refused for, in document 01's order. Definitions only.
-use mathlib.Core.Bool.{Bool, cond, not}
+use mathlib.Core.Bool.{Bool, false, cond, not}
 use mathlib.Core.List.{List, [], _∷_, map}
 use Prim.Native.Nat.{ℕ, _+_}
 use lib.Dec.{leb, ltb, eqb}
@@ -34,3 +34,7 @@ judged W area parts ps =
 -- the numbers of a list
 abbrev pub floats : Width → List ℕ → List Float
 floats W ps = map (ofBits (W .format)) ps
+
+-- what a list with exact sum zero answers: +0. The sign of that zero, negative where it is true.
+abbrev pub zeroSign : List ℕ → Bool
+zeroSign ps = false

@@ -3,3 +3,4 @@ pub mod Digits
 pub mod Front
 pub mod LeadingZeros
 pub mod DigitLaws
+pub mod Bitset
