@@ -4,16 +4,19 @@ use Prim.Native.Nat.{ℕ}
 use lib.Ieee.{Format, binary64}
 use Rattle.kinds.specs.declared.Limits.{Limits}
 
--- the format; how many numbers a list has at most; the pattern of the largest magnitude; how many numbers a block holds; how many parts there are at most
+-- the format; how many numbers a list has at most; the pattern of the largest magnitude; how many numbers a block holds; how many parts there are at most;
+-- the pattern that bounds t and tau of a sound state, and how many rounds it has closed at most
 pub record Width : Type 0 where
   pub format : Format
   pub length : ℕ
   pub magnitude : ℕ
   pub block : ℕ
   pub parts : ℕ
+  pub carried : ℕ
+  pub rounds : ℕ
 
 abbrev pub doubles : Width
-doubles = record { format = binary64; length = 4094; magnitude = 0x7E70000000000000; block = 64; parts = 8 }
+doubles = record { format = binary64; length = 4094; magnitude = 0x7E70000000000000; block = 64; parts = 8; carried = 0x7F30000000000000; rounds = 50 }
 
 -- the code's constants are these
 pub record Tied (W : Width) (r : Limits) : Type 0 where

@@ -1,6 +1,7 @@
 -- Facts on lists, and numbers written in digits of base 2 ^ w. Definitions first, then laws.
 pub mod Digits
 pub mod Carry
+pub mod Bitset
 pub mod Front
 pub mod LeadingZeros
 pub mod WordShifts

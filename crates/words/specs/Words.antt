@@ -1,6 +1,6 @@
 -- "Register: 33 words of 64 bits, least significant first, two's complement, counting units." Definitions only.
 use mathlib.Core.List.{List}
-use Prim.Native.Nat.{ℕ}
+use Prim.Native.Nat.{ℕ, _*_}
 use lib.IntN.{ℤ}
 use Rattle.lists.specs.Digits.{number, digits, signed, residue}
 
@@ -11,7 +11,7 @@ abbrev pub wordCount : ℕ
 wordCount = 33
 
 abbrev pub registerBits : ℕ
-registerBits = 2112
+registerBits = wordBits * wordCount
 
 -- the whole number that words stand for, and the words of a whole number
 abbrev pub wholeOf : List ℕ → ℤ

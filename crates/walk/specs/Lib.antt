@@ -1,0 +1,4 @@
+-- The faithful walk.
+pub mod Round
+pub mod Sound
+pub mod Walk

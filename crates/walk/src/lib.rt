@@ -1,0 +1,1 @@
+// The faithful walk: opening, block steps, closing, and the undivided run.
