@@ -2,3 +2,4 @@
 pub mod Limits
 pub mod Heard
 pub mod HeardLaws
+pub mod LimitsLaws

@@ -11,3 +11,4 @@ pub mod RegisterLaws
 pub mod RunLaws
 pub mod Farewell
 pub mod RoundedLaws
+pub mod Told

@@ -13,7 +13,7 @@ use Rattle.ieee.specs.Units.{value, nearestFloat, limit}
 use Rattle.ieee.specs.Accuracy.{NearestTo}
 use Rattle.ieee.specs.Nearest.{nearest-nearest}
 use Rattle.kinds.specs.Limits.{doubles}
-use Rattle.kinds.specs.Heard.{placeOf, pattern, nearestHeard, refused, nearest}
+use Rattle.kinds.specs.Heard.{placeOf, pattern, nearestHeard, partedHeard, refused, nearest}
 use Rattle.kinds.specs.declared.Verdict.{Verdict}
 use Rattle.kinds.specs.declared.Verdict.the-variants as verdicts
 use Rattle.kinds.specs.declared.Nearest.{Nearest}
@@ -112,6 +112,13 @@ module _ (ps : List ℕ) where
           ),
       λ G. sym (parts-refused ps area k i (given-when doubles true (fitting area) ps (verdicts.Refused k i) .1 G)),
     )
+
+    -- and so it is heard, and the slice is as it was
+    pub parts-heard : (k i : ℕ) → GivenWhen doubles true (fitting area) ps (verdicts.Refused k i)
+        → (partedHeard (partsOf ps area .answer) ≡ refused k (placeOf k i)) × (partsOf ps area .area ≡ area)
+    parts-heard k i G =
+        let e = parts-refusals k i .1 G in
+        (ap (λ (r : Split). partedHeard (r .answer)) e, ap (λ (r : Split). r .area) e)
 
     -- what an accepted call leaves
     abbrev left : List Float
