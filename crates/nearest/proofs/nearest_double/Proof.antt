@@ -1,4 +1,4 @@
--- `register::nearest::nearest_double` meets its contract: below the limit the nearest double's bits are a finite one's. Assumes nothing.
+-- `nearest::nearest_double` meets its contract: below the limit the nearest double's bits are a finite one's. Assumes nothing.
 use borrow.Author.Needs.{needs}
 use mathlib.Core.Path.{_∙_}
 use lib.IntN.{natAbs}

@@ -1,4 +1,4 @@
--- `register::bits::double` meets its contract: a pattern below the infinity's is no NaN's. Assumes nothing.
+-- `nearest::bits::double` meets its contract: a pattern below the infinity's is no NaN's. Assumes nothing.
 use borrow.Author.Needs.{needs}
 use mathlib.Core.Path.{_≡_, refl}
 use mathlib.Core.Bool.{Bool, true, false, cond}

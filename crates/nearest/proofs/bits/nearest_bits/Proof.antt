@@ -1,4 +1,4 @@
--- `register::bits::nearest_bits` meets its contract: the top word tells the sign, and the head of the magnitude the pattern. Assumes nothing.
+-- `nearest::bits::nearest_bits` meets its contract: the top word tells the sign, and the head of the magnitude the pattern. Assumes nothing.
 use borrow.Author.Needs.{needs}
 use mathlib.Core.Path.{sym, ap, _∙_}
 use Prim.Native.Nat.{_-_, _<_}

@@ -1,4 +1,4 @@
--- `register::head::joined` meets its contract: the shifts lose none of the upper word, and the sum fits. Assumes nothing.
+-- `nearest::head::joined` meets its contract: the shifts lose none of the upper word, and the sum fits. Assumes nothing.
 use borrow.Author.Needs.{needs}
 use Rattle.lists.specs.WordShifts.{joined-is, joined-lt}
 use Rattle.nearest.proofs.head.joined.Statement.{statement}

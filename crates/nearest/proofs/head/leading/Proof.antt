@@ -1,4 +1,4 @@
--- `register::head::leading` meets its contract: the head is that of the words in use, one or two at the top. Assumes nothing.
+-- `nearest::head::leading` meets its contract: the head is that of the words in use, one or two at the top. Assumes nothing.
 use borrow.Author.Needs.{needs}
 use Prim.Native.Nat.{_-_, _^_, _≤_, _<_}
 use native.Mathlib.Omega.{arith}

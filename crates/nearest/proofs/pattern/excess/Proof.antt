@@ -1,4 +1,4 @@
--- `register::pattern::excess` meets its contract: the digits beyond the 53rd. Assumes nothing.
+-- `nearest::pattern::excess` meets its contract: the digits beyond the 53rd. Assumes nothing.
 use borrow.Author.Needs.{needs}
 use native.Mathlib.Omega.{arith}
 use Rattle.nearest.specs.Sticky.{dropped-is}

@@ -1,4 +1,4 @@
--- `register::pattern::pattern` meets its contract: at most 2,059 digits are dropped, so the field and the quotient fit a word. Assumes nothing.
+-- `nearest::pattern::pattern` meets its contract: at most 2,059 digits are dropped, so the field and the quotient fit a word. Assumes nothing.
 use borrow.Author.Needs.{needs}
 use mathlib.Core.Path.{_≡_}
 use Prim.Native.Nat.{_+_, _*_, _%_, _^_, _≤_}

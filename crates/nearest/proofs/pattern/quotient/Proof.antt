@@ -1,4 +1,4 @@
--- `register::pattern::quotient` meets its contract: what is left of x, doubled, is below, above or at the unit. Assumes nothing.
+-- `nearest::pattern::quotient` meets its contract: what is left of x, doubled, is below, above or at the unit. Assumes nothing.
 use borrow.Author.Needs.{needs}
 use mathlib.Core.Path.{_≡_, refl, sym, _∙_}
 use mathlib.Core.Bool.{Bool, true, false, cond}

@@ -1,4 +1,4 @@
--- `register::ripple::add_at` meets its contract: the two words' sums and the carry that goes on from there, as one sum. Assumes nothing.
+-- `words::ripple::add_at` meets its contract: the two words' sums and the carry that goes on from there, as one sum. Assumes nothing.
 use borrow.Author.Needs.{needs}
 use mathlib.Core.Path.{_∙_}
 use native.Mathlib.Omega.{arith}

@@ -1,4 +1,4 @@
--- `register::ripple::borrow_up` meets its contract: at each turn what came in is the words and the borrow, but for a borrow from the word i.
+-- `words::ripple::borrow_up` meets its contract: at each turn what came in is the words and the borrow, but for a borrow from the word i.
 -- Assumes nothing.
 use borrow.Author.Needs.{needs}
 use mathlib.Core.Path.{_≡_}

@@ -1,4 +1,4 @@
--- `register::ripple::carry_up` meets its contract: at each turn the words are what came in and the carry, but for a carry into the word i.
+-- `words::ripple::carry_up` meets its contract: at each turn the words are what came in and the carry, but for a carry into the word i.
 -- Assumes nothing.
 use borrow.Author.Needs.{needs}
 use mathlib.Core.Path.{_≡_}

@@ -1,4 +1,4 @@
--- `register::ripple::sub_at` meets its contract: the two words' differences and the borrow that goes on from there, as one difference. Assumes nothing.
+-- `words::ripple::sub_at` meets its contract: the two words' differences and the borrow that goes on from there, as one difference. Assumes nothing.
 use borrow.Author.Needs.{needs}
 use mathlib.Core.Path.{_∙_}
 use native.Mathlib.Omega.{arith}
