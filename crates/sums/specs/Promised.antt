@@ -1,11 +1,10 @@
 -- Document 01's promises about the nearest sum and the parts, said of the definitions that their contracts cite. Assumes nothing.
 use mathlib.Core.Logic.{_↔_}
 use mathlib.Core.Path.{_≡_, refl, sym, ap, _∙_}
-use mathlib.Core.Bool.{Bool, true, false, _&&_}
+use mathlib.Core.Bool.{Bool, true, false}
 use mathlib.Core.List.{List, [], _∷_, map}
 use Prim.Native.Nat.{ℕ, zero, suc, _<_}
 use native.Mathlib.Nat.{lt-of-le-of-lt}
-use lib.Dec.{leb}
 use lib.IntN.{ℤ, pos, natAbs, _-ℤ_}
 use lib.ListN.{length, replicate}
 use lib.Ieee.{Float, Format, toBits}
@@ -23,7 +22,7 @@ use Rattle.kinds.specs.declared.Parted.the-variants as parteds
 use Rattle.judge.specs.Judge.{judged, zeroSign}
 use Rattle.judge.specs.Table.{GivenWhen}
 use Rattle.judge.specs.JudgeLaws.{given-when}
-use Rattle.sums.specs.Sums.{sumOf, nearestAfter, nearestOf, parts, addUp, Split, split, partsOf, partsAfter}
+use Rattle.sums.specs.Sums.{sumOf, nearestAfter, nearestOf, parts, addUp, Split, split, fitting, partsOf, partsAfter}
 use Rattle.sums.specs.NonOverlapping.{NonOverlapping}
 use Rattle.sums.specs.PartsLaws.{left-smaller, parts-apart}
 use Rattle.sums.specs.SumLaws.{sum-below-limit}
@@ -41,10 +40,6 @@ parts-nearest f (suc k) z S l = (
   nearest-nearest f z S l,
   parts-nearest f k false (S -ℤ value f (nearestFloat f z S)) (lt-of-le-of-lt (left-smaller f z S l) l),
 )
-
--- the length that a parts slice may have
-abbrev pub fitting : List Float → Bool
-fitting area = leb 1 (length area) && leb (length area) (doubles .parts)
 
 -- which verdict an answer comes from
 abbrev nearest-verdict : Nearest → Verdict

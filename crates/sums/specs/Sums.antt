@@ -53,5 +53,9 @@ partsAfter verdicts.Good ps area =
     record { answer = parteds.Parts (addUp (doubles .format) xs S); area = xs }
 partsAfter (verdicts.Refused k p) ps area = record { answer = parteds.Refused k p; area = area }
 
+-- the length that a parts slice may have
+abbrev pub fitting : List Float → Bool
+fitting area = leb 1 (length area) && leb (length area) (doubles .parts)
+
 abbrev pub partsOf : List ℕ → List Float → Split
-partsOf ps area = partsAfter (judged doubles true (leb 1 (length area) && leb (length area) (doubles .parts)) ps) ps area
+partsOf ps area = partsAfter (judged doubles true (fitting area) ps) ps area
