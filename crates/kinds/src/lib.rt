@@ -4,6 +4,7 @@ ghost use Prim.Native.Nat.{_+_, _≤_};
 ghost use Rattle.units.specs.Rounding.{ceil};
 ghost use Rattle.units.specs.Walk.{roundedUp};
 ghost use Rattle.kinds.specs.Limits.{doubles, Tied};
+ghost use Rattle.kinds.specs.States.{stateOf};
 
 // A list of binary64 patterns, by its length. Document 01's limits on lists are constants of this type, and stand in no other function.
 pub struct Doubles {
@@ -75,6 +76,22 @@ pub struct State {
     pub n: usize,
     pub pending: u64,
     pub rounds: u32,
+}
+
+impl State {
+    // Every state is built here.
+    pub fn of(n: usize, sigma: f64, t: f64, tau: f64, pending: u64, rounds: u32) -> Self
+        ensures { λ r. ⌜ r ≡ stateOf n sigma t tau pending rounds ⌝ }
+    {
+        State {
+            sigma,
+            t,
+            tau,
+            n,
+            pending,
+            rounds,
+        }
+    }
 }
 
 // ---- answers. A refusal holds document 01's number and the place, 0 where none is told.

@@ -3,6 +3,7 @@ pub mod Digits
 pub mod Carry
 pub mod Bitset
 pub mod Front
+pub mod Each
 pub mod LeadingZeros
 pub mod WordShifts
 pub mod DigitLaws

@@ -1,14 +1,18 @@
--- A sound state, in three tests: the numbers, the pending set, the first bad work place. Definitions only.
-use mathlib.Core.Bool.{Bool, true, not, _&&_}
+-- A sound state, in three tests: the numbers, the pending set, the first bad work place; and the gate of a step. Definitions only.
+use mathlib.Core.Bool.{Bool, cond, not, _&&_}
 use mathlib.Core.List.{List, [], _∷_}
-use Prim.Native.Nat.{ℕ, _*_, _^_}
+use Prim.Native.Nat.{ℕ, _+_, _*_, _^_}
 use lib.Dec.{leb, ltb, eqb}
+use lib.ListN.{length}
 use lib.Ieee.{Float, ofBits}
 use lib.Ieee.Scale.{finite}
 use Rattle.units.specs.Rounding.{ceil}
 use Rattle.ieee.specs.Units.{negative, magnitude}
+use Rattle.lists.specs.Bitset.{has}
 use Rattle.kinds.specs.Limits.{Width}
 use Rattle.kinds.specs.declared.State.{State}
+use Rattle.kinds.specs.declared.Verdict.{Verdict}
+use Rattle.kinds.specs.declared.Verdict.the-variants.{Good, Refused}
 use Rattle.walk.specs.Round.{exponentOf, blocksOf}
 
 -- the magnitude of a pattern, in units
@@ -16,31 +20,42 @@ abbrev pub unitsAt : Width → ℕ → ℕ
 unitsAt W p = magnitude (W .format) (ofBits (W .format) p)
 
 -- "sigma is a power of two from 2^(M-1074) to 2^(1000+M)": in units from 2^M to 2^M times the limit
-abbrev pub soundSigma : Width → ℕ → Float → Bool
+unfoldable pub soundSigma : Width → ℕ → Float → Bool
 soundSigma W n sigma =
     let m = magnitude (W .format) sigma in
     finite sigma && not (negative sigma) && eqb m (2 ^ ceil m) && leb (2 ^ exponentOf n) m && leb m (2 ^ exponentOf n * unitsAt W (W .magnitude))
 
--- "t and tau are finite, of magnitude at most 2^1012"
-abbrev pub soundSum : Width → Float → Bool
-soundSum W x = finite x && leb (magnitude (W .format) x) (unitsAt W (W .carried))
+-- "finite, of magnitude at most" so many units
+unfoldable pub atMost : Width → ℕ → Float → Bool
+atMost W most x = finite x && leb (magnitude (W .format) x) most
 
--- "n is 1 to 4,094; rounds closed 0 to 50; .. sigma ..; t and tau .."
+-- "n is 1 to 4,094; rounds closed 0 to 50; .. sigma ..; t and tau are finite, of magnitude at most 2^1012"
 unfoldable pub soundNumbers : Width → State → Bool
 soundNumbers W s =
-    leb 1 (s .n) && leb (s .n) (W .length) && leb (s .rounds) (W .rounds) && soundSigma W (s .n) (s .sigma) && soundSum W (s .t) && soundSum W (s .tau)
+    leb 1 (s .n) && leb (s .n) (W .length) && leb (s .rounds) (W .rounds) && soundSigma W (s .n) (s .sigma)
+    && atMost W (unitsAt W (W .carried)) (s .t) && atMost W (unitsAt W (W .carried)) (s .tau)
 
 -- "the pending set is not empty and has no bit at or above B"
 unfoldable pub soundPending : Width → State → Bool
 soundPending W s = ltb 0 (s .pending) && ltb (s .pending) (2 ^ blocksOf W (s .n))
 
--- "every work number is finite, of magnitude at most 2^-M sigma"
+-- "every work number is finite, of magnitude at most 2^-M sigma": 2^M times it is at most sigma
 abbrev pub soundPlace : Width → State → Float → Bool
 soundPlace W s x = finite x && leb (2 ^ exponentOf (s .n) * magnitude (W .format) x) (magnitude (W .format) (s .sigma))
 
-unfoldable pub soundWork : Width → State → List Float → Bool
-soundWork W s [] = true
-soundWork W s (x ∷ xs) = soundPlace W s x && soundWork W s xs
+-- the first work place that is not sound, or the length where each is
+unfoldable pub badPlace : Width → State → List Float → ℕ
+badPlace W s [] = 0
+badPlace W s (x ∷ xs) = cond (soundPlace W s x) (badPlace W s xs + 1) 0
 
 unfoldable pub sound : Width → State → List Float → Bool
-sound W s xs = soundNumbers W s && soundPending W s && soundWork W s xs
+sound W s xs = soundNumbers W s && soundPending W s && eqb (badPlace W s xs) (length xs)
+
+-- ---- "On a block step: 4, 8, 6, 7."
+unfoldable pub gated : Width → State → ℕ → List Float → Verdict
+gated W s b work =
+    cond (not (eqb (length work) (s .n))) (Refused 4 0)
+    (cond (not (sound W s work)) (Refused 8 0)
+    (cond (leb (blocksOf W (s .n)) b) (Refused 6 0)
+    (cond (not (has (s .pending) b)) (Refused 7 0)
+    Good)))

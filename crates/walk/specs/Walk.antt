@@ -1,67 +1,72 @@
 -- The faithful walk: opening, a block step, and the undivided run. Definitions only.
-use mathlib.Core.Bool.{true, cond, not}
+use mathlib.Core.Bool.{true, cond}
 use mathlib.Core.List.{List, [], _∷_, _++_, foldl}
 use Prim.Native.Nat.{ℕ, zero, suc}
-use lib.Dec.{leb, eqb}
+use lib.Dec.{eqb}
 use lib.IntN.{pos}
 use lib.ListN.{length}
 use lib.Ieee.{Float}
 use Rattle.ieee.specs.Units.{nearestFloat}
-use Rattle.lists.specs.Bitset.{has, without}
+use Rattle.lists.specs.Bitset.{without}
 use Rattle.kinds.specs.Limits.{Width}
+use Rattle.kinds.specs.States.{stateOf}
 use Rattle.kinds.specs.declared.State.{State}
 use Rattle.kinds.specs.declared.Step.{Step}
 use Rattle.kinds.specs.declared.Step.the-variants.{More, Done, Refused}
 use Rattle.kinds.specs.declared.Verdict.{Verdict}
 use Rattle.kinds.specs.declared.Verdict.the-variants as verdicts
 use Rattle.judge.specs.Judge.{judged, floats, zeroSign}
-use Rattle.walk.specs.Round.{plusZero, blocksOf, turned, gathered, blockOf, allZero, sigmaOf, roundOf, closed}
-use Rattle.walk.specs.Sound.{sound}
+use Rattle.extract.specs.Extract.{plusZero, gathered}
+use Rattle.walk.specs.Round.{blocksOf, turned, blockOf, allZero, sigmaOf, roundOf, closed}
+use Rattle.walk.specs.Sound.{gated}
 
 -- the answer, and the work area afterwards
 pub record Walked : Type 0 where
   pub answer : Step
   pub work : List Float
 
+abbrev pub walked : Step → List Float → Walked
+walked r xs = record { answer = r; work = xs }
+
 -- ---- "Opening copies the list to the work area and answers the first state, a finished sum or a refusal."
+-- "If n is 0 or every number is zero, the answer is +0 with 0 rounds. Otherwise mu .., sigma .., t = +0, and the first round opens"
 unfoldable pub openedAfter : Width → Verdict → List ℕ → List Float → Walked
 openedAfter W verdicts.Good ps work =
     let f = W .format in
     let xs = floats W ps in
-    record {
-      answer = cond (allZero f xs) (Done (nearestFloat f (zeroSign ps) (pos 0)) 0) (More (roundOf W (length ps) (sigmaOf f (length ps) xs) (plusZero f) 0));
-      work = xs;
-    }
-openedAfter W (verdicts.Refused k p) ps work = record { answer = Refused k p; work = work }
+    walked
+    (cond (allZero f xs) (Done (nearestFloat f (zeroSign ps) (pos 0)) 0) (More (roundOf W (length ps) (sigmaOf f (length ps) xs) (plusZero f) 0)))
+    xs
+openedAfter W (verdicts.Refused k p) ps work = walked (Refused k p) work
 
 abbrev pub opened : Width → List ℕ → List Float → Walked
 opened W ps work = openedAfter W (judged W (eqb (length work) (length ps)) true ps) ps work
 
 -- ---- a step of an accepted block: its numbers become their remainders, tau gathers them, and after the last pending block the round closes
+abbrev pub takenState : Width → State → ℕ → List Float → State
+takenState W s b work =
+    stateOf (s .n) (s .sigma) (s .t) (gathered (W .format) (s .sigma) (s .tau) (blockOf W b work)) (without (s .pending) b) (s .rounds)
+
 unfoldable pub taken : Width → State → ℕ → List Float → Walked
 taken W s b work =
-    let tau = gathered (W .format) (s .sigma) (s .tau) (blockOf W b work) in
-    let pending = without (s .pending) b in
-    let next : State = record { sigma = s .sigma; t = s .t; tau = tau; n = s .n; pending = pending; rounds = s .rounds } in
+    let next = takenState W s b work in
     let xs = turned W (s .sigma) b work in
-    record { answer = cond (eqb pending 0) (closed W next xs) (More next); work = xs }
+    walked (cond (eqb (next .pending) 0) (closed W next xs) (More next)) xs
 
--- "On a block step: 4, 8, 6, 7."
-unfoldable pub stepped : Width → State → ℕ → List Float → Walked
-stepped W s b work =
-    cond (not (eqb (length work) (s .n))) (record { answer = Refused 4 0; work = work })
-    (cond (not (sound W s work)) (record { answer = Refused 8 0; work = work })
-    (cond (leb (blocksOf W (s .n)) b) (record { answer = Refused 6 0; work = work })
-    (cond (not (has (s .pending) b)) (record { answer = Refused 7 0; work = work })
-    (taken W s b work))))
+unfoldable pub steppedAfter : Width → Verdict → State → ℕ → List Float → Walked
+steppedAfter W verdicts.Good s b work = taken W s b work
+steppedAfter W (verdicts.Refused k p) s b work = walked (Refused k p) work
+
+abbrev pub stepped : Width → State → ℕ → List Float → Walked
+stepped W s b work = steppedAfter W (gated W s b work) s b work
 
 -- ---- "The undivided call is this walk with blocks in rising order."
--- block b of a walk that goes on; nothing of one that has ended
+-- a step at block b of a walk that goes on; nothing of one that has ended
 abbrev pub onward : Width → Walked → ℕ → Walked
 onward W w b = after (w .answer)
   where
     after : Step → Walked
-    after (More s) = taken W s b (w .work)
+    after (More s) = stepped W s b (w .work)
     after (Done x r) = w
     after (Refused k p) = w
 
@@ -75,6 +80,6 @@ unfoldable pub roundsFrom : Width → ℕ → ℕ → Walked → Walked
 roundsFrom W blocks zero w = w
 roundsFrom W blocks (suc k) w = roundsFrom W blocks k (foldl (onward W) w (rising blocks))
 
--- one round more than a sound state has closed at most
+-- one round more than a sound state has closed at most: no walk is cut short by that
 abbrev pub faithfulOf : Width → List ℕ → List Float → Walked
 faithfulOf W ps work = roundsFrom W (blocksOf W (length ps)) (suc (W .rounds)) (opened W ps work)

@@ -1,0 +1,2 @@
+-- Powers of two as floats.
+pub mod Power

@@ -1,0 +1,30 @@
+-- One area of the faithful walk over lib.Ieee's operations: taking its numbers, adding them up, and the largest magnitude. Definitions only.
+-- Each operation is one rounded operation of the format.
+use mathlib.Core.List.{List, map, foldl, foldr}
+use Prim.Native.Nat.{ℕ, max}
+use lib.Ieee.{Float, Format, ofBits, add, sub}
+use Rattle.ieee.specs.Units.{magnitude}
+
+abbrev pub plusZero : Format → Float
+plusZero f = ofBits f 0
+
+-- ---- "Taking a block, places in rising order: q = (sigma + p) - sigma, then p becomes p - q, and tau becomes tau + q."
+abbrev pub highPart : Format → Float → Float → Float
+highPart f sigma p = sub f (add f sigma p) sigma
+
+abbrev pub remainderOf : Format → Float → Float → Float
+remainderOf f sigma p = sub f p (highPart f sigma p)
+
+unfoldable pub remainders : Format → Float → List Float → List Float
+remainders f sigma xs = map (remainderOf f sigma) xs
+
+unfoldable pub gathered : Format → Float → Float → List Float → Float
+gathered f sigma tau xs = foldl (λ t p. add f t (highPart f sigma p)) tau xs
+
+-- ---- "T is the work area added up from +0 in rising order"
+unfoldable pub lastSum : Format → List Float → Float
+lastSum f xs = foldl (add f) (plusZero f) xs
+
+-- ---- "mu is the largest magnitude", in units
+unfoldable pub largest : Format → List Float → ℕ
+largest f xs = foldr (λ x m. max (magnitude f x) m) 0 xs

@@ -1,0 +1,2 @@
+-- One area of the faithful walk: its high parts, its remainders, its sum and its largest magnitude.
+pub mod Extract

@@ -1,0 +1,8 @@
+-- How a state of the walk is built: the one definition that writes its fields. Definitions only.
+use Prim.Native.Nat.{ℕ}
+use lib.Ieee.{Float}
+use Rattle.kinds.specs.declared.State.{State}
+
+-- n, the three doubles sigma, t and tau, the pending set, the rounds closed
+abbrev pub stateOf : ℕ → Float → Float → Float → ℕ → ℕ → State
+stateOf n sigma t tau pending rounds = record { sigma = sigma; t = t; tau = tau; n = n; pending = pending; rounds = rounds }
