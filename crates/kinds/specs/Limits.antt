@@ -1,7 +1,9 @@
 -- What one width of float fixes, and document 01's numbers for binary64: the only definition that writes them. Definitions only.
 use mathlib.Core.Path.{_≡_}
-use Prim.Native.Nat.{ℕ}
+use Prim.Native.Nat.{ℕ, _+_}
 use lib.Ieee.{Format, binary64}
+use Rattle.units.specs.Rounding.{ceil}
+use Rattle.units.specs.Walk.{roundedUp}
 use Rattle.kinds.specs.declared.Limits.{Limits}
 
 -- the format; how many numbers a list has at most; the pattern of the largest magnitude; how many numbers a block holds; how many parts there are at most;
@@ -17,6 +19,13 @@ pub record Width : Type 0 where
 
 abbrev pub doubles : Width
 doubles = record { format = binary64; length = 4094; magnitude = 0x7E70000000000000; block = 64; parts = 8; carried = 0x7F30000000000000; rounds = 50 }
+
+-- "M is the least whole number with 2^M at least n + 2"; "B = n/64 rounded up"
+abbrev pub exponentOf : ℕ → ℕ
+exponentOf n = ceil (n + 2)
+
+abbrev pub blocksOf : Width → ℕ → ℕ
+blocksOf W n = roundedUp n (W .block)
 
 -- the code's constants are these
 pub record Tied (W : Width) (r : Limits) : Type 0 where

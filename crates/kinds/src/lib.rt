@@ -1,9 +1,7 @@
 // The types that the library's calls share: what describes a list, the walk's state, and every answer.
 ghost use mathlib.Core.Path.{_≡_};
-ghost use Prim.Native.Nat.{_+_, _≤_};
-ghost use Rattle.units.specs.Rounding.{ceil};
-ghost use Rattle.units.specs.Walk.{roundedUp};
-ghost use Rattle.kinds.specs.Limits.{doubles, Tied};
+ghost use Prim.Native.Nat.{_≤_};
+ghost use Rattle.kinds.specs.Limits.{doubles, exponentOf, blocksOf, Tied};
 ghost use Rattle.kinds.specs.States.{stateOf};
 
 // A list of binary64 patterns, by its length. Document 01's limits on lists are constants of this type, and stand in no other function.
@@ -53,7 +51,7 @@ impl Doubles {
     // M, "the least whole number with 2^M at least n + 2"
     pub fn exponent(self) -> u32
         requires { ⌜ self .n ≤ doubles .length ⌝ }
-        ensures { λ r. ⌜ r ≡ ceil (self .n + 2) ⌝ }
+        ensures { λ r. ⌜ r ≡ exponentOf (self .n) ⌝ }
     {
         let n = self.n as u64;
         64 - u64::leading_zeros(n + 1)
@@ -62,7 +60,7 @@ impl Doubles {
     // B, "n/64 rounded up"
     pub fn blocks(self) -> usize
         requires { ⌜ self .n ≤ doubles .length ⌝ }
-        ensures { λ r. ⌜ r ≡ roundedUp (self .n) (doubles .block) ⌝ }
+        ensures { λ r. ⌜ r ≡ blocksOf doubles (self .n) ⌝ }
     {
         (self.n + (Self::BLOCK - 1)) / Self::BLOCK
     }

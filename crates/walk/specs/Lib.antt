@@ -1,4 +1,3 @@
 -- The faithful walk.
 pub mod Round
-pub mod Sound
 pub mod Walk

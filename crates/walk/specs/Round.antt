@@ -1,4 +1,4 @@
--- One round of the faithful walk: M, the blocks, sigma, how a round opens, and the four rules of its close. Definitions only.
+-- One round of the faithful walk: the blocks, sigma, how a round opens, and the four rules of its close. Definitions only.
 -- Each operation is one rounded operation of the format.
 use mathlib.Core.Bool.{Bool, cond, _||_}
 use mathlib.Core.List.{List, _++_}
@@ -7,22 +7,14 @@ use lib.Dec.{eqb}
 use lib.ListN.{take, drop}
 use lib.Ieee.{Float, Format, prec, low, hid, ofBits, add, sub, mul, neg, lt, le, eq}
 use Rattle.units.specs.Rounding.{ceil}
-use Rattle.units.specs.Walk.{roundedUp}
 use Rattle.lists.specs.Bitset.{full}
-use Rattle.kinds.specs.Limits.{Width}
+use Rattle.kinds.specs.Limits.{Width, exponentOf, blocksOf}
 use Rattle.kinds.specs.States.{stateOf}
 use Rattle.kinds.specs.declared.State.{State}
 use Rattle.kinds.specs.declared.Step.{Step}
 use Rattle.kinds.specs.declared.Step.the-variants.{More, Done}
 use Rattle.extract.specs.Extract.{plusZero, remainders, lastSum, largest}
 use Rattle.exponent.specs.Power.{powerOf}
-
--- "M is the least whole number with 2^M at least n + 2"; "B = n/64 rounded up"
-abbrev pub exponentOf : ℕ → ℕ
-exponentOf n = ceil (n + 2)
-
-abbrev pub blocksOf : Width → ℕ → ℕ
-blocksOf W n = roundedUp n (W .block)
 
 -- "Block b covers places 64b to 64b+63, cut at n."
 abbrev pub blockOf : Width → ℕ → List Float → List Float

@@ -8,7 +8,7 @@ use lib.ListN.{length}
 use lib.Ieee.{Float}
 use Rattle.ieee.specs.Units.{nearestFloat}
 use Rattle.lists.specs.Bitset.{without}
-use Rattle.kinds.specs.Limits.{Width}
+use Rattle.kinds.specs.Limits.{Width, blocksOf}
 use Rattle.kinds.specs.States.{stateOf}
 use Rattle.kinds.specs.declared.State.{State}
 use Rattle.kinds.specs.declared.Step.{Step}
@@ -17,8 +17,8 @@ use Rattle.kinds.specs.declared.Verdict.{Verdict}
 use Rattle.kinds.specs.declared.Verdict.the-variants as verdicts
 use Rattle.judge.specs.Judge.{judged, floats, zeroSign}
 use Rattle.extract.specs.Extract.{plusZero, gathered}
-use Rattle.walk.specs.Round.{blocksOf, turned, blockOf, allZero, sigmaOf, roundOf, closed}
-use Rattle.walk.specs.Sound.{gated}
+use Rattle.sound.specs.Sound.{gated}
+use Rattle.walk.specs.Round.{turned, blockOf, allZero, sigmaOf, roundOf, closed}
 
 -- the answer, and the work area afterwards
 pub record Walked : Type 0 where

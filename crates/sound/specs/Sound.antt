@@ -9,11 +9,10 @@ use lib.Ieee.Scale.{finite}
 use Rattle.units.specs.Rounding.{ceil}
 use Rattle.ieee.specs.Units.{negative, magnitude}
 use Rattle.lists.specs.Bitset.{has}
-use Rattle.kinds.specs.Limits.{Width}
+use Rattle.kinds.specs.Limits.{Width, exponentOf, blocksOf}
 use Rattle.kinds.specs.declared.State.{State}
 use Rattle.kinds.specs.declared.Verdict.{Verdict}
 use Rattle.kinds.specs.declared.Verdict.the-variants.{Good, Refused}
-use Rattle.walk.specs.Round.{exponentOf, blocksOf}
 
 -- the magnitude of a pattern, in units
 abbrev pub unitsAt : Width → ℕ → ℕ

@@ -1,0 +1,2 @@
+-- Sound states, and the gate of a block step.
+pub mod Sound

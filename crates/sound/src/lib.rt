@@ -1,0 +1,1 @@
+// Whether a state is sound, and the gate of a block step.
