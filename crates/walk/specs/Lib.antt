@@ -1,3 +1,6 @@
 -- The faithful walk.
 pub mod Round
 pub mod Walk
+pub mod InUnits
+pub mod Fitting
+pub mod Stepping
