@@ -4,3 +4,5 @@ pub mod Walk
 pub mod InUnits
 pub mod Fitting
 pub mod Stepping
+pub mod Begun
+pub mod Rising
