@@ -5,7 +5,7 @@ use mathlib.Core.List.{List, _++_}
 use Prim.Native.Nat.{ℕ, _+_, _-_, _*_}
 use lib.Dec.{eqb}
 use lib.ListN.{take, drop}
-use lib.Ieee.{Float, Format, prec, low, hid, ofBits, add, sub, mul, neg, lt, le, eq}
+use lib.Ieee.{Float, Format, prec, low, hid, ofBits, add, sub, mul, le, eq}
 use Rattle.units.specs.Rounding.{ceil}
 use Rattle.lists.specs.Bitset.{full}
 use Rattle.kinds.specs.Limits.{Width, exponentOf, blocksOf}
@@ -13,7 +13,7 @@ use Rattle.kinds.specs.States.{stateOf}
 use Rattle.kinds.specs.declared.State.{State}
 use Rattle.kinds.specs.declared.Step.{Step}
 use Rattle.kinds.specs.declared.Step.the-variants.{More, Done}
-use Rattle.extract.specs.Extract.{plusZero, remainders, lastSum, largest}
+use Rattle.extract.specs.Extract.{plusZero, remainders, lastSum, absolute, largest}
 use Rattle.exponent.specs.Power.{powerOf}
 
 -- "Block b covers places 64b to 64b+63, cut at n."
@@ -43,9 +43,6 @@ scaled f j sigma = mul f (powerOf f (low f + j - prec f)) sigma
 -- the least normal number: 2^-1022
 abbrev pub leastNormal : Format → Float
 leastNormal f = ofBits f (hid f)
-
-abbrev pub absolute : Format → Float → Float
-absolute f x = cond (lt x (plusZero f)) (neg x) x
 
 -- "tau1 = t'; tau2 = tau - (tau1 - t); .. the answer is tau1 + (tau2 + T)"
 unfoldable pub finished : Format → Float → Float → List Float → Float
