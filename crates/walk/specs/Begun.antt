@@ -1,28 +1,25 @@
 -- A round of a run as it opens, what taking some of its numbers in rising order leaves, and that each state on the way is sound. Assumes nothing.
 use mathlib.Core.Path.{_≡_, _∙_}
-use mathlib.Core.Bool.{false}
 use mathlib.Core.List.{List, _++_}
 use Prim.Native.Nat.{ℕ, suc, _+_, _-_, _*_, _^_, _≤_, _<_}
-use native.Mathlib.Nat.{mul-pos, zero-mod, mul-le-mul-left, mul-le-mul-right, lt-of-mul-lt-mul-right}
+use native.Mathlib.Nat.{mul-le-mul-left, mul-le-mul-right, lt-of-mul-lt-mul-right}
 use native.Mathlib.Omega.{arith}
 use lib.ListN.{length, take, drop, length-take}
-use lib.Seq.{length-front}
-use lib.Pow.{pow-add, pow-mono, pow-pos}
-use lib.Ieee.{Float, Format, prec, top}
+use lib.Seq.{length-front, take-all}
+use lib.Pow.{pow-add, pow-mono}
+use lib.Ieee.{Float, prec, top}
 use Rattle.units.specs.Ceiling.{ceil-ge}
 use Rattle.units.specs.Turns.{tau-zero}
-use Rattle.ieee.specs.Units.{Number, negative, magnitude, whole}
-use Rattle.ieee.specs.Finite.{is-units}
-use Rattle.ieee.specs.Pattern.{pattern-number}
-use Rattle.ieee.specs.Exponent.{subnormal-pattern}
+use Rattle.ieee.specs.Units.{whole}
 use Rattle.ieee.specs.Sum.{whole-mag}
-use Rattle.lists.specs.Each.{Each, each-join, each-take, each-drop, each-map}
+use Rattle.lists.specs.Each.{Each, each-join, each-take, each-drop}
 use Rattle.kinds.specs.Limits.{Width, exponentOf, blocksOf}
 use Rattle.kinds.specs.States.{stateOf}
-use Rattle.extract.specs.Extract.{plusZero, remainderOf, remainders, gathered}
+use Rattle.extract.specs.Extract.{plusZero, remainders, gathered}
 use Rattle.extract.specs.ExtractLaws.{remainders-length}
+use Rattle.extract.specs.LargestLaws.{zero-positive}
 use Rattle.walk.specs.Fitting.{Fitting}
-use Rattle.walk.specs.InUnits.{Small, Scale, Tau, remainder-small, gathers}
+use Rattle.walk.specs.InUnits.{Small, Scale, Tau, remainders-small, gathers}
 use Rattle.walk.specs.Stepping.{Stepping}
 
 -- as a round opens: sigma is 2^(M + e) units, the work numbers are at most 2^e, and each round closed has lowered e by prec - M or more
@@ -45,31 +42,11 @@ module _ {W : Width} {F : Fitting W} {e n : ℕ} {sigma t : Float} {rounds : ℕ
       omega (arith, B .lowered, F .enough, mul-le-mul-left (suc (W .rounds)) apart) in
       let l : rounds < suc (W .rounds) = lt-of-mul-lt-mul-right (p - exponentOf n) h in omega arith
 
-  -- what is left of a number is no larger than the number may be
-  left-small : {x : Float} → Small (W .format) (2 ^ e) x → Small (W .format) (2 ^ e) (remainderOf (W .format) sigma x)
-  left-small {x} X =
-      let f = W .format in
-      let R = remainder-small (B .scale) X in
-      let l : 2 ^ (suc (exponentOf n + e) - prec f) ≤ 2 ^ suc e = pow-mono (omega (arith, B .scale .few)) in
-      record { number = R .0; within = omega (arith, R .1, l, pow-add 2 1 e) }
-
-  pub remainders-small : (ys : List Float) → Each (Small (W .format) (2 ^ e)) ys → Each (Small (W .format) (2 ^ e)) (remainders (W .format) sigma ys)
-  unfolding remainders
-  remainders-small ys h = each-map (Small (W .format) (2 ^ e)) (Small (W .format) (2 ^ e)) (remainderOf (W .format) sigma) (λ x X. left-small X) ys h
-
--- +0, the number of no unit
-pub zero-number : (f : Format) → Number f (plusZero f)
-zero-number f = pattern-number f 0 (rw (zero-mod (top f)) (mul-pos (omega arith) (pow-pos (prec f - 1))))
-
-pub zero-units : (f : Format) → (negative (plusZero f) ≡ false) × (magnitude f (plusZero f) ≡ 0)
-zero-units f = is-units f (plusZero f) false 0 (subnormal-pattern f (pow-pos (prec f - 1)))
-
-module _ {W : Width} {F : Fitting W} {e n : ℕ} {sigma t : Float} {rounds : ℕ} {xs : List Float} (B : Begun W F e n sigma t rounds xs) where
   first-tau : Tau (B .scale) 0 (plusZero (W .format))
   unfolding whole
   first-tau = record {
-    number = zero-number (W .format);
-    units = rw (zero-units (W .format) .0, zero-units (W .format) .1) (tau-zero (prec (W .format)) (exponentOf n) e);
+    number = zero-positive (W .format) .number;
+    units = rw (zero-positive (W .format) .sign, zero-positive (W .format) .units) (tau-zero (prec (W .format)) (exponentOf n) e);
   }
 
   fewer : (k : ℕ) → length (take k xs) ≤ 2 ^ exponentOf n
@@ -92,6 +69,9 @@ module _ {W : Width} {F : Fitting W} {e n : ℕ} {sigma t : Float} {rounds : ℕ
         within = omega (arith, tau-taken k .units .small, whole-mag f tau, mul-le-mul-right (2 ^ e) (fewer k), pow-add 2 M e, most);
       }
 
+  pub tau-all : Small (W .format) (2 ^ F .bound) (gathered (W .format) sigma (plusZero (W .format)) xs)
+  tau-all = rw (take-all n xs (omega (arith, B .count))) at (tau-small n)
+
   -- the state and the work area after the first k numbers, whatever blocks are pending
   pub stepping : (k P : ℕ) → 0 < P → P < 2 ^ blocksOf W n
       → Stepping W F e (stateOf n sigma t (gathered (W .format) sigma (plusZero (W .format)) (take k xs)) P rounds)
@@ -100,13 +80,13 @@ module _ {W : Width} {F : Fitting W} {e n : ℕ} {sigma t : Float} {rounds : ℕ
     some = B .some;
     few = B .few;
     count = length-front xs (remainders (W .format) sigma (take k xs)) k (remainders-length (W .format) sigma (take k xs)) ∙ B .count;
-    rounds = begun-rounds B;
+    rounds = begun-rounds;
     low = omega (arith, B .lowered);
     scale = B .scale;
     t = B .kept;
     tau = tau-small k;
     work = each-join (Small (W .format) (2 ^ e)) (remainders (W .format) sigma (take k xs)) (drop k xs)
-        (remainders-small B (take k xs) (each-take (Small (W .format) (2 ^ e)) k xs (B .work))) (each-drop (Small (W .format) (2 ^ e)) k xs (B .work));
+        (remainders-small (B .scale) (take k xs) (each-take (Small (W .format) (2 ^ e)) k xs (B .work))) (each-drop (Small (W .format) (2 ^ e)) k xs (B .work));
     left = l;
     inside = h;
   }

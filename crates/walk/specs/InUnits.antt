@@ -1,7 +1,7 @@
 -- Taking numbers in floats is taking them in units: the remainders and tau are those of `units/Walk`, and nothing overflows.
 -- sigma is 2^(M + e) units and the numbers are at most 2^e. Assumes nothing.
 use mathlib.Core.Path.{_≡_, refl, ap, _∙_}
-use mathlib.Core.Bool.{false, not, _&&_}
+use mathlib.Core.Bool.{not, _&&_}
 use mathlib.Core.List.{List, [], _∷_, map}
 use Prim.Native.Nat.{ℕ, suc, _+_, _-_, _*_, _^_, _≤_, _<_}
 use native.Mathlib.Omega.{arith}
@@ -18,8 +18,9 @@ use Rattle.ieee.specs.Rounded.{prec-pos}
 use Rattle.ieee.specs.Sum.{whole-mag}
 use Rattle.ieee.specs.Nearest.{number-rep}
 use Rattle.ieee.specs.InRange.{add-rounds, high-rounds, remainder-rounds}
-use Rattle.lists.specs.Each.{Each}
+use Rattle.lists.specs.Each.{Each, each-map}
 use Rattle.extract.specs.Extract.{highPart, remainderOf, remainders, gathered}
+use Rattle.extract.specs.LargestLaws.{Positive}
 
 -- a number of at most so many units
 pub record Small (f : Format) (most : ℕ) (x : Float) : Type 0 where
@@ -34,14 +35,12 @@ pub record Scale (f : Format) (M e : ℕ) (sigma : Float) : Type 0 where
   pub some : 0 < M
   pub few : M < prec f
   pub room : M + e + 3 ≤ low f + emax f
-  pub number : Number f sigma
-  pub positive : negative sigma ≡ false
-  pub units : magnitude f sigma ≡ 2 ^ (M + e)
+  pub power : Positive f sigma (2 ^ (M + e))
 
 module _ {f : Format} {M e : ℕ} {sigma : Float} (σ : Scale f M e sigma) where
-  power : whole f sigma ≡ nat (2 ^ (M + e))
+  sigma-whole : whole f sigma ≡ nat (2 ^ (M + e))
   unfolding whole
-  power = rw (σ .positive, σ .units)
+  sigma-whole = rw (σ .power .sign, σ .power .units)
 
   ready : {x : Float} → Small f (2 ^ e) x → units.Ready (prec f) e (whole f x)
   ready {x} X = record { rep = number-rep (X .number); small = omega (arith, whole-mag f x, X .within) }
@@ -55,11 +54,11 @@ module _ {f : Format} {M e : ℕ} {sigma : Float} (σ : Scale f M e sigma) where
 
   high-is : {x : Float} → Small f (2 ^ e) x
       → Rounds f (negative (add f sigma x) && not (negative sigma)) (fl (prec f) (nat (2 ^ (M + e)) ⊕ whole f x) ⊖ nat (2 ^ (M + e))) (highPart f sigma x)
-  high-is X = high-rounds (σ .number) (X .number) (M + e) (σ .room) power (inside X)
+  high-is X = high-rounds (σ .power .number) (X .number) (M + e) (σ .room) sigma-whole (inside X)
 
   remainder-is : {x : Float} → Small f (2 ^ e) x
       → Rounds f (negative x && not (negative (highPart f sigma x))) (whole f x ⊖ units.high (prec f) (M + e) (whole f x)) (remainderOf f sigma x)
-  remainder-is X = remainder-rounds (σ .number) (X .number) (M + e) (σ .room) power (inside X)
+  remainder-is X = remainder-rounds (σ .power .number) (X .number) (M + e) (σ .room) sigma-whole (inside X)
 
   -- what is left of a number: half a last place of sigma at most, said twice over
   pub remainder-small : {x : Float} → Small f (2 ^ e) x
@@ -72,6 +71,17 @@ module _ {f : Format} {M e : ℕ} {sigma : Float} (σ : Scale f M e sigma) where
       rw (← (remainder-is X .units)) at (turn-left (prec f) (prec-pos f) M e (σ .some) (σ .few) (ready X) .small),
     ),
   )
+
+  -- which is no larger than the number may be
+  pub left-small : {x : Float} → Small f (2 ^ e) x → Small f (2 ^ e) (remainderOf f sigma x)
+  left-small {x} X =
+      let R = remainder-small X in
+      let l : 2 ^ (suc (M + e) - prec f) ≤ 2 ^ suc e = pow-mono (omega (arith, σ .few)) in
+      record { number = R .0; within = omega (arith, R .1, l, pow-add 2 1 e) }
+
+  pub remainders-small : (xs : List Float) → Each (Small f (2 ^ e)) xs → Each (Small f (2 ^ e)) (remainders f sigma xs)
+  unfolding remainders
+  remainders-small xs h = each-map (Small f (2 ^ e)) (Small f (2 ^ e)) (remainderOf f sigma) (λ x X. left-small X) xs h
 
   pub remainders-units : (xs : List Float) → Each (Small f (2 ^ e)) xs → wholes f (remainders f sigma xs) ≡ units.remainders (prec f) (M + e) (wholes f xs)
   unfolding remainders

@@ -6,3 +6,5 @@ pub mod Fitting
 pub mod Stepping
 pub mod Begun
 pub mod Rising
+pub mod Closes
+pub mod Instances

@@ -42,9 +42,9 @@ module _ {W : Width} {F : Fitting W} {e : ℕ} {s : State} {xs : List Float} (I 
   unfolding soundSigma
   sigma-sound =
       simp (
-        is-true (finite (s .sigma)) (I .scale .number .fini),
-        I .scale .positive,
-        I .scale .units,
+        is-true (finite (s .sigma)) (I .scale .power .number .fini),
+        I .scale .power .sign,
+        I .scale .power .units,
         ceil-power (exponentOf (s .n) + e),
         eq-eqb (2 ^ (exponentOf (s .n) + e)) _ refl,
         le-leb (2 ^ exponentOf (s .n)) (2 ^ (exponentOf (s .n) + e)) (pow-mono (omega arith)),
@@ -79,7 +79,7 @@ module _ {W : Width} {F : Fitting W} {e : ℕ} {s : State} {xs : List Float} (I 
   unfolding badPlace
   places-sound [] h = refl
   places-sound (y ∷ ys) h =
-      simp (is-true (finite y) (h .0 .number .fini), I .scale .units, le-leb _ _ below, places-sound ys (h .1)) (add-one (length ys))
+      simp (is-true (finite y) (h .0 .number .fini), I .scale .power .units, le-leb _ _ below, places-sound ys (h .1)) (add-one (length ys))
     where
       below : 2 ^ exponentOf (s .n) * magnitude (W .format) y ≤ 2 ^ (exponentOf (s .n) + e)
       below = rw (pow-add 2 (exponentOf (s .n)) e) (mul-le-mul-left (2 ^ exponentOf (s .n)) (h .0 .within))
