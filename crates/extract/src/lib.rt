@@ -34,10 +34,10 @@ pub fn last_sum(work: &[f64]) -> f64
     ensures { λ r. ⌜ r ≡ lastSum binary64 (now (work .entry)) ⌝ }
 {
     let mut sum = 0.0;
-    let mut i = 0;
-    while i < work.len() {
-        sum = sum + work[i];
-        i += 1;
+    let mut place = 0;
+    while place < work.len() {
+        sum = sum + work[place];
+        place += 1;
     }
     sum
 }
@@ -58,13 +58,13 @@ pub fn largest(work: &[f64]) -> f64
     ensures { λ r. ⌜ Is binary64 r false (largest binary64 (now (work .entry))) ⌝ }
 {
     let mut mu = 0.0;
-    let mut i = 0;
-    while i < work.len() {
-        let x = absolute(work[i]);
+    let mut k = 0;
+    while k < work.len() {
+        let x = absolute(work[k]);
         if mu < x {
             mu = x;
         }
-        i += 1;
+        k += 1;
     }
     mu
 }

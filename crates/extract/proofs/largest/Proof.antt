@@ -18,10 +18,10 @@ use Rattle.extract.proofs.largest.Statement.{statement}
 use Rattle.extract.proofs.largest.Tie as tie
 
 abbrev Inv-loop : tie.InvT-loop
-Inv-loop work mu₀ i₀ mu i = Positive binary64 mu (largest binary64 (take i work))
+Inv-loop work mu₀ k₀ mu k = Positive binary64 mu (largest binary64 (take k work))
 
 abbrev μ-loop : tie.MeasureT-loop
-μ-loop work mu₀ i₀ mu i = length work - i
+μ-loop work mu₀ k₀ mu k = length work - k
 
 loop-holds : tie.Need-loop-holds Inv-loop μ-loop
 unfolding largest
@@ -36,8 +36,8 @@ shared-slice-read-absolute c = search needs
 absolute-requires : tie.Need-absolute-requires Inv-loop μ-loop
 absolute-requires c κs = search needs
 
-add-i : tie.Need-add-i Inv-loop μ-loop
-add-i c = search needs
+add-k : tie.Need-add-k Inv-loop μ-loop
+add-k c = search needs
 
 loop-less : tie.Need-loop-less Inv-loop μ-loop
 loop-less c = search needs
@@ -48,11 +48,11 @@ loop-again c =
     let l = a .before .before .before in
     let s = l .before .before in
     let w = s .args .work .now in
-    let h : l .loop .i < length w = omega arith in
-    let X : Number binary64 (getD w (l .loop .i) nan) =
-    record { fit = a .before .shared-slice-known2 .given (l .loop .i); fini = each-at (λ x. T (finite x)) w (l .loop .i) nan (s .pre) h } in
-    let U : Unsigned binary64 (a .absolute .result) (magnitude binary64 (getD w (l .loop .i) nan)) = rw (a .absolute .ensures) (absolute-is binary64 X) in
-    rw (take-next nan w (l .loop .i), largest-next) (elim (c .if1 .came) [
+    let h : l .loop .k < length w = omega arith in
+    let X : Number binary64 (getD w (l .loop .k) nan) =
+    record { fit = a .before .shared-slice-known2 .given (l .loop .k); fini = each-at (λ x. T (finite x)) w (l .loop .k) nan (s .pre) h } in
+    let U : Unsigned binary64 (a .absolute .result) (magnitude binary64 (getD w (l .loop .k) nan)) = rw (a .absolute .ensures) (absolute-is binary64 X) in
+    rw (take-next nan w (l .loop .k), largest-next) (elim (c .if1 .came) [
       | inl g ↦ rw (g .1) (larger binary64 (l .loop .inv) U (g .0 .taken))
       | inr g ↦ rw (g .1) (kept binary64 (l .loop .inv) U (g .0 .left))
     ])
@@ -61,9 +61,9 @@ returns : tie.Need-returns Inv-loop μ-loop
 returns c =
     let l = c .before in
     let w = l .before .before .args .work .now in
-    rw (take-all (l .loop .i) w (omega arith)) at (positive-is binary64 (l .loop .inv))
+    rw (take-all (l .loop .k) w (omega arith)) at (positive-is binary64 (l .loop .inv))
 
 pub largest-spec : {M : Type 1} → statement M
 largest-spec =
     tie.close
-    (tie.spec Inv-loop μ-loop loop-holds mul-absolute shared-slice-read-absolute absolute-requires add-i loop-less loop-again returns)
+    (tie.spec Inv-loop μ-loop loop-holds mul-absolute shared-slice-read-absolute absolute-requires add-k loop-less loop-again returns)

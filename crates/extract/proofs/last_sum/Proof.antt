@@ -13,10 +13,10 @@ use Rattle.extract.proofs.last_sum.Statement.{statement}
 use Rattle.extract.proofs.last_sum.Tie as tie
 
 abbrev Inv-loop : tie.InvT-loop
-Inv-loop work sum₀ i₀ sum i = sum ≡ lastSum binary64 (take i work)
+Inv-loop work sum₀ place₀ sum place = sum ≡ lastSum binary64 (take place work)
 
 abbrev μ-loop : tie.MeasureT-loop
-μ-loop work sum₀ i₀ sum i = length work - i
+μ-loop work sum₀ place₀ sum place = length work - place
 
 loop-holds : tie.Need-loop-holds Inv-loop μ-loop
 unfolding lastSum
@@ -28,8 +28,8 @@ mul-sum c = search needs
 shared-slice-read-sum : tie.Need-shared-slice-read-sum Inv-loop μ-loop
 shared-slice-read-sum c = search needs
 
-add-i : tie.Need-add-i Inv-loop μ-loop
-add-i c = search needs
+add-place : tie.Need-add-place Inv-loop μ-loop
+add-place c = search needs
 
 loop-less : tie.Need-loop-less Inv-loop μ-loop
 loop-less c = search needs
@@ -38,14 +38,14 @@ loop-again : tie.Need-loop-again Inv-loop μ-loop
 loop-again c =
     let l = c .before .before in
     let w = l .before .args .work .now in
-    let h : l .loop .i < length w = omega arith in
-    rw (l .loop .inv, take-next nan w (l .loop .i), sum-next)
+    let h : l .loop .place < length w = omega arith in
+    rw (l .loop .inv, take-next nan w (l .loop .place), sum-next)
 
 returns : tie.Need-returns Inv-loop μ-loop
 returns c =
     let l = c .before in
     let w = l .before .args .work .now in
-    l .loop .inv ∙ rw (take-all (l .loop .i) w (omega arith))
+    l .loop .inv ∙ rw (take-all (l .loop .place) w (omega arith))
 
 pub last-sum-spec : {M : Type 1} → statement M
-last-sum-spec = tie.close (tie.spec Inv-loop μ-loop loop-holds mul-sum shared-slice-read-sum add-i loop-less loop-again returns)
+last-sum-spec = tie.close (tie.spec Inv-loop μ-loop loop-holds mul-sum shared-slice-read-sum add-place loop-less loop-again returns)
