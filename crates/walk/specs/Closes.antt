@@ -1,25 +1,23 @@
 -- How a round of a run closes: it ends the walk, or opens a round that has what a round of a run has, with e lowered by prec - M or more. Assumes nothing.
 use mathlib.Core.Path.{_≡_, refl, sym, ap, _∙_}
 use mathlib.Core.Logic.{_⊎_, inl, inr}
-use mathlib.Core.Bool.{Bool, true, false, cond, not, _||_}
+use mathlib.Core.Bool.{Bool, true, false, cond, _||_}
 use mathlib.Core.List.{List}
 use Prim.Native.Nat.{ℕ, suc, _+_, _-_, _*_, _^_, _≤_, _<_}
 use native.Mathlib.Nat.{suc-mul, one-mul}
 use native.Mathlib.Numerals.{add-one}
 use native.Mathlib.Omega.{arith}
-use borrow.Author.Tests.{eqb-false, leb-false, eq-eqb}
-use lib.Dec.{eqb, leb, lit<}
-use lib.ListN.{length}
-use lib.Pow.{pow-add, pow-mono, pow-lt}
-use lib.Ieee.{Float, Format, binary32, binary64, prec, emax, low, hid, ofBits, add, lt, le, eq, neg}
+use borrow.Author.Tests.{eqb-false, leb-false}
+use lib.Dec.{leb, lit<}
+use lib.Pow.{pow-add, pow-mono}
+use lib.Ieee.{Float, Format, binary32, binary64, prec, low, hid, add, le, eq}
 use lib.Ieee.Fits.{mul-fits}
-use Rattle.units.specs.Whole.{nat}
 use Rattle.units.specs.Rounding.{ceil}
 use Rattle.units.specs.Ceiling.{ceil-ge, ceil-least}
 use Rattle.units.specs.Powers.{le-or-lt}
 use Rattle.ieee.specs.Units.{Number, Is, negative, magnitude, signedWhole, whole}
 use Rattle.ieee.specs.Finite.{is-finite, is-units}
-use Rattle.ieee.specs.Sum.{neg-number, neg-whole, whole-mag}
+use Rattle.ieee.specs.Sum.{whole-mag}
 use Rattle.ieee.specs.InRange.{add-rounds}
 use Rattle.ieee.specs.Compare.{le-units}
 use Rattle.ieee.specs.Product.{mul-powers}
@@ -35,7 +33,7 @@ use Rattle.kinds.specs.declared.Step.the-variants.{More, Done}
 use Rattle.lists.specs.Each.{Each, each-map, each-weaker, each-both}
 use Rattle.walk.specs.Round.{scaled, sigmaOf, allZero, leastNormal, finished, roundOf, closed}
 use Rattle.walk.specs.Fitting.{Fitting}
-use Rattle.walk.specs.InUnits.{Small, Scale, Tau, remainder-small}
+use Rattle.walk.specs.InUnits.{Small, remainder-small}
 use Rattle.walk.specs.Begun.{Begun, tau-all}
 
 -- ---- 2^j eps times 2^k units are 2^c units, c = j + k - prec
@@ -240,7 +238,7 @@ module _ {W : Width} {F : Fitting W} {e n : ℕ} {sigma t : Float} {rounds : ℕ
           (cond z
           (cond a (Done (plusZero f) (rounds + 1)) (More (roundOf W n (sigmaOf f n ys) (plusZero f) (rounds + 1))))
           (cond (u || v)
-          (Done (finished f t (gathered f sigma (plusZero f) xs) ys) (rounds + 1))
+          (Done (finished f next t (gathered f sigma (plusZero f) xs) ys) (rounds + 1))
           (More (roundOf W n (scaled f M sigma) next (rounds + 1)))))
       go true true a u h v i = ends _
       go true false a u h v i = goes _ _ _ (restarts a)

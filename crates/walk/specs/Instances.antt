@@ -5,7 +5,7 @@ use lib.Dec.{lit<, lit≤}
 use lib.Ieee.{ofBits}
 use Rattle.units.specs.Ceiling.{ceil-least}
 use Rattle.ieee.specs.Units.{magnitude}
-use Rattle.kinds.specs.Limits.{Width, doubles}
+use Rattle.kinds.specs.Limits.{doubles}
 use Rattle.walk.specs.Fitting.{Fitting}
 
 pub doubles-fit : Fitting doubles

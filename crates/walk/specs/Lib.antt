@@ -2,6 +2,7 @@
 pub mod Round
 pub mod Walk
 pub mod InUnits
+pub mod Closing
 pub mod Fitting
 pub mod Stepping
 pub mod Begun

@@ -45,8 +45,8 @@ abbrev pub leastNormal : Format → Float
 leastNormal f = ofBits f (hid f)
 
 -- "tau1 = t'; tau2 = tau - (tau1 - t); .. the answer is tau1 + (tau2 + T)"
-unfoldable pub finished : Format → Float → Float → List Float → Float
-finished f t tau xs = let tau1 = add f t tau in add f tau1 (add f (sub f tau (sub f tau1 t)) (lastSum f xs))
+unfoldable pub finished : Format → Float → Float → Float → List Float → Float
+finished f tau1 t tau xs = let tau2 = sub f tau (sub f tau1 t) in add f tau1 (add f tau2 (lastSum f xs))
 
 -- rules 1 to 4 for a state whose last pending block was taken, and its work area
 unfoldable pub closed : Width → State → List Float → Step
@@ -58,5 +58,5 @@ closed W s xs =
     cond (eq t' (plusZero f))
     (cond (allZero f xs) (Done (plusZero f) rounds) (More (roundOf W (s .n) (sigmaOf f (s .n) xs) (plusZero f) rounds)))
     (cond (le (s .sigma) (leastNormal f) || le (scaled f (2 * M + 1) (s .sigma)) (absolute f t'))
-    (Done (finished f (s .t) (s .tau) xs) rounds)
+    (Done (finished f t' (s .t) (s .tau) xs) rounds)
     (More (roundOf W (s .n) (scaled f M (s .sigma)) t' rounds)))
