@@ -13,7 +13,7 @@ use lib.Pow.{pow-add, pow-mono}
 use lib.Ieee.{Float, Format, binary32, binary64, prec, low, hid, add, le, eq}
 use lib.Ieee.Fits.{mul-fits}
 use Rattle.units.specs.Rounding.{ceil}
-use Rattle.units.specs.Ceiling.{ceil-ge, ceil-least}
+use Rattle.units.specs.Ceiling.{ceil-least}
 use Rattle.units.specs.Powers.{le-or-lt}
 use Rattle.ieee.specs.Units.{Number, Is, negative, magnitude, signedWhole, whole}
 use Rattle.ieee.specs.Finite.{is-finite, is-units}
@@ -24,17 +24,18 @@ use Rattle.ieee.specs.Product.{mul-powers}
 use Rattle.exponent.specs.Power.{powers, powerOf}
 use Rattle.exponent.specs.PowerLaws.{power-is, power-number, power-negative, power-magnitude, high-power}
 use Rattle.extract.specs.Extract.{plusZero, absolute, remainderOf, remainders, gathered, largest}
-use Rattle.extract.specs.ExtractLaws.{remainders-length, largest-bounds, largest-le, largest-zero}
-use Rattle.extract.specs.LargestLaws.{Positive, Unsigned, positive-is, zero-positive, absolute-is}
+use Rattle.extract.specs.ExtractLaws.{remainders-length, largest-le, largest-zero}
+use Rattle.extract.specs.LargestLaws.{Positive, Unsigned, positive-is, absolute-is}
 use Rattle.kinds.specs.Limits.{Width, exponentOf}
 use Rattle.kinds.specs.States.{stateOf}
 use Rattle.kinds.specs.declared.Step.{Step}
 use Rattle.kinds.specs.declared.Step.the-variants.{More, Done}
-use Rattle.lists.specs.Each.{Each, each-map, each-weaker, each-both}
+use Rattle.lists.specs.Each.{Each, each-map, each-weaker}
 use Rattle.walk.specs.Round.{scaled, sigmaOf, allZero, leastNormal, finished, roundOf, closed}
 use Rattle.walk.specs.Fitting.{Fitting}
 use Rattle.walk.specs.InUnits.{Small, remainder-small}
 use Rattle.walk.specs.Begun.{Begun, tau-all}
+use Rattle.walk.specs.Opening.{begins}
 
 -- ---- 2^j eps times 2^k units are 2^c units, c = j + k - prec
 pub scaled-positive : (f : Format) (j k c : ℕ) {sigma : Float} → prec f ≤ low f → Positive f sigma (2 ^ k) → c + prec f ≡ j + k → j ≤ prec f
@@ -132,32 +133,12 @@ module _ {W : Width} {F : Fitting W} {e n : ℕ} {sigma t : Float} {rounds : ℕ
       ys : List Float
       ys = remainders f sigma xs
 
-      p-1 : exponentOf n < prec f
-      p-1 = B .scale .few
-
       go : (prec f ≤ exponentOf n + e) ⊎ (exponentOf n + e < prec f) → Begun W F (ceil (largest f ys)) n (sigmaOf f n ys) (plusZero f) (rounds + 1) ys
       go (inr l) = absurd (eqb-false _ 0 z (none-left l))
       go (inl l) =
-          let M = exponentOf n in
-          let c = ceil (largest f ys) in
-          let least : c ≤ M + e - prec f =
-          ceil-least (largest-le f (2 ^ (M + e - prec f)) ys (each-weaker _ _ (λ y Y. Y .within) ys (left l))) in
-          let inside : M + c < powers f = omega (arith, B .scale .room, p-1) in
-          record {
-            some = B .some;
-            few = B .few;
-            count = remainders-length f sigma xs ∙ B .count;
-            lowered = lower c (omega (arith, p-1));
-            scale = record {
-              some = B .scale .some;
-              few = B .scale .few;
-              room = omega (arith, B .scale .room, p-1);
-              power = record { number = power-number f inside; sign = power-negative f inside; units = power-magnitude f inside };
-            };
-            kept = record { number = zero-positive f .number; within = omega (arith, zero-positive f .units) };
-            work = each-both (Small f (2 ^ (M + e - prec f))) (λ y. magnitude f y ≤ largest f ys) (Small f (2 ^ c))
-                (λ y Y h. record { number = Y .number; within = omega (arith, ceil-ge (largest f ys)) }) ys (left l) (largest-bounds f ys);
-          }
+          let c = exponentOf n + e - prec f in
+          let least : ceil (largest f ys) ≤ c = ceil-least (largest-le f (2 ^ c) ys (each-weaker _ _ (λ y Y. Y .within) ys (left l))) in
+          begins (2 ^ c) (B .some) (B .few) (remainders-length f sigma xs ∙ B .count) (left l) (lower (ceil (largest f ys)) (omega (arith, B .scale .few)))
 
   -- ---- rule 4: a further round
   next : Float

@@ -1,6 +1,6 @@
 -- What the code of a close asks of its caller. Definitions only.
 use mathlib.Core.List.{List}
-use Prim.Native.Nat.{ℕ, _≤_}
+use Prim.Native.Nat.{_≤_}
 use lib.Ieee.{Float}
 use Rattle.lists.specs.Each.{Each}
 use Rattle.kinds.specs.Limits.{Width}

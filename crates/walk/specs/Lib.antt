@@ -6,6 +6,8 @@ pub mod Closing
 pub mod Fitting
 pub mod Stepping
 pub mod Begun
+pub mod Opening
 pub mod Rising
 pub mod Closes
+pub mod Run
 pub mod Instances
