@@ -9,3 +9,5 @@ pub mod Begun
 pub mod Rising
 pub mod Closes
 pub mod Instances
+pub mod CutLaws
+pub mod SigmaLaws
