@@ -11,3 +11,5 @@ pub mod Rising
 pub mod Closes
 pub mod Run
 pub mod Instances
+pub mod CutLaws
+pub mod SigmaLaws

@@ -1,1 +1,3 @@
 // The faithful walk: opening, block steps, closing, and the undivided run.
+
+mod round;
