@@ -150,7 +150,7 @@ module _ {W : Width} {F : Fitting W} {e n : ℕ} {sigma t : Float} {rounds : ℕ
       let f = W .format in
       let tau = gathered f sigma (plusZero f) xs in
       let T = tau-all B in
-      add-rounds (B .kept .number) (T .number) (F .bound + 1) (F .sum-room)
+      add-rounds (B .kept .number) (T .number) (F .bound + 1) (omega (arith, F .sum-room))
       (omega (arith, whole-mag f t, B .kept .within, whole-mag f tau, T .within, pow-add 2 (F .bound) 1)) .number
 
   further : le sigma (leastNormal (W .format)) ≡ false → le (scaled (W .format) (2 * exponentOf n + 1) sigma) (absolute (W .format) next) ≡ false
