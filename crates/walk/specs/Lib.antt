@@ -11,3 +11,4 @@ pub mod Closes
 pub mod Instances
 pub mod CutLaws
 pub mod SigmaLaws
+pub mod ClosedLaws
