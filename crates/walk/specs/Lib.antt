@@ -13,3 +13,4 @@ pub mod Run
 pub mod Instances
 pub mod CutLaws
 pub mod SigmaLaws
+pub mod ClosedLaws
