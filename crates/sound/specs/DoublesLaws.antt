@@ -1,6 +1,6 @@
--- The patterns that bound sigma, t and tau at binary64 stand for numbers: 2^1000 is 2^2074 units. Assumes nothing.
+-- A pattern that bounds magnitudes stands for a number that isn't negative; and the largest magnitude at binary64, 2^1000, is 2^2074 units. Assumes nothing.
 use mathlib.Core.Path.{_≡_, ap, _∙_}
-use mathlib.Core.Bool.{Bool, false, not}
+use mathlib.Core.Bool.{false, not}
 use Prim.Native.Nat.{ℕ, _+_, _*_, _^_, _≤_, _<_}
 use native.Mathlib.Nat.{mod-eq-of-lt}
 use native.Mathlib.Omega.{arith}
@@ -9,7 +9,7 @@ use lib.Ieee.{Format, binary64, hid, ones, top, ofBits, nanBits}
 use Rattle.units.specs.Rounding.{ceil}
 use Rattle.units.specs.Ceiling.{ceil-power}
 use Rattle.ieee.specs.Units.{Number, negative, patternUnits}
-use Rattle.ieee.specs.Finite.{is-units, is-finite}
+use Rattle.ieee.specs.Finite.{is-units}
 use Rattle.ieee.specs.Pattern.{pattern-number, pattern-positive}
 use Rattle.ieee.specs.Instances.{top-64}
 use Rattle.exponent.specs.Power.{powers}
@@ -24,7 +24,7 @@ pub record Limit (f : Format) (p : ℕ) : Type 0 where
   pub number : Number f (ofBits f p)
   pub positive : negative (ofBits f p) ≡ false
 
-limit-at : (f : Format) (p : ℕ) → p < ones f * hid f → Limit f p
+pub limit-at : (f : Format) (p : ℕ) → p < ones f * hid f → Limit f p
 limit-at f p h =
     let l : p < top f = omega arith in
     record {
@@ -33,12 +33,7 @@ limit-at f p h =
       positive = is-units f (ofBits f p) false (patternUnits f p) (pattern-positive f p h) .0;
     }
 
-pub magnitude-limit : Limit binary64 (doubles .magnitude)
-magnitude-limit = limit-at binary64 (doubles .magnitude) (lit< tt)
-
-pub carried-limit : Limit binary64 (doubles .carried)
-carried-limit = limit-at binary64 (doubles .carried) (lit< tt)
-
+-- ---- at binary64
 pub magnitude-units : unitsAt doubles (doubles .magnitude) ≡ 2 ^ 2074
 magnitude-units =
     is-units binary64 (ofBits binary64 (doubles .magnitude)) false (patternUnits binary64 (doubles .magnitude))

@@ -1,33 +1,26 @@
 -- The gate of a block step: one law for each answer, and what a state and its work area are that pass it. Assumes nothing.
-use mathlib.Core.Path.{_≡_, refl, sym, ap, _∙_}
-use mathlib.Core.Bool.{Bool, true, false, not, _&&_, cond}
-use mathlib.Core.List.{List, [], _∷_}
-use Prim.Native.Nat.{ℕ, zero, suc, _+_, _-_, _*_, _^_, _≤_, _<_}
-use native.Mathlib.Nat.{le-of-mul-le-mul-left}
-use native.Mathlib.Numerals.{add-one}
+use mathlib.Core.Path.{_≡_, refl}
+use mathlib.Core.Bool.{Bool, true, false, not, cond}
+use mathlib.Core.List.{List}
+use Prim.Native.Nat.{ℕ, _+_, _-_, _^_, _≤_, _<_}
 use native.Mathlib.Omega.{arith}
-use borrow.Author.Tests.{eq-eqb, ne-eqb, le-leb, lt-leb, eqb-true, leb-true, leb-false}
-use lib.Dec.{T, leb, eqb}
+use borrow.Author.Tests.{eq-eqb, ne-eqb, le-leb, lt-leb, eqb-true, leb-false}
+use lib.Dec.{leb, eqb}
 use lib.ListN.{length}
-use lib.Pow.{pow-pos}
-use lib.Ieee.{Float, Format, fits}
-use lib.Ieee.Scale.{finite}
+use lib.Ieee.{Float, Format}
 use Rattle.units.specs.Rounding.{ceil}
-use Rattle.units.specs.Powers.{pow-split}
 use Rattle.ieee.specs.Units.{Number, negative, magnitude}
 use Rattle.lists.specs.Bitset.{has}
-use Rattle.lists.specs.Each.{Each}
 use Rattle.exponent.specs.Power.{powers, powerOf}
 use Rattle.exponent.specs.PowerLaws.{power-number, power-negative, power-magnitude}
 use Rattle.kinds.specs.Limits.{Width, exponentOf, blocksOf}
 use Rattle.kinds.specs.declared.State.{State}
-use Rattle.kinds.specs.declared.Verdict.{Verdict}
 use Rattle.kinds.specs.declared.Verdict.the-variants.{Good, Refused}
-use Rattle.sound.specs.Sound.{unitsAt, soundPending, soundPlace, badPlace, sound, gated}
+use Rattle.sound.specs.Sound.{unitsAt, badPlace, sound, gated}
 use Rattle.sound.specs.Places.{firstAbove}
 use Rattle.sound.specs.PlacesLaws.{places-same}
-use Rattle.sound.specs.SigmaLaws.{split, Sigma, sigma-holds, sigma-exponent, sigma-power}
-use Rattle.sound.specs.SoundLaws.{Within, Numbers, pending-holds, sound-holds}
+use Rattle.sound.specs.SigmaLaws.{Sigma, sigma-holds, sigma-exponent}
+use Rattle.sound.specs.SoundLaws.{Numbers}
 
 -- ---- "On a block step: 4, 8, 6, 7."
 module _ (W : Width) (s : State) (b : ℕ) (xs : List Float) where

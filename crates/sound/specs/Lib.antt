@@ -7,3 +7,4 @@ pub mod DoublesLaws
 pub mod PlacesLaws
 pub mod SoundLaws
 pub mod GateLaws
+pub mod PassedLaws

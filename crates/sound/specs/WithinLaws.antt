@@ -1,6 +1,6 @@
 -- Two comparisons of floats that a number has to pass, and no NaN does: it lies between a limit and its negative exactly where it is finite and no larger,
 -- and between two positive limits exactly where it is finite, positive and between them. Assumes nothing.
-use mathlib.Core.Path.{_≡_, refl, sym, ap, _∙_}
+use mathlib.Core.Path.{_≡_, refl, ap}
 use mathlib.Core.Bool.{Bool, true, false, not, _&&_}
 use Prim.Native.Nat.{ℕ, _+_, _≤_, _<_}
 use native.Mathlib.Nat.{add-zero}
@@ -11,7 +11,7 @@ use lib.Ieee.{Float, nan, inf, fin, Format, le, lt, eq, neg, fits}
 use lib.Ieee.Fits.{and-i, and-l, and-r}
 use lib.Ieee.Scale.{finite}
 use Rattle.units.specs.Whole as W
-use Rattle.units.specs.Whole.{Whole, nat}
+use Rattle.units.specs.Whole.{nat}
 use Rattle.ieee.specs.Units.{Number, negative, magnitude, signedWhole, whole}
 use Rattle.ieee.specs.Fractions.{same-test}
 use Rattle.ieee.specs.Compare.{le-units}

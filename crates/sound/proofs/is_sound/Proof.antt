@@ -3,9 +3,7 @@ use borrow.Author.Needs.{needs}
 use borrow.Author.Tests.{not-true, not-false}
 use mathlib.Core.Path.{_≡_, sym, ap, _∙_}
 use mathlib.Core.Bool.{true}
-use Prim.Native.Nat.{ℕ, _+_, _<_}
-use lib.Dec.{eqb}
-use lib.ListN.{length}
+use Prim.Native.Nat.{_+_, _<_}
 use lib.Ieee.{Float, binary64}
 use Rattle.ieee.specs.Units.{magnitude}
 use Rattle.exponent.specs.Power.{powers}

@@ -2,9 +2,11 @@
 use borrow.Author.Needs.{needs}
 use mathlib.Core.Path.{sym}
 use native.Mathlib.Omega.{arith}
+use lib.Dec.{lit<}
+use lib.Ieee.{binary64}
 use Rattle.kinds.specs.Limits.{doubles}
 use Rattle.sound.specs.SoundLaws.{numbers-none, numbers-many, numbers-are}
-use Rattle.sound.specs.DoublesLaws.{carried-limit}
+use Rattle.sound.specs.DoublesLaws.{limit-at}
 use Rattle.sound.proofs.numbers.numbers.Statement.{statement}
 use Rattle.sound.proofs.numbers.numbers.Tie as tie
 
@@ -15,16 +17,16 @@ returns-2 : tie.Need-returns-2
 returns-2 c = sym (numbers-many doubles (c .before .before .before .before .args .s) (omega arith))
 
 float-from-bits-limit : tie.Need-float-from-bits-limit
-float-from-bits-limit c = carried-limit .no-nan
+float-from-bits-limit c = limit-at binary64 _ (lit< tt) .no-nan
 
 sigma-requires : tie.Need-sigma-requires
 sigma-requires c κs = search needs
 
 at-most-requires : tie.Need-at-most-requires
-at-most-requires c κs = (carried-limit .number .fini, carried-limit .positive)
+at-most-requires c κs = (limit-at binary64 _ (lit< tt) .number .fini, limit-at binary64 _ (lit< tt) .positive)
 
 at-most-requires-2 : tie.Need-at-most-requires-2
-at-most-requires-2 c κs = (carried-limit .number .fini, carried-limit .positive)
+at-most-requires-2 c κs = (limit-at binary64 _ (lit< tt) .number .fini, limit-at binary64 _ (lit< tt) .positive)
 
 returns-3 : tie.Need-returns-3
 returns-3 c =

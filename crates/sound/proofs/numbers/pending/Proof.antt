@@ -1,7 +1,6 @@
 -- `sound::numbers::pending` meets its contract: a set below 2^B is at most the full set. Assumes nothing.
 use borrow.Author.Needs.{needs}
 use mathlib.Core.Path.{ap, _∙_}
-use Prim.Native.Nat.{ℕ}
 use Rattle.lists.specs.Bitset.{full}
 use Rattle.kinds.specs.Limits.{doubles, blocksOf}
 use Rattle.sound.specs.SoundLaws.{pending-is}

@@ -1,11 +1,11 @@
 -- `sound::numbers::sigma` meets its contract: in range sigma is a number, and sound exactly where it equals the power of two at its exponent. Assumes nothing.
 use borrow.Author.Needs.{needs}
 use mathlib.Core.Path.{_≡_, sym, subst, ap, _∙_}
-use mathlib.Core.Bool.{Bool, _&&_}
-use Prim.Native.Nat.{ℕ, _+_, _<_}
+use mathlib.Core.Bool.{_&&_}
+use Prim.Native.Nat.{_+_, _<_}
 use native.Mathlib.Omega.{arith}
 use lib.Dec.{T}
-use lib.Ieee.{binary64, fits, le, eq}
+use lib.Ieee.{binary64, fits, le}
 use Rattle.exponent.specs.Power.{powers, powerOf}
 use Rattle.kinds.specs.Limits.{doubles, exponentOf}
 use Rattle.sound.specs.SigmaLaws.{Inside, inRange, range-inside, inside-exponent, sigma-in, sigma-out}
