@@ -73,7 +73,8 @@ module _ (f : Format) (x : Float) (fit : T (fits f x)) where
     between = cases (not (negative x) && leb (magnitude f a) (magnitude f x) && leb (magnitude f x) (magnitude f b)) a b (A .fini) (B .fini) above
       where
         by : (t : Bool) (n k m : ℕ) → 0 < k
-            → (leb (k + signedWhole t n .dn) (signedWhole t n .up + 0) && leb (signedWhole t n .up + 0) (m + signedWhole t n .dn)) ≡ (not t && leb k n && leb n m)
+            → (leb (k + signedWhole t n .dn) (signedWhole t n .up + 0) && leb (signedWhole t n .up + 0) (m + signedWhole t n .dn))
+            ≡ (not t && leb k n && leb n m)
         by false n k m h = rw (add-zero k, add-zero n, add-zero m)
         by true n k m h = rw (lt-leb (k + n) (0 + 0) (omega arith))
 

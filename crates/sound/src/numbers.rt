@@ -33,7 +33,8 @@ fn top() -> u32
     exponent::ceiling(f64::from_bits(Doubles::MAGNITUDE))
 }
 
-// "sigma is a power of two from 2^(M-1074) to 2^(1000+M)": what lies between the two is a number, and its exponent is that of a float.
+// "sigma is a power of two from 2^(M-1074) to 2^(1000+M)": what lies between the two is a number, and its exponent is that of a float. M is
+// asked of lists that aren't too long.
 pub fn sigma(sigma: f64, n: usize) -> bool
     requires { ⌜ n ≤ doubles .length ⌝ }
     ensures { λ r. ⌜ r ≡ soundSigma doubles n sigma ⌝ }

@@ -55,7 +55,7 @@ test c =
     )
 
 inside : (c : tie.Then1)
-    → Inside binary64 (exponentOf (c .before .before .before .before .before .before .args .n)) 2074 (c .before .before .before .before .before .before .args .sigma)
+    → let a = c .before .before .before .before .before .before .args in Inside binary64 (exponentOf (a .n)) 2074 (a .sigma)
 inside c =
     let s = c .before .before .before .before .before .before in
     range-inside binary64 (exponentOf (s .args .n)) 2074 (room s) (s .args .sigma) (fit s) (sym (test (c .before)) ∙ c .if1 .taken)
