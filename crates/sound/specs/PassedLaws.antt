@@ -7,13 +7,13 @@ use Prim.Native.Nat.{ℕ, suc, _+_, _-_, _^_, _≤_, _<_}
 use native.Mathlib.Omega.{arith}
 use lib.Dec.{T}
 use lib.ListN.{length}
-use lib.Ieee.{Float, binary64, fits}
+use lib.Ieee.{Float, fits}
 use Rattle.units.specs.Rounding.{ceil}
 use Rattle.ieee.specs.Units.{magnitude}
 use Rattle.lists.specs.Bitset.{has}
 use Rattle.lists.specs.Each.{Each}
 use Rattle.exponent.specs.Power.{powers, powerOf}
-use Rattle.kinds.specs.Limits.{Width, doubles, exponentOf, blocksOf}
+use Rattle.kinds.specs.Limits.{Width, exponentOf, blocksOf}
 use Rattle.kinds.specs.declared.State.{State}
 use Rattle.kinds.specs.declared.Verdict.the-variants.{Good}
 use Rattle.sound.specs.Sound.{unitsAt, atMost, soundPending, badPlace, gated}
@@ -22,7 +22,6 @@ use Rattle.sound.specs.PlacesLaws.{places-same}
 use Rattle.sound.specs.SigmaLaws.{Sigma, sigma-holds, sigma-exponent, sigma-power}
 use Rattle.sound.specs.SoundLaws.{Within, Numbers, at-most-holds, pending-holds, sound-holds}
 use Rattle.sound.specs.GateLaws.{Open, gated-open}
-use Rattle.sound.specs.DoublesLaws.{magnitude-units, sigma-room}
 
 pub record Passed (W : Width) (top : ℕ) (s : State) (b : ℕ) (xs : List Float) : Type 0 where
   pub long : length xs ≡ s .n
@@ -89,6 +88,3 @@ passed W top is room s b xs fit h = record {
 
     whole : k ≡ exponentOf (s .n) + (k - exponentOf (s .n))
     whole = omega (arith, exps)
-
-pub passed-doubles : (s : State) (b : ℕ) (xs : List Float) → T (fits binary64 (s .sigma)) → gated doubles s b xs ≡ Good → Passed doubles 2074 s b xs
-passed-doubles = passed doubles 2074 magnitude-units sigma-room

@@ -1,31 +1,25 @@
--- What a close answers, one law for each of the four rules; rules 1 and 2 are those of a restart. Assumes nothing.
+-- What a close answers: rules 1 and 2 are a fresh start, as at an opening; one law for each case. Assumes nothing.
 use mathlib.Core.Path.{_≡_}
-use mathlib.Core.Bool.{Bool, true, false, cond, _||_}
+use mathlib.Core.Bool.{Bool, true, false, _||_}
 use mathlib.Core.List.{List}
 use Prim.Native.Nat.{ℕ, _+_, _*_}
 use lib.Ieee.{Float, add, le, eq}
 use Rattle.extract.specs.Extract.{plusZero, absolute}
 use Rattle.kinds.specs.Limits.{Width, exponentOf}
 use Rattle.kinds.specs.declared.State.{State}
-use Rattle.kinds.specs.declared.Step.{Step}
 use Rattle.kinds.specs.declared.Step.the-variants.{More, Done}
-use Rattle.walk.specs.Round.{allZero, sigmaOf, roundOf, scaled, leastNormal, finished, closed}
+use Rattle.walk.specs.Round.{allZero, sigmaOf, roundOf, fresh, scaled, leastNormal, finished, closed}
 
--- rules 1 and 2, of a t' that is zero
-unfoldable pub restarted : Width → ℕ → List Float → ℕ → Step
-restarted W n xs rounds =
-    let f = W .format in
-    cond (allZero f xs) (Done (plusZero f) rounds) (More (roundOf W n (sigmaOf f n xs) (plusZero f) rounds))
+-- a round from the work area alone, or nothing to sum
+module _ (W : Width) (zero : Float) (n : ℕ) (xs : List Float) (rounds : ℕ) where
+  pub fresh-zero : allZero (W .format) xs ≡ true → fresh W zero n xs rounds ≡ Done zero rounds
+  unfolding fresh
+  fresh-zero a = rw a
 
-module _ (W : Width) (n : ℕ) (xs : List Float) (rounds : ℕ) where
-  pub restarted-nothing : allZero (W .format) xs ≡ true → restarted W n xs rounds ≡ Done (plusZero (W .format)) rounds
-  unfolding restarted
-  restarted-nothing a = rw a
-
-  pub restarted-round : allZero (W .format) xs ≡ false
-      → restarted W n xs rounds ≡ More (roundOf W n (sigmaOf (W .format) n xs) (plusZero (W .format)) rounds)
-  unfolding restarted
-  restarted-round a = rw a
+  pub fresh-round : allZero (W .format) xs ≡ false
+      → fresh W zero n xs rounds ≡ More (roundOf W n (sigmaOf (W .format) n xs) (plusZero (W .format)) rounds)
+  unfolding fresh
+  fresh-round a = rw a
 
 -- t' of a state, and rule 3's test
 abbrev pub tau1Of : Width → State → Float
@@ -37,8 +31,8 @@ finishes W s =
     le (s .sigma) (leastNormal f) || le (scaled f (2 * exponentOf (s .n) + 1) (s .sigma)) (absolute f (tau1Of W s))
 
 module _ (W : Width) (s : State) (xs : List Float) where
-  pub closed-zero : eq (tau1Of W s) (plusZero (W .format)) ≡ true → closed W s xs ≡ restarted W (s .n) xs (s .rounds + 1)
-  unfolding closed restarted
+  pub closed-zero : eq (tau1Of W s) (plusZero (W .format)) ≡ true → closed W s xs ≡ fresh W (plusZero (W .format)) (s .n) xs (s .rounds + 1)
+  unfolding closed
   closed-zero z = rw z
 
   pub closed-finish : eq (tau1Of W s) (plusZero (W .format)) ≡ false → finishes W s ≡ true

@@ -31,7 +31,7 @@ use Rattle.kinds.specs.States.{stateOf}
 use Rattle.kinds.specs.declared.Step.{Step}
 use Rattle.kinds.specs.declared.Step.the-variants.{More, Done}
 use Rattle.lists.specs.Each.{Each, each-map, each-weaker}
-use Rattle.walk.specs.Round.{scaled, sigmaOf, allZero, leastNormal, finished, roundOf, closed}
+use Rattle.walk.specs.Round.{scaled, sigmaOf, allZero, leastNormal, finished, roundOf, fresh, closed}
 use Rattle.walk.specs.Fitting.{Fitting}
 use Rattle.walk.specs.InUnits.{Small, remainder-small}
 use Rattle.walk.specs.Begun.{Begun, tau-all}
@@ -201,7 +201,7 @@ module _ {W : Width} {F : Fitting W} {e n : ℕ} {sigma t : Float} {rounds : ℕ
   -- ---- the four rules
   pub falls : Next W F n rounds (remainders (W .format) sigma xs)
       (closed W (stateOf n sigma t (gathered (W .format) sigma (plusZero (W .format)) xs) 0 rounds) (remainders (W .format) sigma xs))
-  unfolding closed next
+  unfolding closed fresh next
   falls = go (eq next (plusZero f)) (allZero f ys) refl (le sigma (leastNormal f)) refl (le (scaled f (2 * M + 1) sigma) (absolute f next)) refl
     where
       f : Format

@@ -1,6 +1,8 @@
 -- What the code of a close asks of its caller. Definitions only.
+use mathlib.Core.Path.{_≡_}
 use mathlib.Core.List.{List}
 use Prim.Native.Nat.{_≤_}
+use lib.ListN.{length}
 use lib.Ieee.{Float}
 use Rattle.lists.specs.Each.{Each}
 use Rattle.kinds.specs.Limits.{Width}
@@ -12,5 +14,6 @@ use Rattle.walk.specs.InUnits.{Small}
 pub record Closing (W : Width) (s : State) (xs : List Float) : Type 0 where
   pub some : 1 ≤ s .n
   pub few : s .n ≤ W .length
+  pub count : length xs ≡ s .n
   pub rounds : s .rounds ≤ W .rounds
   pub work : Each (Small (W .format) (unitsAt W (W .magnitude))) xs

@@ -27,6 +27,13 @@ use Rattle.walk.specs.Fitting.{Fitting}
 use Rattle.walk.specs.InUnits.{Small}
 use Rattle.walk.specs.Begun.{Begun}
 
+pub exponent-some : (n : ℕ) → 0 < exponentOf n
+exponent-some n = positive (exponentOf n) (ceil-ge (n + 2))
+  where
+    positive : (M : ℕ) → n + 2 ≤ 2 ^ M → 0 < M
+    positive zero h = absurd (omega arith)
+    positive (suc M) h = omega arith
+
 -- ---- "mu is the largest magnitude, e the least whole number with mu at most 2^e, sigma = 2^(M+e), t = +0"
 module _ {W : Width} {F : Fitting W} {n rounds : ℕ} {xs : List Float} (most : ℕ) where
   pub begins : 1 ≤ n → n ≤ W .length → length xs ≡ n → Each (Small (W .format) most) xs
@@ -38,7 +45,7 @@ module _ {W : Width} {F : Fitting W} {n rounds : ℕ} {xs : List Float} (most : 
     count = count;
     lowered = lowered;
     scale = record {
-      some = omega (arith, ceil-positive);
+      some = exponent-some n;
       few = omega (arith, M-most, F .half);
       room = omega (arith, M-most, lowered, F .room);
       power = record { number = power-number f inside; sign = power-negative f inside; units = power-magnitude f inside };
@@ -54,15 +61,12 @@ module _ {W : Width} {F : Fitting W} {n rounds : ℕ} {xs : List Float} (most : 
       M-most : exponentOf n ≤ F .most
       M-most = F .most-is n few
 
-      ceil-positive : 1 ≤ exponentOf n
-      ceil-positive = positive (exponentOf n) (ceil-ge (n + 2))
-        where
-          positive : (M : ℕ) → n + 2 ≤ 2 ^ M → 1 ≤ M
-          positive zero h = absurd (omega arith)
-          positive (suc M) h = omega arith
-
       inside : exponentOf n + ceil (largest f xs) < powers f
       inside = omega (arith, M-most, lowered, F .room)
+
+pub some-left : (f : Format) (xs : List Float) → allZero f xs ≡ false → 1 ≤ length xs
+some-left f [] h = absurd (eqb-false _ 0 h (largest-none f))
+some-left f (x ∷ xs) h = omega arith
 
 module _ {W : Width} {ps : List ℕ} (A : Allowed W ps) where
   floats-length : length (floats W ps) ≡ length ps
@@ -75,12 +79,8 @@ module _ {W : Width} {ps : List ℕ} (A : Allowed W ps) where
 
   pub opens : (F : Fitting W) → length ps ≤ W .length → allZero (W .format) (floats W ps) ≡ false
       → Begun W F (ceil (largest (W .format) (floats W ps))) (length ps) (sigmaOf (W .format) (length ps) (floats W ps)) (plusZero (W .format)) 0 (floats W ps)
-  opens F few z = begins (unitsAt W (W .magnitude)) (some ps z) few floats-length allowed-small (omega (arith, least, zero-mul (prec (W .format) - exponentOf (length ps))))
+  opens F few z = begins (unitsAt W (W .magnitude)) (omega (arith, some-left (W .format) (floats W ps) z, floats-length)) few floats-length allowed-small (omega (arith, least, zero-mul (prec (W .format) - exponentOf (length ps))))
     where
-      some : (qs : List ℕ) → allZero (W .format) (floats W qs) ≡ false → 1 ≤ length qs
-      some [] h = absurd (eqb-false _ 0 h (largest-none (W .format)))
-      some (q ∷ qs) h = omega arith
-
       least : ceil (largest (W .format) (floats W ps)) ≤ F .top
       least = ceil-least (largest-le (W .format) (2 ^ F .top) (floats W ps)
           (each-weaker _ _ (λ y Y. rw (F .top-is) at (Y .within)) (floats W ps) allowed-small))

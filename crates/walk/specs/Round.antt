@@ -35,6 +35,12 @@ sigmaOf f n xs = powerOf f (exponentOf n + ceil (largest f xs))
 unfoldable pub roundOf : Width → ℕ → Float → Float → ℕ → State
 roundOf W n sigma t rounds = stateOf n sigma t (plusZero (W .format)) (full (blocksOf W n)) rounds
 
+-- mu, e and sigma from the work area, t = +0: as at an opening, so at a restart. Where every number is zero the answer is `zero`.
+unfoldable pub fresh : Width → Float → ℕ → List Float → ℕ → Step
+fresh W zero n xs rounds =
+    let f = W .format in
+    cond (allZero f xs) (Done zero rounds) (More (roundOf W n (sigmaOf f n xs) (plusZero f) rounds))
+
 -- ---- the close
 -- 2^j eps sigma, as the product of the float 2^j eps and sigma: eps is 2^-prec, and a unit 2^-low
 unfoldable pub scaled : Format → ℕ → Float → Float
@@ -56,7 +62,7 @@ closed W s xs =
     let t' = add f (s .t) (s .tau) in
     let rounds = s .rounds + 1 in
     cond (eq t' (plusZero f))
-    (cond (allZero f xs) (Done (plusZero f) rounds) (More (roundOf W (s .n) (sigmaOf f (s .n) xs) (plusZero f) rounds)))
+    (fresh W (plusZero f) (s .n) xs rounds)
     (cond (le (s .sigma) (leastNormal f) || le (scaled f (2 * M + 1) (s .sigma)) (absolute f t'))
     (Done (finished f t' (s .t) (s .tau) xs) rounds)
     (More (roundOf W (s .n) (scaled f M (s .sigma)) t' rounds)))

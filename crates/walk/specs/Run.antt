@@ -2,17 +2,24 @@
 -- closed and one more. Assumes nothing.
 use mathlib.Core.Path.{_≡_, refl, sym, ap, _∙_, subst}
 use mathlib.Core.List.{List, [], _∷_, foldl}
-use Prim.Native.Nat.{ℕ, zero, suc, _+_, _≤_}
+use Prim.Native.Nat.{ℕ, zero, suc, _+_, _-_, _^_, _≤_, _<_}
+use native.Mathlib.Nat.{le-trans}
 use native.Mathlib.Omega.{arith}
+use lib.Pow.{pow-mono}
 use lib.Ieee.{Float}
+use Rattle.lists.specs.Each.{each-weaker}
 use Rattle.kinds.specs.Limits.{Width, blocksOf}
 use Rattle.kinds.specs.States.{stateOf}
 use Rattle.kinds.specs.declared.State.{State}
 use Rattle.kinds.specs.declared.Step.{Step}
 use Rattle.kinds.specs.declared.Step.the-variants.{More, Done, Refused}
 use Rattle.extract.specs.Extract.{plusZero, remainders, gathered}
+use Rattle.extract.specs.ExtractLaws.{remainders-length}
 use Rattle.walk.specs.Round.{roundOf, closed}
 use Rattle.walk.specs.Walk.{Walked, walked, onward, rising, roundsFrom}
+use Rattle.sound.specs.Sound.{unitsAt}
+use Rattle.walk.specs.InUnits.{Small, remainders-small}
+use Rattle.walk.specs.Closing.{Closing}
 use Rattle.walk.specs.Fitting.{Fitting}
 use Rattle.walk.specs.Begun.{Begun, begun-rounds}
 use Rattle.walk.specs.Rising.{round-closes}
@@ -107,6 +114,50 @@ module _ {W : Width} {F : Fitting W} {n : ℕ} {s : State} {xs : List Float} (R 
       go : {q : Step} → Next W F n (s .rounds) (allLeft W s xs) q → q ≡ Refused k p → ⊥
       go (ends x) h = let z : _≡_ {A = ℕ} 0 1 = cc in omega arith
       go (goes e sigma t B) h = let z : _≡_ {A = ℕ} 0 1 = cc in omega arith
+
+-- ---- the same with the rounds that are left to it, for the code's loop: q closes the state and the work area after all blocks
+module _ {W : Width} {F : Fitting W} {n : ℕ} {s : State} {xs : List Float} (R : Running W F n s xs) {taken : State} {ys : List Float}
+    (T : taken ≡ allTaken W s xs) (Y : ys ≡ allLeft W s xs) where
+  remaining : suc (W .rounds) - s .rounds ≡ suc (W .rounds - s .rounds)
+  remaining = omega (arith, begun-rounds (R .begun))
+
+  -- what the code of a close asks
+  pub walk-closing : Closing W taken ys
+  walk-closing =
+      let B = R .begun in
+      let l : 2 ^ R .e ≤ 2 ^ F .top = pow-mono (omega (arith, B .lowered)) in
+      rw (T, Y) (record {
+        some = omega (arith, same-n R, B .some);
+        few = omega (arith, same-n R, B .few);
+        count = remainders-length (W .format) (s .sigma) xs ∙ B .count ∙ same-n R;
+        rounds = begun-rounds B;
+        work = each-weaker (Small (W .format) (2 ^ R .e)) (Small (W .format) (unitsAt W (W .magnitude)))
+            (λ x X. record { number = X .number; within = rw (F .top-is) (le-trans (X .within) l) }) (allLeft W s xs) (remainders-small (B .scale) xs (B .work));
+      })
+
+  module _ {q : Step} (Q : q ≡ closed W taken ys) where
+    is : closed W (allTaken W s xs) (allLeft W s xs) ≡ q
+    is = sym (Q ∙ (λ i. closed W (T i) (Y i)))
+
+    pub walk-ends : (x : Float) (r : ℕ) → q ≡ Done x r
+        → walked q ys ≡ roundsFrom W (blocksOf W n) (suc (W .rounds) - s .rounds) (walked (More s) xs)
+    walk-ends x r e = rw (e, Y, remaining) (run-ends R (W .rounds - s .rounds) x r (is ∙ e))
+
+    pub walk-accepted : (k p : ℕ) → q ≡ Refused k p → ⊥
+    walk-accepted k p e = run-accepted R k p (is ∙ e)
+
+    module _ (s' : State) (e : q ≡ More s') where
+      pub walk-goes : roundsFrom W (blocksOf W n) (suc (W .rounds) - s .rounds) (walked (More s) xs)
+          ≡ roundsFrom W (blocksOf W n) (suc (W .rounds) - s' .rounds) (walked (More s') ys)
+      walk-goes =
+          let k : suc (W .rounds) - s' .rounds ≡ W .rounds - s .rounds = omega (arith, run-running R s' (is ∙ e) .1) in
+          rw (remaining, k, Y) (run-goes R (W .rounds - s .rounds) s' (is ∙ e))
+
+      pub walk-running : Running W F n s' ys
+      walk-running = rw Y (run-running R s' (is ∙ e) .0)
+
+      pub walk-lower : suc (W .rounds) - s' .rounds < suc (W .rounds) - s .rounds
+      walk-lower = omega (arith, run-running R s' (is ∙ e) .1, remaining)
 
 -- ---- the walk ends: after k more rounds than this one it has closed as many as a sound state may have
 pub record Ended (W : Width) (w : Walked) : Type 0 where

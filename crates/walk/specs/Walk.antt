@@ -16,9 +16,9 @@ use Rattle.kinds.specs.declared.Step.the-variants.{More, Done, Refused}
 use Rattle.kinds.specs.declared.Verdict.{Verdict}
 use Rattle.kinds.specs.declared.Verdict.the-variants as verdicts
 use Rattle.judge.specs.Judge.{judged, floats, zeroSign}
-use Rattle.extract.specs.Extract.{plusZero, gathered}
+use Rattle.extract.specs.Extract.{gathered}
 use Rattle.sound.specs.Sound.{gated}
-use Rattle.walk.specs.Round.{turned, blockOf, allZero, sigmaOf, roundOf, closed}
+use Rattle.walk.specs.Round.{turned, blockOf, fresh, closed}
 
 -- the answer, and the work area afterwards
 pub record Walked : Type 0 where
@@ -32,11 +32,9 @@ walked r xs = record { answer = r; work = xs }
 -- "If n is 0 or every number is zero, the answer is +0 with 0 rounds. Otherwise mu .., sigma .., t = +0, and the first round opens"
 unfoldable pub openedAfter : Width → Verdict → List ℕ → List Float → Walked
 openedAfter W verdicts.Good ps work =
-    let f = W .format in
+    let zero = nearestFloat (W .format) (zeroSign ps) (pos 0) in
     let xs = floats W ps in
-    walked
-    (cond (allZero f xs) (Done (nearestFloat f (zeroSign ps) (pos 0)) 0) (More (roundOf W (length ps) (sigmaOf f (length ps) xs) (plusZero f) 0)))
-    xs
+    walked (fresh W zero (length ps) xs 0) xs
 openedAfter W (verdicts.Refused k p) ps work = walked (Refused k p) work
 
 abbrev pub opened : Width → List ℕ → List Float → Walked

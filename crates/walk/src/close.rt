@@ -1,4 +1,5 @@
 // The close of a round: document 01's rules 1 to 4, in its order.
+use crate::opening;
 use crate::round;
 use kinds::Doubles;
 use kinds::State;
@@ -6,11 +7,7 @@ use kinds::Step;
 ghost use mathlib.Core.Path.{_≡_};
 ghost use Prim.Native.Nat.{_≤_};
 ghost use Rattle.kinds.specs.Limits.{doubles};
-ghost use Rattle.lists.specs.Each.{Each};
-ghost use Rattle.sound.specs.Sound.{unitsAt};
-ghost use Rattle.walk.specs.InUnits.{Small};
 ghost use Rattle.walk.specs.Round.{scaled, finished, closed};
-ghost use Rattle.walk.specs.ClosedLaws.{restarted};
 ghost use Rattle.walk.specs.Closing.{Closing};
 
 // The pattern of 2^-1022, the least normal number.
@@ -18,19 +15,6 @@ const LEAST_NORMAL: u64 = 0x0010_0000_0000_0000;
 
 // 2^-53 is this power of two in units of 2^-1074.
 const EPS: u32 = 1021;
-
-// Rules 1 and 2. "If t' is zero and all of the work area is zero, the answer is +0. If t' is zero and something remains, restart: mu, e, sigma from the work
-// area as at opening, t = +0."
-fn restart(n: usize, work: &[f64], rounds: u32) -> Step
-    requires { ⌜ (1 ≤ n) × (n ≤ doubles .length) × Each (Small (doubles .format) (unitsAt doubles (doubles .magnitude))) (now work) ⌝ }
-    ensures { λ r. ⌜ r ≡ restarted doubles n (now (work .entry)) rounds ⌝ }
-{
-    let mu = extract::largest(work);
-    if mu == 0.0 {
-        return Step::Done(0.0, rounds);
-    }
-    Step::More(round::begin(n, round::sigma(n, mu), 0.0, rounds))
-}
 
 // 2^j eps sigma: (2^j eps) sigma, and never (2^j sigma) eps, which overflows at the largest sigma.
 fn scaled(j: u32, sigma: f64) -> f64
@@ -58,7 +42,8 @@ pub fn close(s: State, work: &[f64]) -> Step
     let rounds = s.rounds + 1;
     let tau1 = s.t + s.tau;
     if tau1 == 0.0 {
-        return restart(n, work, rounds);
+        // rules 1 and 2: "restart: mu, e, sigma from the work area as at opening"
+        return opening::fresh(0.0, n, work, rounds);
     }
     let m = Doubles::of(n).exponent();
     let enough = scaled(2 * m + 1, sigma);

@@ -18,13 +18,13 @@ use Rattle.walk.proofs.close.close.Tie as tie
 add-rounds : tie.Need-add-rounds
 add-rounds c = search needs
 
-restart-requires : tie.Need-restart-requires
-restart-requires c κs = search needs
+fresh-requires : tie.Need-fresh-requires
+fresh-requires c κs = let p = c .before .before .before .before .pre in (p .count, p .few, p .work)
 
 returns : tie.Need-returns
 returns c =
     let s = c .before .before .before .before .before .args in
-    c .restart .ensures ∙ sym (closed-zero doubles (s .s) (s .work .now) (c .before .if1 .taken))
+    c .fresh .ensures ∙ sym (closed-zero doubles (s .s) (s .work .now) (c .before .if1 .taken))
 
 of-requires : tie.Need-of-requires
 of-requires c κs = search needs
@@ -93,7 +93,7 @@ close-spec =
     tie.close
     (tie.spec
     add-rounds
-    restart-requires
+    fresh-requires
     returns
     of-requires
     exponent-requires

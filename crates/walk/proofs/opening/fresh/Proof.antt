@@ -1,7 +1,7 @@
--- `walk::close::restart` meets its contract: mu is zero exactly where all of the area is, and sigma is of mu. Assumes nothing.
+-- `walk::opening::fresh` meets its contract: mu is zero exactly where all of the area is, and sigma is of mu. Assumes nothing.
 use mathlib.Core.Path.{sym, subst, _∙_}
 use mathlib.Core.Bool.{false}
-use borrow.Author.Needs.{needs}
+use native.Mathlib.Omega.{arith}
 use lib.Dec.{T}
 use lib.Ieee.{binary64}
 use Rattle.lists.specs.Each.{each-weaker}
@@ -9,10 +9,11 @@ use Rattle.ieee.specs.Finite.{is-finite, is-units}
 use Rattle.extract.specs.Extract.{largest}
 use Rattle.extract.specs.LargestLaws.{Positive}
 use Rattle.kinds.specs.Limits.{doubles}
+use Rattle.walk.specs.Opening.{some-left}
 use Rattle.walk.specs.SigmaLaws.{zero-test, mu-small}
-use Rattle.walk.specs.ClosedLaws.{restarted-nothing, restarted-round}
-use Rattle.walk.proofs.close.restart.Statement.{statement}
-use Rattle.walk.proofs.close.restart.Tie as tie
+use Rattle.walk.specs.ClosedLaws.{fresh-zero, fresh-round}
+use Rattle.walk.proofs.opening.fresh.Statement.{statement}
+use Rattle.walk.proofs.opening.fresh.Tie as tie
 
 largest-requires : tie.Need-largest-requires
 largest-requires c κs = each-weaker _ _ (λ x X. X .number .fini) (c .before .args .work .now) (c .before .pre .2)
@@ -30,7 +31,7 @@ mu c =
 returns : tie.Need-returns
 returns c =
     let s = c .before .before .before in
-    sym (restarted-nothing doubles (s .args .n) (s .args .work .now) (s .args .rounds) (sym (zero-test binary64 (mu (c .before))) ∙ c .if1 .taken))
+    sym (fresh-zero doubles (s .args .zero) (s .args .n) (s .args .work .now) (s .args .rounds) (sym (zero-test binary64 (mu (c .before))) ∙ c .if1 .taken))
 
 sigma-requires : tie.Need-sigma-requires
 sigma-requires c κs =
@@ -38,7 +39,10 @@ sigma-requires c κs =
     (s .pre .1, mu (c .before) .sign, mu-small binary64 (s .args .work .now) (mu (c .before)) (s .pre .2))
 
 begin-requires : tie.Need-begin-requires
-begin-requires c κs = search needs
+begin-requires c κs =
+    let s = c .before .before .before .before in
+    let z = sym (zero-test binary64 (mu (c .before .before))) ∙ c .before .if1 .left in
+    (omega (arith, some-left binary64 (s .args .work .now) z, s .pre .0), s .pre .1)
 
 returns-2 : tie.Need-returns-2
 returns-2 c =
@@ -46,8 +50,8 @@ returns-2 c =
     let s = g .before .before .before .before in
     let P = mu (g .before .before) in
     rw (c .begin .ensures, g .sigma .ensures, P .units)
-    (sym (restarted-round doubles (s .args .n) (s .args .work .now) (s .args .rounds) (sym (zero-test binary64 P) ∙ g .before .if1 .left)))
+    (sym (fresh-round doubles (s .args .zero) (s .args .n) (s .args .work .now) (s .args .rounds) (sym (zero-test binary64 P) ∙ g .before .if1 .left)))
 
-pub restart-spec : {M : Type 1} → statement M
-restart-spec =
+pub fresh-spec : {M : Type 1} → statement M
+fresh-spec =
     tie.close (tie.spec largest-requires returns sigma-requires begin-requires returns-2)

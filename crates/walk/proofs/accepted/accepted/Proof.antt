@@ -1,0 +1,52 @@
+-- `walk::accepted::accepted` meets its contract: what a block leaves is what a close asks, for every sound state. Assumes nothing.
+use mathlib.Core.Path.{sym, subst}
+use borrow.Author.Needs.{needs}
+use lib.Dec.{T}
+use lib.Ieee.{nan, binary64, fits}
+use Rattle.lists.specs.Each.{Each, each-from}
+use Rattle.kinds.specs.Limits.{doubles}
+use Rattle.sound.specs.PassedLaws.{Passed}
+use Rattle.walk.specs.Instances.{doubles-fit}
+use Rattle.walk.specs.Accepted.{passes, accepted-closing}
+use Rattle.walk.specs.StepLaws.{taken-closes, taken-goes}
+use Rattle.walk.proofs.accepted.accepted.Statement.{statement}
+use Rattle.walk.proofs.accepted.accepted.Tie as tie
+
+through : (c : tie.After-slice-known) → Passed doubles (doubles-fit .top) (c .before .args .s) (c .before .args .block) (c .before .args .work .now)
+through c =
+    let g = c .before in
+    passes doubles-fit (g .args .s) (g .args .block) (g .args .work .now) (subst T (sym (g .good .0 .1 .1 .0 .1)) tt) (g .pre)
+
+held : (c : tie.After-slice-known) → Each (λ x. T (fits binary64 x)) (c .before .args .work .now)
+held c = each-from (λ x. T (fits binary64 x)) (c .before .args .work .now) nan (λ i l. c .slice-known .given i)
+
+take-requires : tie.Need-take-requires
+take-requires c κs = let P = through (c .before) in (P .few, P .long, P .inside)
+
+close-requires : tie.Need-close-requires
+close-requires c κs =
+    let t = c .before .before .before .before in
+    let k = t .before .before in
+    rw (t .take .ensures .0, t .take .ensures .1) (accepted-closing doubles-fit (through k) (held k))
+
+same-length : tie.Need-same-length
+same-length c = search needs
+
+returns : tie.Need-returns
+returns c =
+    let t = c .before .before .before .before .before in
+    let g = t .before .before .before .args in
+    taken-closes doubles (g .s) (g .block) (g .work .now) (t .take .result) _ (t .take .ensures .0) (t .take .ensures .1) _ (c .before .before .if1 .taken)
+    (c .close .ensures)
+
+same-length-2 : tie.Need-same-length-2
+same-length-2 c = search needs
+
+returns-2 : tie.Need-returns-2
+returns-2 c =
+    let t = c .before .before .before in
+    let g = t .before .before .before .args in
+    taken-goes doubles (g .s) (g .block) (g .work .now) (t .take .result) _ (t .take .ensures .0) (t .take .ensures .1) (c .if1 .left)
+
+pub accepted-spec : {M : Type 1} → statement M
+accepted-spec = tie.close (tie.spec take-requires close-requires same-length returns same-length-2 returns-2)

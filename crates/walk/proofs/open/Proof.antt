@@ -1,0 +1,50 @@
+-- `walk::open` meets its contract: a refusal is the judge's, and an allowed list is started. Assumes nothing.
+use mathlib.Core.Path.{sym, ap, _∙_}
+use mathlib.Core.Bool.{true}
+use borrow.Author.Needs.{needs}
+use lib.Dec.{eqb, eqb→eq}
+use Rattle.kinds.specs.Limits.{doubles}
+use Rattle.kinds.specs.declared.Verdict.{Verdict}
+use Rattle.kinds.specs.declared.Verdict.the-variants.{Good}
+use Rattle.judge.specs.JudgeLaws.{given-when}
+use Rattle.judge.specs.FirstFaultLaws.{first-good}
+use Rattle.walk.specs.Walk.{openedAfter}
+use Rattle.walk.specs.OpeningLaws.{opened-refused}
+use Rattle.walk.proofs.open.Statement.{statement}
+use Rattle.walk.proofs.open.Tie as tie
+
+judge-requires : tie.Need-judge-requires
+judge-requires c κs = search needs
+
+enum-known-k : tie.Need-enum-known-k
+enum-known-k c = search needs
+
+enum-told : tie.Need-enum-told
+enum-told c = search needs
+
+start-requires : tie.Need-start-requires
+start-requires c κs =
+    let j = c .before .before .before in
+    let ps = j .before .before .before .args .list .now in
+    let v = given-when doubles _ true ps Good .0 (sym (j .judge .ensures) ∙ c .before .enum-told .given .1) in
+    (eqb→eq _ _ (v .0 .right-area), v .0 .few, first-good doubles ps .1 (v .1))
+
+returns : tie.Need-returns
+returns c =
+    let j = c .before .before .before in
+    let g = j .before .before .before in
+    opened-refused doubles _ _ _ (g .args .list .now) (g .args .work .now) (sym (j .judge .ensures) ∙ c .before .k .given .1)
+
+same-length : tie.Need-same-length
+same-length c = search needs
+
+returns-2 : tie.Need-returns-2
+returns-2 c =
+    let s = c .before .before in
+    let j = s .before .before .before .before in
+    let g = j .before .before .before in
+    let e = sym (j .judge .ensures) ∙ s .before .before .enum-told .given .1 in
+    s .start .ensures ∙ ap (λ (v : Verdict). openedAfter doubles v (g .args .list .now) (g .args .work .now)) (sym e)
+
+pub open-spec : {M : Type 1} → statement M
+open-spec = tie.close (tie.spec judge-requires enum-known-k enum-told start-requires returns same-length returns-2)

@@ -1,0 +1,103 @@
+-- `walk::run::run` meets its contract: each state of the loop opens a round of the run, and what is left of the run is what follows from it. The measure is
+-- the rounds that are left. Assumes nothing.
+use mathlib.Core.Path.{_≡_, refl, sym, ap, _∙_}
+use Prim.Native.Nat.{suc, _-_}
+use borrow.Author.Needs.{needs}
+use lib.ListN.{length}
+use Rattle.kinds.specs.Limits.{doubles, blocksOf}
+use Rattle.kinds.specs.declared.Step.the-variants.{More}
+use Rattle.extract.specs.ExtractLaws.{remainders-length}
+use Rattle.walk.specs.Walk.{walked, roundsFrom}
+use Rattle.walk.specs.Instances.{doubles-fit}
+use Rattle.walk.specs.Run.{Running, walk-closing, walk-ends, walk-accepted, walk-goes, walk-running, walk-lower}
+use Rattle.walk.proofs.run.run.Statement.{statement}
+use Rattle.walk.proofs.run.run.Tie as tie
+
+abbrev Inv-loop : tie.InvT-loop
+Inv-loop work₀ s₀ work s =
+    (length work ≡ length work₀) × Running doubles doubles-fit (s₀ .n) s work
+    × (roundsFrom doubles (blocksOf doubles (s₀ .n)) (suc (doubles .rounds) - s₀ .rounds) (walked (More s₀) work₀)
+    ≡ roundsFrom doubles (blocksOf doubles (s₀ .n)) (suc (doubles .rounds) - s .rounds) (walked (More s) work))
+
+abbrev μ-loop : tie.MeasureT-loop
+μ-loop work₀ s₀ work s = suc (doubles .rounds) - s .rounds
+
+loop-holds : tie.Need-loop-holds Inv-loop μ-loop
+loop-holds c = (refl, c .before .pre, refl)
+
+take-all-requires : tie.Need-take-all-requires Inv-loop μ-loop
+take-all-requires c κs = search needs
+
+close-requires : tie.Need-close-requires Inv-loop μ-loop
+close-requires c κs =
+    let t = c .before .before .before in
+    let l = t .before .before in
+    walk-closing (l .loop .inv .1) (t .take-all .ensures .0) (t .take-all .ensures .1)
+
+enum-known-answer : tie.Need-enum-known-answer Inv-loop μ-loop
+enum-known-answer c = search needs
+
+loop-less : tie.Need-loop-less Inv-loop μ-loop
+loop-less c =
+    let q = c .before .before .before in
+    let t = q .before .before .before .before in
+    let l = t .before .before in
+    walk-lower (l .loop .inv .1) (t .take-all .ensures .0) (t .take-all .ensures .1) (q .close .ensures) _ (c .before .answer .given .1)
+
+loop-again : tie.Need-loop-again Inv-loop μ-loop
+loop-again c =
+    let q = c .before .before .before in
+    let t = q .before .before .before .before in
+    let l = t .before .before in
+    let I = l .loop .inv in
+    let T = t .take-all .ensures .0 in
+    let Y = t .take-all .ensures .1 in (
+      ap length Y ∙ remainders-length (doubles .format) (l .loop .s .sigma) (l .loop .work) ∙ I .0,
+      walk-running (I .1) T Y (q .close .ensures) _ (c .before .answer .given .1),
+      I .2 ∙ walk-goes (I .1) T Y (q .close .ensures) _ (c .before .answer .given .1),
+    )
+
+enum-told : tie.Need-enum-told Inv-loop μ-loop
+enum-told c = search needs
+
+same-length : tie.Need-same-length Inv-loop μ-loop
+same-length c = search needs
+
+returns : tie.Need-returns Inv-loop μ-loop
+returns c =
+    let q = c .before .before in
+    let t = q .before .before .before .before in
+    let I = t .before .before .loop .inv in
+    walk-ends (I .1) (t .take-all .ensures .0) (t .take-all .ensures .1) (q .close .ensures) _ _ (c .enum-told .given .1) ∙ sym (I .2)
+
+enum-told-2 : tie.Need-enum-told-2 Inv-loop μ-loop
+enum-told-2 c = search needs
+
+same-length-2 : tie.Need-same-length-2 Inv-loop μ-loop
+same-length-2 c = search needs
+
+returns-2 : tie.Need-returns-2 Inv-loop μ-loop
+returns-2 c =
+    let q = c .before .before in
+    let t = q .before .before .before .before in
+    let I = t .before .before .loop .inv in
+    absurd (walk-accepted (I .1) (t .take-all .ensures .0) (t .take-all .ensures .1) (q .close .ensures) _ _ (c .enum-told2 .given .1))
+
+pub run-spec : {M : Type 1} → statement M
+run-spec =
+    tie.close
+    (tie.spec
+    Inv-loop
+    μ-loop
+    loop-holds
+    take-all-requires
+    close-requires
+    enum-known-answer
+    loop-less
+    loop-again
+    enum-told
+    same-length
+    returns
+    enum-told-2
+    same-length-2
+    returns-2)

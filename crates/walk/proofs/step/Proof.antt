@@ -1,0 +1,41 @@
+-- `walk::step` meets its contract: a refusal is the gate's, and a block that it lets pass is taken. Assumes nothing.
+use mathlib.Core.Path.{sym, _∙_}
+use borrow.Author.Needs.{needs}
+use Rattle.kinds.specs.Limits.{doubles}
+use Rattle.walk.specs.StepLaws.{stepped-refused, stepped-good}
+use Rattle.walk.proofs.step.Statement.{statement}
+use Rattle.walk.proofs.step.Tie as tie
+
+gate-requires : tie.Need-gate-requires
+gate-requires c κs = search needs
+
+enum-known-k : tie.Need-enum-known-k
+enum-known-k c = search needs
+
+enum-told : tie.Need-enum-told
+enum-told c = search needs
+
+accepted-requires : tie.Need-accepted-requires
+accepted-requires c κs = let g = c .before .before .before in sym (g .gate .ensures) ∙ c .before .enum-told .given .1
+
+same-length : tie.Need-same-length
+same-length c = search needs
+
+returns : tie.Need-returns
+returns c =
+    let j = c .before .before .before in
+    let g = j .before .before .before .args in
+    stepped-refused doubles (g .s) (g .block) (g .work .now) _ _ _ (sym (j .gate .ensures) ∙ c .before .k .given .1)
+
+same-length-2 : tie.Need-same-length-2
+same-length-2 c = search needs
+
+returns-2 : tie.Need-returns-2
+returns-2 c =
+    let a = c .before .before in
+    let j = a .before .before .before .before in
+    let g = j .before .before .before .args in
+    a .accepted .ensures ∙ stepped-good doubles (g .s) (g .block) (g .work .now) _ (sym (j .gate .ensures) ∙ a .before .before .enum-told .given .1)
+
+pub step-spec : {M : Type 1} → statement M
+step-spec = tie.close (tie.spec gate-requires enum-known-k enum-told accepted-requires same-length returns same-length-2 returns-2)

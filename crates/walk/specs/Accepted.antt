@@ -1,0 +1,76 @@
+-- What a block that passed the gate leaves is what the code of a close asks, for every sound state. Assumes nothing.
+use mathlib.Core.Path.{_≡_, _∙_}
+use mathlib.Core.List.{List, _++_}
+use Prim.Native.Nat.{ℕ, _+_, _*_, _^_, _<_}
+use native.Mathlib.Nat.{le-trans}
+use native.Mathlib.Omega.{arith}
+use lib.Dec.{T}
+use lib.ListN.{length, take, drop, length-append, length-take, length-drop}
+use lib.Pow.{pow-mono}
+use lib.Ieee.{Float, Format, fits}
+use Rattle.lists.specs.Each.{Each, each-join, each-take, each-drop, each-weaker, each-both}
+use Rattle.kinds.specs.Limits.{Width, exponentOf}
+use Rattle.kinds.specs.declared.State.{State}
+use Rattle.kinds.specs.declared.Verdict.the-variants.{Good}
+use Rattle.exponent.specs.Power.{powers}
+use Rattle.exponent.specs.PowerLaws.{power-number, power-negative, power-magnitude}
+use Rattle.extract.specs.Extract.{remainders}
+use Rattle.extract.specs.ExtractLaws.{remainders-length}
+use Rattle.sound.specs.Sound.{unitsAt, gated}
+use Rattle.sound.specs.PassedLaws.{Passed, passed}
+use Rattle.sound.specs.SoundLaws.{Within}
+use Rattle.walk.specs.Round.{blockOf, turned}
+use Rattle.walk.specs.Walk.{takenState}
+use Rattle.walk.specs.InUnits.{Small, Scale, remainders-small}
+use Rattle.walk.specs.Closing.{Closing}
+use Rattle.walk.specs.Fitting.{Fitting}
+use Rattle.walk.specs.Opening.{exponent-some}
+
+pub passes : {W : Width} (F : Fitting W) (s : State) (b : ℕ) (xs : List Float) → T (fits (W .format) (s .sigma)) → gated W s b xs ≡ Good
+    → Passed W (F .top) s b xs
+passes {W} F s b xs fit g = passed W (F .top) (F .top-is) (λ n h. omega (arith, F .most-is n h, F .room)) s b xs fit g
+
+module _ {W : Width} (F : Fitting W) {s : State} {b : ℕ} {xs : List Float} (P : Passed W (F .top) s b xs) (fit : Each (λ x. T (fits (W .format) x)) xs) where
+  scale : Scale (W .format) (exponentOf (s .n)) (P .e) (s .sigma)
+  scale = record {
+    some = exponent-some (s .n);
+    few = omega (arith, F .most-is (s .n) (P .few), F .half);
+    room = omega (arith, F .most-is (s .n) (P .few), P .low, F .room);
+    power = rw (P .sigma) (record { number = power-number f inside; sign = power-negative f inside; units = power-magnitude f inside });
+  }
+    where
+      f : Format
+      f = W .format
+
+      inside : exponentOf (s .n) + P .e < powers f
+      inside = omega (arith, F .most-is (s .n) (P .few), P .low, F .room)
+
+  small : Each (Small (W .format) (2 ^ P .e)) xs
+  small = each-both (Within W (2 ^ P .e)) (λ x. T (fits (W .format) x)) (Small (W .format) (2 ^ P .e))
+      (λ x X f. record { number = record { fit = f; fini = X .fini }; within = X .small }) xs (P .work) fit
+
+  turned-small : Each (Small (W .format) (2 ^ P .e)) (turned W (s .sigma) b xs)
+  unfolding turned
+  turned-small =
+      let A = Small (W .format) (2 ^ P .e) in
+      let k = W .block * b in
+      let block = remainders-small scale (blockOf W b xs) (each-take A (W .block) (drop k xs) (each-drop A k xs small)) in
+      let turn = remainders (W .format) (s .sigma) (blockOf W b xs) in
+      let after = drop (k + W .block) xs in
+      each-join A (take k xs) (turn ++ after) (each-take A k xs small) (each-join A turn after block (each-drop A (k + W .block) xs small))
+
+  turned-length : length (turned W (s .sigma) b xs) ≡ length xs
+  unfolding turned
+  turned-length =
+      simp (length-append, remainders-length (W .format) (s .sigma), length-take, length-drop)
+      (omega arith)
+
+  pub accepted-closing : Closing W (takenState W s b xs) (turned W (s .sigma) b xs)
+  accepted-closing = record {
+    some = P .some;
+    few = P .few;
+    count = turned-length ∙ P .long;
+    rounds = P .rounds;
+    work = each-weaker (Small (W .format) (2 ^ P .e)) (Small (W .format) (unitsAt W (W .magnitude)))
+        (λ x X. record { number = X .number; within = rw (F .top-is) (le-trans (X .within) (pow-mono (P .low))) }) (turned W (s .sigma) b xs) turned-small;
+  }

@@ -1,0 +1,98 @@
+-- The undivided call from its opening: a state that an opening answers opens a round of a run, and any other answer is the walk's; the walk ends for every
+-- list. Assumes nothing.
+use mathlib.Core.Path.{_≡_, refl, sym, ap, _∙_, subst}
+use mathlib.Core.Bool.{Bool, true, false, cond}
+use mathlib.Core.List.{List}
+use Prim.Native.Nat.{ℕ, suc, _-_}
+use native.Mathlib.Omega.{arith}
+use lib.Dec.{eqb}
+use lib.IntN.{pos}
+use lib.ListN.{length}
+use lib.Ieee.{Float}
+use Rattle.ieee.specs.Units.{nearestFloat}
+use Rattle.kinds.specs.Limits.{Width, blocksOf}
+use Rattle.kinds.specs.declared.State.{State}
+use Rattle.kinds.specs.declared.Step.{Step}
+use Rattle.kinds.specs.declared.Step.the-variants.{More, Done, Refused}
+use Rattle.kinds.specs.declared.Verdict.{Verdict}
+use Rattle.kinds.specs.declared.Verdict.the-variants as verdicts
+use Rattle.judge.specs.Judge.{judged, floats, zeroSign}
+use Rattle.judge.specs.JudgeLaws.{given-when}
+use Rattle.extract.specs.Extract.{plusZero}
+use Rattle.walk.specs.Round.{allZero, sigmaOf, roundOf, fresh}
+use Rattle.walk.specs.Walk.{Walked, walked, openedAfter, opened, roundsFrom, faithfulOf}
+use Rattle.walk.specs.Fitting.{Fitting}
+use Rattle.walk.specs.Opening.{opens}
+use Rattle.walk.specs.Run.{Running, run-done, run-refused}
+
+-- a state that opens the first round of a walk over n numbers
+pub record First (W : Width) (F : Fitting W) (n : ℕ) (s : State) (xs : List Float) : Type 0 where
+  pub running : Running W F n s xs
+  pub count : s .n ≡ n
+  pub rounds : s .rounds ≡ 0
+
+module _ {W : Width} (F : Fitting W) (ps : List ℕ) (work : List Float) where
+  pub opened-first : (s : State) (xs : List Float) → opened W ps work ≡ walked (More s) xs → First W F (length ps) s xs
+  unfolding openedAfter fresh roundOf
+  opened-first s xs e = by (judged W (eqb (length work) (length ps)) true ps) refl e
+    where
+      n : ℕ
+      n = length ps
+
+      first : State
+      first = roundOf W n (sigmaOf (W .format) n (floats W ps)) (plusZero (W .format)) 0
+
+      round : allZero (W .format) (floats W ps) ≡ false → judged W (eqb (length work) n) true ps ≡ verdicts.Good → First W F n first (floats W ps)
+      round z g =
+          let v = given-when W (eqb (length work) n) true ps verdicts.Good .0 g in
+          record { running = record { e = _; state = refl; begun = opens (v .1) F (v .0 .few) z }; count = refl; rounds = refl }
+
+      zero : Float
+      zero = nearestFloat (W .format) (zeroSign ps) (pos 0)
+
+      starts : (b : Bool) → allZero (W .format) (floats W ps) ≡ b → judged W (eqb (length work) n) true ps ≡ verdicts.Good
+          → walked (cond b (Done zero 0) (More first)) (floats W ps) ≡ walked (More s) xs → First W F n s xs
+      starts true z g h =
+          let m : Done zero 0 ≡ More s = ap (λ (w : Walked). w .answer) h in
+          let c : _≡_ {A = ℕ} 0 1 = cc in absurd (omega arith)
+      starts false z g h =
+          let m : More first ≡ More s = ap (λ (w : Walked). w .answer) h in
+          let a : first ≡ s = cc in
+          let b : floats W ps ≡ xs = ap (λ (w : Walked). w .work) h in
+          rw (a, b) at (round z g)
+
+      by : (v : Verdict) → judged W (eqb (length work) n) true ps ≡ v → openedAfter W v ps work ≡ walked (More s) xs → First W F n s xs
+      by verdicts.Good g h = starts (allZero (W .format) (floats W ps)) refl g h
+      by (verdicts.Refused k p) g h =
+          let m : Refused k p ≡ More s = ap (λ (w : Walked). w .answer) h in
+          let c : _≡_ {A = ℕ} 0 1 = cc in absurd (omega arith)
+
+  rest : Walked → Walked
+  rest w = roundsFrom W (blocksOf W (length ps)) (suc (W .rounds)) w
+
+  module _ (q : Step) (xs : List Float) (e : walked q xs ≡ opened W ps work) where
+    -- an answer that isn't a state stays
+    stays : rest (walked q xs) ≡ walked q xs → walked q xs ≡ faithfulOf W ps work
+    unfolding rest
+    stays h = sym h ∙ ap rest e
+
+    pub faithful-done : (x : Float) (r : ℕ) → q ≡ Done x r → walked q xs ≡ faithfulOf W ps work
+    unfolding rest
+    faithful-done x r d = stays (rw d (run-done W (blocksOf W (length ps)) (suc (W .rounds)) x r xs))
+
+    pub faithful-refused : (k p : ℕ) → q ≡ Refused k p → walked q xs ≡ faithfulOf W ps work
+    unfolding rest
+    faithful-refused k p d = stays (rw d (run-refused W (blocksOf W (length ps)) (suc (W .rounds)) k p xs))
+
+    module _ (s : State) (d : q ≡ More s) where
+      first : First W F (length ps) s xs
+      first = opened-first s xs (sym e ∙ ap (λ (q : Step). walked q xs) d)
+
+      pub faithful-running : Running W F (s .n) s xs
+      faithful-running = subst (λ (n : ℕ). Running W F n s xs) (sym (first .count)) (first .running)
+
+      pub faithful-more : roundsFrom W (blocksOf W (s .n)) (suc (W .rounds) - s .rounds) (walked (More s) xs) ≡ faithfulOf W ps work
+      unfolding rest
+      faithful-more =
+          let k : suc (W .rounds) - s .rounds ≡ suc (W .rounds) = omega (arith, first .rounds) in
+          (λ i. roundsFrom W (blocksOf W (first .count i)) (k i) (walked (sym d i) xs)) ∙ ap rest e

@@ -1,0 +1,23 @@
+// A block that the gate let pass.
+use crate::close;
+use crate::round;
+use kinds::State;
+use kinds::Step;
+ghost use mathlib.Core.Path.{_≡_};
+ghost use Rattle.kinds.specs.Limits.{doubles};
+ghost use Rattle.kinds.specs.declared.Verdict.the-variants.{Good};
+ghost use Rattle.sound.specs.Sound.{gated};
+ghost use Rattle.walk.specs.Walk.{walked, taken};
+
+// Takes the block; "When the last pending block of a round is taken the round closes".
+pub fn accepted(s: State, work: &mut [f64], block: usize) -> Step
+    requires { ⌜ gated doubles s block (now work) ≡ Good ⌝ }
+    ensures { λ r. ⌜ walked r (now (work .exit)) ≡ taken doubles s block (now (work .entry)) ⌝ }
+{
+    let next = round::take(s, work, block);
+    let pending = next.pending;
+    if pending == 0 {
+        return close::close(next, work);
+    }
+    Step::More(next)
+}
