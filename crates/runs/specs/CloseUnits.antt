@@ -21,6 +21,10 @@ use Rattle.extract.specs.LargestLaws.{zero-positive}
 use Rattle.walk.specs.Round.{finished}
 use Rattle.walk.specs.InUnits.{Small, wholes}
 
+pub zero-whole : (f : Format) → whole f (plusZero f) ≡ nat 0
+unfolding whole
+zero-whole f = rw (zero-positive f .sign, zero-positive f .units)
+
 -- ---- T: after c numbers of at most 2^j units each, a partial sum is at most c 2^j
 module _ (f : Format) (j c₀ : ℕ) (room : c₀ * 2 ^ j ≤ 2 ^ (low f + emax f)) (fit : c₀ ≤ 2 ^ prec f) where
   count-rep : (c : ℕ) → c ≤ c₀ → Representable (prec f) (nat (c * 2 ^ j))
@@ -43,11 +47,8 @@ module _ (f : Format) (j c₀ : ℕ) (room : c₀ * 2 ^ j ≤ 2 ^ (low f + emax 
   -- "T is the work area added up from +0 in rising order"
   pub last-sum : (xs : List Float) → Each (Small f (2 ^ j)) xs → length xs ≤ c₀
       → Number f (lastSum f xs) × (whole f (lastSum f xs) ≡ units.summed (prec f) (nat 0) (wholes f xs)) × Within (whole f (lastSum f xs)) (c₀ * 2 ^ j)
-  unfolding lastSum whole
-  last-sum xs h l =
-      let Z = zero-positive f in
-      let z : whole f (plusZero f) ≡ nat 0 = rw (Z .sign, Z .units) in
-      rw z at (sums xs 0 (plusZero f) (Z .number) (rw z (omega arith)) h (omega arith))
+  unfolding lastSum
+  last-sum xs h l = rw (zero-whole f) at (sums xs 0 (plusZero f) (zero-positive f .number) (rw (zero-whole f) (omega arith)) h (omega arith))
 
 -- ---- a sum and a difference of numbers of at most 2^k units, with room for one digit more
 pub record Held (f : Format) (k : ℕ) (x : Float) : Type 0 where

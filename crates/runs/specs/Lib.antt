@@ -1,2 +1,3 @@
 -- What holds of every run of the faithful walk.
 pub mod CloseUnits
+pub mod Summing

@@ -42,7 +42,7 @@ module _ {W : Width} {F : Fitting W} {e n : ℕ} {sigma t : Float} {rounds : ℕ
       omega (arith, B .lowered, F .enough, mul-le-mul-left (suc (W .rounds)) apart) in
       let l : rounds < suc (W .rounds) = lt-of-mul-lt-mul-right (p - exponentOf n) h in omega arith
 
-  first-tau : Tau (B .scale) 0 (plusZero (W .format))
+  pub first-tau : Tau (B .scale) 0 (plusZero (W .format))
   unfolding whole
   first-tau = record {
     number = zero-positive (W .format) .number;

@@ -7,9 +7,9 @@ use Prim.Native.Nat.{ℕ, suc, _+_, _-_, _*_, _^_, _≤_, _<_}
 use native.Mathlib.Nat.{suc-mul, one-mul}
 use native.Mathlib.Numerals.{add-one}
 use native.Mathlib.Omega.{arith}
-use borrow.Author.Tests.{eqb-false, leb-false}
+use borrow.Author.Tests.{eqb-false, leb-true, leb-false}
 use lib.Dec.{leb, lit<}
-use lib.Pow.{pow-add, pow-mono}
+use lib.Pow.{pow-add, pow-mono, pow-lt}
 use lib.Ieee.{Float, Format, binary32, binary64, prec, low, hid, add, le, eq}
 use lib.Ieee.Fits.{mul-fits}
 use Rattle.units.specs.Rounding.{ceil}
@@ -53,23 +53,29 @@ scaled-positive f j k c {sigma} fine S e h l = record {
     product : Is f (scaled f j sigma) false (2 ^ c)
     product = mul-powers f (powerOf f i) sigma i k c (omega arith) (power-is f (omega arith)) (positive-is f S) l
 
--- ---- a power of two that is above a number, and the least normal number
-above : (f : Format) {x y : Float} {a b : ℕ} → Positive f x a → Unsigned f y b → le x y ≡ false → b < a
+-- ---- a power of two against a number, and the least normal number
+le-is : (f : Format) {x y : Float} {a b : ℕ} → Positive f x a → Unsigned f y b → le x y ≡ leb a b
 unfolding whole
-above f {x} {y} {a} {b} X Y h = go (negative y) refl
+le-is f {x} {y} {a} {b} X Y = go (negative y) refl
   where
-    test : (s : Bool) → negative y ≡ s → leb (a + signedWhole s b .dn) (signedWhole s b .up + 0) ≡ false
-    test s e = rw (X .sign, X .units, e, Y .units) at (sym (le-units f x y (X .number) (Y .number)) ∙ h)
+    test : (s : Bool) → negative y ≡ s → le x y ≡ leb (a + signedWhole s b .dn) (signedWhole s b .up + 0)
+    test s e = rw (X .sign, X .units, e, Y .units) at (le-units f x y (X .number) (Y .number))
 
-    go : (s : Bool) → negative y ≡ s → b < a
-    go false e = omega (arith, leb-false (a + 0) (b + 0) (test false e))
-    go true e = omega (arith, Y .sign e, leb-false (a + b) (0 + 0) (test true e))
+    go : (s : Bool) → negative y ≡ s → le x y ≡ leb a b
+    go false e = let h : a + 0 ≡ a = omega arith in let k : b + 0 ≡ b = omega arith in test false e ∙ rw (h, k)
+    go true e = let h : a + b ≡ a = omega (arith, Y .sign e) in let k : 0 + 0 ≡ b = omega (arith, Y .sign e) in test true e ∙ rw (h, k)
+
+pub above : (f : Format) {x y : Float} {a b : ℕ} → Positive f x a → Unsigned f y b → le x y ≡ false → b < a
+above f {a = a} {b = b} X Y h = leb-false a b (sym (le-is f X Y) ∙ h)
+
+pub reached : (f : Format) {x y : Float} {a b : ℕ} → Positive f x a → Unsigned f y b → le x y ≡ true → a ≤ b
+reached f {a = a} {b = b} X Y h = leb-true a b (sym (le-is f X Y) ∙ h)
 
 normal-fits : (f : Format) → prec f - 1 < powers f
 normal-fits binary32 = lit< tt
 normal-fits binary64 = lit< tt
 
-least-normal : (f : Format) → Unsigned f (leastNormal f) (2 ^ (prec f - 1))
+pub least-normal : (f : Format) → Unsigned f (leastNormal f) (2 ^ (prec f - 1))
 least-normal f =
     let h = normal-fits f in
     let e : leastNormal f ≡ powerOf f (prec f - 1) = rw (one-mul (hid f)) at (high-power f h 0 (omega arith)) in
@@ -79,6 +85,10 @@ least-normal f =
     never e = let z : _≡_ {A = ℕ} 0 1 = cc in omega arith
 
 -- ---- the close
+-- t' as the round closes that took all of xs
+abbrev pub carried : Width → Float → Float → List Float → Float
+carried W sigma t xs = add (W .format) t (gathered (W .format) sigma (plusZero (W .format)) xs)
+
 pub data Next (W : Width) (F : Fitting W) (n rounds : ℕ) (ys : List Float) : Step → Type 0 where
   ends : (x : Float) → Next W F n rounds ys (Done x (rounds + 1))
   goes : (e : ℕ) (sigma t : Float) → Begun W F e n sigma t (rounds + 1) ys → Next W F n rounds ys (More (roundOf W n sigma t (rounds + 1)))
@@ -122,7 +132,7 @@ module _ {W : Width} {F : Fitting W} {e n : ℕ} {sigma t : Float} {rounds : ℕ
   lower : (c : ℕ) → c + (prec (W .format) - exponentOf n) ≤ e → (rounds + 1) * (prec (W .format) - exponentOf n) + c ≤ F .top
   lower c h = rw (add-one rounds, suc-mul rounds (prec (W .format) - exponentOf n)) (omega (arith, B .lowered))
 
-  restarts : allZero (W .format) (remainders (W .format) sigma xs) ≡ false
+  pub restarts : allZero (W .format) (remainders (W .format) sigma xs) ≡ false
       → Begun W F (ceil (largest (W .format) (remainders (W .format) sigma xs))) n (sigmaOf (W .format) n (remainders (W .format) sigma xs))
       (plusZero (W .format)) (rounds + 1) (remainders (W .format) sigma xs)
   restarts z = go (le-or-lt (prec (W .format)) (exponentOf n + e))
@@ -141,11 +151,7 @@ module _ {W : Width} {F : Fitting W} {e n : ℕ} {sigma t : Float} {rounds : ℕ
           begins (2 ^ c) (B .some) (B .few) (remainders-length f sigma xs ∙ B .count) (left l) (lower (ceil (largest f ys)) (omega (arith, B .scale .few)))
 
   -- ---- rule 4: a further round
-  next : Float
-  next = add (W .format) t (gathered (W .format) sigma (plusZero (W .format)) xs)
-
-  next-number : Number (W .format) next
-  unfolding next
+  next-number : Number (W .format) (carried W sigma t xs)
   next-number =
       let f = W .format in
       let tau = gathered f sigma (plusZero f) xs in
@@ -153,8 +159,38 @@ module _ {W : Width} {F : Fitting W} {e n : ℕ} {sigma t : Float} {rounds : ℕ
       add-rounds (B .kept .number) (T .number) (F .bound + 1) (omega (arith, F .sum-room))
       (omega (arith, whole-mag f t, B .kept .within, whole-mag f tau, T .within, pow-add 2 (F .bound) 1)) .number
 
-  further : le sigma (leastNormal (W .format)) ≡ false → le (scaled (W .format) (2 * exponentOf n + 1) sigma) (absolute (W .format) next) ≡ false
-      → Begun W F (exponentOf n + e - prec (W .format)) n (scaled (W .format) (exponentOf n) sigma) next (rounds + 1) (remainders (W .format) sigma xs)
+  half : exponentOf n + exponentOf n < prec (W .format)
+  half = omega (arith, F .most-is n (B .few), F .half)
+
+  -- "sigma is at most 2^-1022": 2^(prec - 1) units are the least normal number
+  pub below-normal : le sigma (leastNormal (W .format)) ≡ true → exponentOf n + e < prec (W .format)
+  below-normal u = elim (le-or-lt (prec f) (exponentOf n + e)) [
+    | inl l ↦ absurd (omega (arith, reached f (B .scale .power) (least-normal f) u, pow-lt {i = prec f - 1} {j = exponentOf n + e} (omega arith)))
+    | inr l ↦ l
+  ]
+    where
+      f : Format
+      f = W .format
+
+  pub above-normal : le sigma (leastNormal (W .format)) ≡ false → prec (W .format) ≤ exponentOf n + e
+  above-normal u = elim (le-or-lt (prec f) (exponentOf n + e)) [
+    | inl l ↦ l
+    | inr l ↦ absurd (omega (arith, above f (B .scale .power) (least-normal f) u, pow-mono {i = exponentOf n + e} {j = prec f - 1} (omega arith)))
+  ]
+    where
+      f : Format
+      f = W .format
+
+  -- 2^(2M+1) eps sigma, where eps sigma is a unit or more
+  pub threshold : prec (W .format) ≤ exponentOf n + e
+      → Positive (W .format) (scaled (W .format) (2 * exponentOf n + 1) sigma) (2 ^ (2 * exponentOf n + 1 + (exponentOf n + e) - prec (W .format)))
+  threshold l = scaled-positive (W .format) (2 * exponentOf n + 1) (exponentOf n + e) _ (F .fine) (B .scale .power) (omega (arith, l)) (omega (arith, half))
+      (omega (arith, half, B .scale .room))
+
+  pub further : le sigma (leastNormal (W .format)) ≡ false
+      → le (scaled (W .format) (2 * exponentOf n + 1) sigma) (absolute (W .format) (carried W sigma t xs)) ≡ false
+      → Begun W F (exponentOf n + e - prec (W .format)) n (scaled (W .format) (exponentOf n) sigma) (carried W sigma t xs) (rounds + 1)
+      (remainders (W .format) sigma xs)
   further u v = record {
     some = B .some;
     few = B .few;
@@ -164,9 +200,10 @@ module _ {W : Width} {F : Fitting W} {e n : ℕ} {sigma t : Float} {rounds : ℕ
       some = B .scale .some;
       few = B .scale .few;
       room = omega (arith, B .scale .room, B .scale .few);
-      power = scaled-positive f M (M + e) (M + (M + e - prec f)) (F .fine) (B .scale .power) (omega (arith, normal)) (omega (arith, half)) (omega (arith, below));
+      power = scaled-positive f M (M + e) (M + (M + e - prec f)) (F .fine) (B .scale .power) (omega (arith, normal)) (omega (arith, half))
+          (omega (arith, B .scale .room));
     };
-    kept = record { number = next-number; within = omega (arith, above f bound (absolute-is f next-number) v, pow-mono capped) };
+    kept = record { number = next-number; within = omega (arith, above f (threshold normal) (absolute-is f next-number) v, pow-mono capped) };
     work = left normal;
   }
     where
@@ -176,33 +213,19 @@ module _ {W : Width} {F : Fitting W} {e n : ℕ} {sigma t : Float} {rounds : ℕ
       M : ℕ
       M = exponentOf n
 
-      half : M + M < prec f
-      half = omega (arith, F .most-is n (B .few), F .half)
-
-      below : M + e < powers f
-      below = omega (arith, B .scale .room)
-
-      -- sigma is above the least normal number, 2^(prec - 1) units
       normal : prec f ≤ M + e
-      normal = elim (le-or-lt (prec f) (M + e)) [
-        | inl l ↦ l
-        | inr l ↦ absurd (omega (arith, above f (B .scale .power) (least-normal f) u, pow-mono {i = M + e} {j = prec f - 1} (omega arith)))
-      ]
+      normal = above-normal u
 
-      c : ℕ
-      c = 2 * M + 1 + (M + e) - prec f
-
-      capped : c ≤ F .bound
+      capped : 2 * M + 1 + (M + e) - prec f ≤ F .bound
       capped = omega (arith, F .most-is n (B .few), B .lowered, F .t-room)
-
-      bound : Positive f (scaled f (2 * M + 1) sigma) (2 ^ c)
-      bound = scaled-positive f (2 * M + 1) (M + e) c (F .fine) (B .scale .power) (omega (arith, normal)) (omega (arith, half)) (omega (arith, half, below))
 
   -- ---- the four rules
   pub falls : Next W F n rounds (remainders (W .format) sigma xs)
       (closed W (stateOf n sigma t (gathered (W .format) sigma (plusZero (W .format)) xs) 0 rounds) (remainders (W .format) sigma xs))
-  unfolding closed fresh next
-  falls = go (eq next (plusZero f)) (allZero f ys) refl (le sigma (leastNormal f)) refl (le (scaled f (2 * M + 1) sigma) (absolute f next)) refl
+  unfolding closed fresh
+  falls =
+      go (eq (carried W sigma t xs) (plusZero f)) (allZero f ys) refl (le sigma (leastNormal f)) refl
+      (le (scaled f (2 * M + 1) sigma) (absolute f (carried W sigma t xs))) refl
     where
       f : Format
       f = W .format
@@ -214,13 +237,13 @@ module _ {W : Width} {F : Fitting W} {e n : ℕ} {sigma t : Float} {rounds : ℕ
       ys = remainders f sigma xs
 
       go : (z a : Bool) → allZero f ys ≡ a → (u : Bool) → le sigma (leastNormal f) ≡ u
-          → (v : Bool) → le (scaled f (2 * M + 1) sigma) (absolute f next) ≡ v
+          → (v : Bool) → le (scaled f (2 * M + 1) sigma) (absolute f (carried W sigma t xs)) ≡ v
           → Next W F n rounds ys
           (cond z
           (cond a (Done (plusZero f) (rounds + 1)) (More (roundOf W n (sigmaOf f n ys) (plusZero f) (rounds + 1))))
           (cond (u || v)
-          (Done (finished f next t (gathered f sigma (plusZero f) xs) ys) (rounds + 1))
-          (More (roundOf W n (scaled f M sigma) next (rounds + 1)))))
+          (Done (finished f (carried W sigma t xs) t (gathered f sigma (plusZero f) xs) ys) (rounds + 1))
+          (More (roundOf W n (scaled f M sigma) (carried W sigma t xs) (rounds + 1)))))
       go true true a u h v i = ends _
       go true false a u h v i = goes _ _ _ (restarts a)
       go false b a true h v i = ends _
