@@ -1,1 +1,51 @@
-// Powers of two: the least one at or above a number, and the float of one.
+// Powers of two: the least one at or above a number, and the float of one. All is read off patterns, and no double is scaled: "Scaling mu by 2^53 in
+// doubles .. overflows near 2^1000."
+ghost use mathlib.Core.Path.{_≡_};
+ghost use mathlib.Core.Bool.{false};
+ghost use Prim.Native.Nat.{_*_, _<_};
+ghost use lib.Dec.{T};
+ghost use lib.Ieee.{binary64, hid, ones};
+ghost use lib.Ieee.Scale.{finite};
+ghost use Rattle.units.specs.Rounding.{ceil};
+ghost use Rattle.ieee.specs.Units.{magnitude, negative, patternUnits};
+ghost use Rattle.exponent.specs.Power.{powers, powerOf};
+
+// The weight of a pattern's field, which is the leading digit that a pattern does not store.
+const LEADING: u64 = 0x0010_0000_0000_0000;
+
+// The float that is 2^k units, 2^(k - 1074). From 2^2098 units on there is none.
+pub fn power(k: u32) -> f64
+    requires { ⌜ k < powers binary64 ⌝ }
+    ensures { λ r. ⌜ r ≡ powerOf binary64 k ⌝ }
+{
+    if k < 52 {
+        return f64::from_bits(1 << k);
+    }
+    f64::from_bits(((k - 51) as u64) << 52)
+}
+
+// The least whole number e with a pattern's magnitude at most 2^e units. The pattern has no sign, and stands for a number.
+fn exponent(p: u64) -> u32
+    requires { ⌜ p < ones binary64 * hid binary64 ⌝ }
+    ensures { λ r. ⌜ r ≡ ceil (patternUnits binary64 p) ⌝ }
+{
+    if p == 0 {
+        return 0;
+    }
+    if p < LEADING {
+        return 64 - u64::leading_zeros(p - 1);
+    }
+    let field = (p / LEADING) as u32;
+    if p % LEADING == 0 {
+        return field + 51;
+    }
+    field + 52
+}
+
+// Document 01's e for the largest magnitude mu, counted in units: "the least whole number with mu at most 2^e".
+pub fn ceiling(mu: f64) -> u32
+    requires { ⌜ T (finite mu) × (negative mu ≡ false) ⌝ }
+    ensures { λ r. ⌜ r ≡ ceil (magnitude binary64 mu) ⌝ }
+{
+    exponent(f64::to_bits(mu))
+}

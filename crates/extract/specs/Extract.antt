@@ -1,8 +1,9 @@
 -- One area of the faithful walk over lib.Ieee's operations: taking its numbers, adding them up, and the largest magnitude. Definitions only.
 -- Each operation is one rounded operation of the format.
+use mathlib.Core.Bool.{cond}
 use mathlib.Core.List.{List, map, foldl, foldr}
 use Prim.Native.Nat.{ℕ, max}
-use lib.Ieee.{Float, Format, ofBits, add, sub}
+use lib.Ieee.{Float, Format, ofBits, add, sub, neg, lt}
 use Rattle.ieee.specs.Units.{magnitude}
 
 abbrev pub plusZero : Format → Float
@@ -26,5 +27,8 @@ unfoldable pub lastSum : Format → List Float → Float
 lastSum f xs = foldl (add f) (plusZero f) xs
 
 -- ---- "mu is the largest magnitude", in units
+abbrev pub absolute : Format → Float → Float
+absolute f x = cond (lt x (plusZero f)) (neg x) x
+
 unfoldable pub largest : Format → List Float → ℕ
 largest f xs = foldr (λ x m. max (magnitude f x) m) 0 xs

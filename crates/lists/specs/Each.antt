@@ -15,6 +15,10 @@ module _ {A : Type 0} (P : A → Type 0) where
   each-at (x ∷ xs) zero d h l = h .0
   each-at (x ∷ xs) (suc i) d h l = each-at xs i d (h .1) (omega arith)
 
+  pub each-from : (xs : List A) (d : A) → ((i : ℕ) → i < length xs → P (getD xs i d)) → Each P xs
+  each-from [] d h = tt
+  each-from (x ∷ xs) d h = (h 0 (omega arith), each-from xs d (λ i l. h (suc i) (omega arith)))
+
   pub each-join : (xs ys : List A) → Each P xs → Each P ys → Each P (xs ++ ys)
   each-join [] ys h k = k
   each-join (x ∷ xs) ys h k = (h .0, each-join xs ys (h .1) k)
@@ -37,3 +41,7 @@ each-map P Q f h (x ∷ xs) k = (h x (k .0), each-map P Q f h xs (k .1))
 pub each-weaker : {A : Type 0} (P Q : A → Type 0) → ((x : A) → P x → Q x) → (xs : List A) → Each P xs → Each Q xs
 each-weaker P Q h [] k = tt
 each-weaker P Q h (x ∷ xs) k = (h x (k .0), each-weaker P Q h xs (k .1))
+
+pub each-both : {A : Type 0} (P Q R : A → Type 0) → ((x : A) → P x → Q x → R x) → (xs : List A) → Each P xs → Each Q xs → Each R xs
+each-both P Q R h [] k l = tt
+each-both P Q R h (x ∷ xs) k l = (h x (k .0) (l .0), each-both P Q R h xs (k .1) (l .1))

@@ -4,6 +4,7 @@ pub mod Carry
 pub mod Bitset
 pub mod Front
 pub mod Each
+pub mod BitsetLaws
 pub mod LeadingZeros
 pub mod WordShifts
 pub mod DigitLaws

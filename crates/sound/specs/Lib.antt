@@ -1,2 +1,10 @@
 -- Sound states, and the gate of a block step.
 pub mod Sound
+pub mod Places
+pub mod WithinLaws
+pub mod SigmaLaws
+pub mod DoublesLaws
+pub mod PlacesLaws
+pub mod SoundLaws
+pub mod GateLaws
+pub mod PassedLaws

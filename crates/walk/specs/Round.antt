@@ -5,7 +5,7 @@ use mathlib.Core.List.{List, _++_}
 use Prim.Native.Nat.{ℕ, _+_, _-_, _*_}
 use lib.Dec.{eqb}
 use lib.ListN.{take, drop}
-use lib.Ieee.{Float, Format, prec, low, hid, ofBits, add, sub, mul, neg, lt, le, eq}
+use lib.Ieee.{Float, Format, prec, low, hid, ofBits, add, sub, mul, le, eq}
 use Rattle.units.specs.Rounding.{ceil}
 use Rattle.lists.specs.Bitset.{full}
 use Rattle.kinds.specs.Limits.{Width, exponentOf, blocksOf}
@@ -13,7 +13,7 @@ use Rattle.kinds.specs.States.{stateOf}
 use Rattle.kinds.specs.declared.State.{State}
 use Rattle.kinds.specs.declared.Step.{Step}
 use Rattle.kinds.specs.declared.Step.the-variants.{More, Done}
-use Rattle.extract.specs.Extract.{plusZero, remainders, lastSum, largest}
+use Rattle.extract.specs.Extract.{plusZero, remainders, lastSum, absolute, largest}
 use Rattle.exponent.specs.Power.{powerOf}
 
 -- "Block b covers places 64b to 64b+63, cut at n."
@@ -44,12 +44,9 @@ scaled f j sigma = mul f (powerOf f (low f + j - prec f)) sigma
 abbrev pub leastNormal : Format → Float
 leastNormal f = ofBits f (hid f)
 
-abbrev pub absolute : Format → Float → Float
-absolute f x = cond (lt x (plusZero f)) (neg x) x
-
 -- "tau1 = t'; tau2 = tau - (tau1 - t); .. the answer is tau1 + (tau2 + T)"
-unfoldable pub finished : Format → Float → Float → List Float → Float
-finished f t tau xs = let tau1 = add f t tau in add f tau1 (add f (sub f tau (sub f tau1 t)) (lastSum f xs))
+unfoldable pub finished : Format → Float → Float → Float → List Float → Float
+finished f tau1 t tau xs = let tau2 = sub f tau (sub f tau1 t) in add f tau1 (add f tau2 (lastSum f xs))
 
 -- rules 1 to 4 for a state whose last pending block was taken, and its work area
 unfoldable pub closed : Width → State → List Float → Step
@@ -61,5 +58,5 @@ closed W s xs =
     cond (eq t' (plusZero f))
     (cond (allZero f xs) (Done (plusZero f) rounds) (More (roundOf W (s .n) (sigmaOf f (s .n) xs) (plusZero f) rounds)))
     (cond (le (s .sigma) (leastNormal f) || le (scaled f (2 * M + 1) (s .sigma)) (absolute f t'))
-    (Done (finished f (s .t) (s .tau) xs) rounds)
+    (Done (finished f t' (s .t) (s .tau) xs) rounds)
     (More (roundOf W (s .n) (scaled f M (s .sigma)) t' rounds)))

@@ -1,0 +1,97 @@
+-- The gate of a block step: one law for each answer, and what a state and its work area are that pass it. Assumes nothing.
+use mathlib.Core.Path.{_≡_, refl}
+use mathlib.Core.Bool.{Bool, true, false, not, cond}
+use mathlib.Core.List.{List}
+use Prim.Native.Nat.{ℕ, _+_, _-_, _^_, _≤_, _<_}
+use native.Mathlib.Omega.{arith}
+use borrow.Author.Tests.{eq-eqb, ne-eqb, le-leb, lt-leb, eqb-true, leb-false}
+use lib.Dec.{leb, eqb}
+use lib.ListN.{length}
+use lib.Ieee.{Float, Format}
+use Rattle.units.specs.Rounding.{ceil}
+use Rattle.ieee.specs.Units.{Number, negative, magnitude}
+use Rattle.lists.specs.Bitset.{has}
+use Rattle.exponent.specs.Power.{powers, powerOf}
+use Rattle.exponent.specs.PowerLaws.{power-number, power-negative, power-magnitude}
+use Rattle.kinds.specs.Limits.{Width, exponentOf, blocksOf}
+use Rattle.kinds.specs.declared.State.{State}
+use Rattle.kinds.specs.declared.Verdict.the-variants.{Good, Refused}
+use Rattle.sound.specs.Sound.{unitsAt, badPlace, sound, gated}
+use Rattle.sound.specs.Places.{firstAbove}
+use Rattle.sound.specs.PlacesLaws.{places-same}
+use Rattle.sound.specs.SigmaLaws.{Sigma, sigma-holds, sigma-exponent}
+use Rattle.sound.specs.SoundLaws.{Numbers}
+
+-- ---- "On a block step: 4, 8, 6, 7."
+module _ (W : Width) (s : State) (b : ℕ) (xs : List Float) where
+  pub gated-4 : (length xs ≡ s .n → ⊥) → gated W s b xs ≡ Refused 4 0
+  unfolding gated
+  gated-4 h = rw (ne-eqb (length xs) (s .n) h)
+
+  module _ (l : length xs ≡ s .n) where
+    pub gated-8 : sound W s xs ≡ false → gated W s b xs ≡ Refused 8 0
+    unfolding gated
+    gated-8 h = rw (eq-eqb (length xs) (s .n) l, h)
+
+    pub gated-6 : sound W s xs ≡ true → blocksOf W (s .n) ≤ b → gated W s b xs ≡ Refused 6 0
+    unfolding gated
+    gated-6 h k = rw (eq-eqb (length xs) (s .n) l, h, le-leb (blocksOf W (s .n)) b k)
+
+    pub gated-7 : sound W s xs ≡ true → b < blocksOf W (s .n) → has (s .pending) b ≡ false → gated W s b xs ≡ Refused 7 0
+    unfolding gated
+    gated-7 h k p = rw (eq-eqb (length xs) (s .n) l, h, lt-leb (blocksOf W (s .n)) b k, p)
+
+    pub gated-good : sound W s xs ≡ true → b < blocksOf W (s .n) → has (s .pending) b ≡ true → gated W s b xs ≡ Good
+    unfolding gated
+    gated-good h k p = rw (eq-eqb (length xs) (s .n) l, h, lt-leb (blocksOf W (s .n)) b k, p)
+
+  pub record Open : Type 0 where
+    pub long : length xs ≡ s .n
+    pub sound : sound W s xs ≡ true
+    pub inside : b < blocksOf W (s .n)
+    pub pending : has (s .pending) b ≡ true
+
+  pub gated-open : gated W s b xs ≡ Good → Open
+  unfolding gated
+  gated-open h = go (eqb (length xs) (s .n)) (sound W s xs) (leb (blocksOf W (s .n)) b) (has (s .pending) b) refl refl refl refl h
+    where
+      go : (p q r t : Bool) → eqb (length xs) (s .n) ≡ p → sound W s xs ≡ q → leb (blocksOf W (s .n)) b ≡ r → has (s .pending) b ≡ t
+          → cond (not p) (Refused 4 0) (cond (not q) (Refused 8 0) (cond r (Refused 6 0) (cond (not t) (Refused 7 0) Good))) ≡ Good
+          → Open
+      go true true false true P Q R S e = record {
+        long = eqb-true (length xs) (s .n) P;
+        sound = Q;
+        inside = leb-false (blocksOf W (s .n)) b R;
+        pending = S;
+      }
+      go true true false false P Q R S e = let z : _≡_ {A = ℕ} 0 1 = cc in absurd (omega arith)
+      go true true true t P Q R S e = let z : _≡_ {A = ℕ} 0 1 = cc in absurd (omega arith)
+      go true false r t P Q R S e = let z : _≡_ {A = ℕ} 0 1 = cc in absurd (omega arith)
+      go false q r t P Q R S e = let z : _≡_ {A = ℕ} 0 1 = cc in absurd (omega arith)
+
+-- ---- 2^-M sigma as a float. 2^top is the largest magnitude in units
+module _ (W : Width) (top : ℕ) (is : unitsAt W (W .magnitude) ≡ 2 ^ top) (s : State) (N : Numbers W s) (room : exponentOf (s .n) + top < powers (W .format))
+  where
+    abbrev f : Format
+    f = W .format
+
+    abbrev k : ℕ
+    k = ceil (magnitude (W .format) (s .sigma))
+
+    sigma : Sigma W (s .n) (s .sigma)
+    sigma = sigma-holds W (s .n) (s .sigma) (N .sigma)
+
+    exps : (exponentOf (s .n) ≤ k) × (k ≤ exponentOf (s .n) + top)
+    exps = sigma-exponent W top is (s .n) sigma
+
+    limit-room : k - exponentOf (s .n) < powers f
+    limit-room = omega (arith, exps, room)
+
+    pub limit-number : Number f (powerOf f (k - exponentOf (s .n)))
+    limit-number = power-number f limit-room
+
+    pub limit-negative : negative (powerOf f (k - exponentOf (s .n))) ≡ false
+    limit-negative = power-negative f limit-room
+
+    pub limit-places : (xs : List Float) → firstAbove W (magnitude f (powerOf f (k - exponentOf (s .n)))) xs ≡ badPlace W s xs
+    limit-places xs = rw (power-magnitude f limit-room) (places-same W s (sigma .power) (exps .0) xs)

@@ -1,0 +1,70 @@
+-- The first number above a limit: what a loop over the places passes and ends with; and that for the limit 2^-M sigma it is the first place of a state that is
+-- not sound. Assumes nothing.
+use mathlib.Core.Path.{_≡_, refl, _∙_}
+use mathlib.Core.Bool.{true, false, _&&_, cond}
+use mathlib.Core.List.{List, [], _∷_}
+use Prim.Native.Nat.{ℕ, suc, _+_, _-_, _*_, _^_, _≤_, _<_}
+use native.Mathlib.Nat.{mul-le-mul-left, le-of-mul-le-mul-left}
+use native.Mathlib.Numerals.{add-one}
+use native.Mathlib.Omega.{arith}
+use lib.Dec.{leb, leb→le, le→leb}
+use lib.ListN.{length, getD, drop, drop-of-length-le}
+use lib.Pow.{pow-pos}
+use lib.Seq.{drop-cons}
+use lib.Ieee.{Float}
+use lib.Ieee.Scale.{finite}
+use Rattle.units.specs.Powers.{pow-split}
+use Rattle.ieee.specs.Units.{magnitude}
+use Rattle.ieee.specs.Fractions.{same-test}
+use Rattle.kinds.specs.Limits.{Width, exponentOf}
+use Rattle.kinds.specs.declared.State.{State}
+use Rattle.sound.specs.Sound.{atMost, badPlace}
+use Rattle.sound.specs.Places.{firstAbove}
+
+-- ---- the places before i are passed
+pub record Passing (W : Width) (most : ℕ) (xs : List Float) (i : ℕ) : Type 0 where
+  pub within : i ≤ length xs
+  pub rest : firstAbove W most xs ≡ firstAbove W most (drop i xs) + i
+
+module _ {W : Width} {most : ℕ} {xs : List Float} where
+  pub passing-none : Passing W most xs 0
+  passing-none = record { within = omega arith; rest = omega arith }
+
+  module _ {i : ℕ} (P : Passing W most xs i) (d : Float) (l : i < length xs) where
+    unrolled : firstAbove W most (drop i xs) ≡ cond (atMost W most (getD xs i d)) (firstAbove W most (drop (suc i) xs) + 1) 0
+    unfolding firstAbove
+    unrolled = rw (drop-cons xs i d l)
+
+    pub passing-next : atMost W most (getD xs i d) ≡ true → Passing W most xs (i + 1)
+    passing-next e = record { within = omega arith; rest = rw add-one (omega (arith, P .rest, rw e at unrolled)) }
+
+    pub passing-found : atMost W most (getD xs i d) ≡ false → i ≡ firstAbove W most xs
+    passing-found e = omega (arith, P .rest, rw e at unrolled)
+
+  pub passing-end : {i : ℕ} → Passing W most xs i → length xs ≤ i → i ≡ firstAbove W most xs
+  unfolding firstAbove
+  passing-end {i} P h =
+      let e : firstAbove W most (drop i xs) ≡ 0 = rw (drop-of-length-le xs {i = i} h) in
+      omega (arith, P .rest)
+
+-- ---- 2^-M sigma
+module _ (W : Width) (s : State) {k : ℕ} (sigma : magnitude (W .format) (s .sigma) ≡ 2 ^ k) (low : exponentOf (s .n) ≤ k) where
+  scaled : (a : ℕ) → leb a (2 ^ (k - exponentOf (s .n))) ≡ leb (2 ^ exponentOf (s .n) * a) (magnitude (W .format) (s .sigma))
+  scaled a =
+      same-test (leb a Q) (leb (P * a) (magnitude (W .format) (s .sigma)))
+      (λ t. le→leb (P * a) (magnitude (W .format) (s .sigma)) (rw whole (mul-le-mul-left P (leb→le a Q t))))
+      (λ t. le→leb a Q (le-of-mul-le-mul-left (rw whole at (leb→le (P * a) (magnitude (W .format) (s .sigma)) t)) (pow-pos (exponentOf (s .n)))))
+    where
+      P : ℕ
+      P = 2 ^ exponentOf (s .n)
+
+      Q : ℕ
+      Q = 2 ^ (k - exponentOf (s .n))
+
+      whole : magnitude (W .format) (s .sigma) ≡ P * Q
+      whole = sigma ∙ omega (arith, pow-split low)
+
+  pub places-same : (xs : List Float) → firstAbove W (2 ^ (k - exponentOf (s .n))) xs ≡ badPlace W s xs
+  unfolding firstAbove badPlace atMost
+  places-same [] = refl
+  places-same (x ∷ xs) = λ i. cond (finite x && scaled (magnitude (W .format) x) i) (places-same xs i + 1) 0

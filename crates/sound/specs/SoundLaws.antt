@@ -1,0 +1,116 @@
+-- A sound state: each of its tests, and what they give. The pending set's test is one comparison with the full set. Assumes nothing.
+use mathlib.Core.Path.{_≡_, ap}
+use mathlib.Core.Bool.{Bool, true, false, _&&_, and-false}
+use mathlib.Core.List.{List}
+use Prim.Native.Nat.{ℕ, _-_, _^_, _≤_, _<_}
+use native.Mathlib.Omega.{arith}
+use borrow.Author.Tests.{leb-true, ltb-true, eqb-true, le-leb, lt-leb}
+use lib.Dec.{T, leb, ltb, eqb, leb→le, le→leb, ltb→lt, lt→ltb}
+use lib.ListN.{length}
+use lib.Pow.{pow-pos}
+use lib.Ieee.{Float}
+use lib.Ieee.Scale.{finite}
+use Rattle.ieee.specs.Units.{magnitude}
+use Rattle.ieee.specs.Fractions.{same-test}
+use Rattle.lists.specs.Bitset.{full}
+use Rattle.kinds.specs.Limits.{Width, blocksOf}
+use Rattle.kinds.specs.declared.State.{State}
+use Rattle.sound.specs.Sound.{unitsAt, soundSigma, atMost, soundNumbers, soundPending, badPlace, sound}
+use Rattle.sound.specs.SigmaLaws.{split}
+
+-- finite, of magnitude at most so many units
+pub record Within (W : Width) (most : ℕ) (x : Float) : Type 0 where
+  pub fini : T (finite x)
+  pub small : magnitude (W .format) x ≤ most
+
+pub at-most-holds : (W : Width) (most : ℕ) (x : Float) → atMost W most x ≡ true → Within W most x
+unfolding atMost
+at-most-holds W most x h =
+    let a = split (finite x) (leb (magnitude (W .format) x) most) h in
+    record { fini = rw (a .0) tt; small = leb-true (magnitude (W .format) x) most (a .1) }
+
+-- ---- the numbers
+pub record Numbers (W : Width) (s : State) : Type 0 where
+  pub some : 1 ≤ s .n
+  pub few : s .n ≤ W .length
+  pub rounds : s .rounds ≤ W .rounds
+  pub sigma : soundSigma W (s .n) (s .sigma) ≡ true
+  pub t : Within W (unitsAt W (W .carried)) (s .t)
+  pub tau : Within W (unitsAt W (W .carried)) (s .tau)
+
+module _ (W : Width) (s : State) where
+  pub numbers-none : s .n < 1 → soundNumbers W s ≡ false
+  unfolding soundNumbers
+  numbers-none h = rw (lt-leb 1 (s .n) h)
+
+  pub numbers-many : W .length < s .n → soundNumbers W s ≡ false
+  unfolding soundNumbers
+  numbers-many h = rw (lt-leb (s .n) (W .length) h, and-false (leb 1 (s .n)))
+
+  pub numbers-are : 1 ≤ s .n → s .n ≤ W .length
+      → soundNumbers W s
+      ≡ (leb (s .rounds) (W .rounds) && soundSigma W (s .n) (s .sigma)
+      && atMost W (unitsAt W (W .carried)) (s .t)
+      && atMost W (unitsAt W (W .carried)) (s .tau))
+  unfolding soundNumbers
+  numbers-are h k = rw (le-leb 1 (s .n) h, le-leb (s .n) (W .length) k)
+
+  pub numbers-hold : soundNumbers W s ≡ true → Numbers W s
+  unfolding soundNumbers
+  numbers-hold h =
+      let A = leb 1 (s .n) in
+      let B = leb (s .n) (W .length) in
+      let C = leb (s .rounds) (W .rounds) in
+      let D = soundSigma W (s .n) (s .sigma) in
+      let E = atMost W (unitsAt W (W .carried)) (s .t) in
+      let F = atMost W (unitsAt W (W .carried)) (s .tau) in
+      let f = split (A && B && C && D && E) F h in
+      let e = split (A && B && C && D) E (f .0) in
+      let d = split (A && B && C) D (e .0) in
+      let c = split (A && B) C (d .0) in
+      let b = split A B (c .0) in
+      record {
+        some = leb-true 1 (s .n) (b .0);
+        few = leb-true (s .n) (W .length) (b .1);
+        rounds = leb-true (s .rounds) (W .rounds) (c .1);
+        sigma = d .1;
+        t = at-most-holds W (unitsAt W (W .carried)) (s .t) (e .1);
+        tau = at-most-holds W (unitsAt W (W .carried)) (s .tau) (f .1);
+      }
+
+  -- ---- the pending set
+  pub pending-is : (ltb 0 (s .pending) && leb (s .pending) (full (blocksOf W (s .n)))) ≡ soundPending W s
+  unfolding soundPending
+  pending-is = ap (λ (b : Bool). ltb 0 (s .pending) && b) (last (s .pending) (2 ^ blocksOf W (s .n)) (pow-pos (blocksOf W (s .n))))
+    where
+      last : (p q : ℕ) → 0 < q → leb p (q - 1) ≡ ltb p q
+      last p q h = same-test (leb p (q - 1)) (ltb p q)
+          (λ t. lt→ltb p q (let l : p ≤ q - 1 = leb→le p (q - 1) t in omega arith))
+          (λ t. le→leb p (q - 1) (let l : p < q = ltb→lt p q t in omega arith))
+
+  pub pending-holds : soundPending W s ≡ true → (0 < s .pending) × (s .pending < 2 ^ blocksOf W (s .n))
+  unfolding soundPending
+  pending-holds h =
+      let a = split (ltb 0 (s .pending)) (ltb (s .pending) (2 ^ blocksOf W (s .n))) h in
+      (ltb-true 0 (s .pending) (a .0), ltb-true (s .pending) (2 ^ blocksOf W (s .n)) (a .1))
+
+  -- ---- all three
+  module _ (xs : List Float) where
+    pub sound-numbers : soundNumbers W s ≡ false → sound W s xs ≡ false
+    unfolding sound
+    sound-numbers h = rw h
+
+    pub sound-pending : soundPending W s ≡ false → sound W s xs ≡ false
+    unfolding sound
+    sound-pending h = rw (h, and-false (soundNumbers W s))
+
+    pub sound-places : soundNumbers W s ≡ true → soundPending W s ≡ true → sound W s xs ≡ eqb (badPlace W s xs) (length xs)
+    unfolding sound
+    sound-places h k = rw (h, k)
+
+    pub sound-holds : sound W s xs ≡ true → Numbers W s × (soundPending W s ≡ true) × (badPlace W s xs ≡ length xs)
+    unfolding sound
+    sound-holds h =
+        let b = split (soundNumbers W s && soundPending W s) (eqb (badPlace W s xs) (length xs)) h in
+        let a = split (soundNumbers W s) (soundPending W s) (b .0) in
+        (numbers-hold (a .0), a .1, eqb-true (badPlace W s xs) (length xs) (b .1))

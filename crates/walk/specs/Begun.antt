@@ -1,0 +1,92 @@
+-- A round of a run as it opens, what taking some of its numbers in rising order leaves, and that each state on the way is sound. Assumes nothing.
+use mathlib.Core.Path.{_≡_, _∙_}
+use mathlib.Core.List.{List, _++_}
+use Prim.Native.Nat.{ℕ, suc, _+_, _-_, _*_, _^_, _≤_, _<_}
+use native.Mathlib.Nat.{mul-le-mul-left, mul-le-mul-right, lt-of-mul-lt-mul-right}
+use native.Mathlib.Omega.{arith}
+use lib.ListN.{length, take, drop, length-take}
+use lib.Seq.{length-front, take-all}
+use lib.Pow.{pow-add, pow-mono}
+use lib.Ieee.{Float, prec, top}
+use Rattle.units.specs.Ceiling.{ceil-ge}
+use Rattle.units.specs.Turns.{tau-zero}
+use Rattle.ieee.specs.Units.{whole}
+use Rattle.ieee.specs.Sum.{whole-mag}
+use Rattle.lists.specs.Each.{Each, each-join, each-take, each-drop}
+use Rattle.kinds.specs.Limits.{Width, exponentOf, blocksOf}
+use Rattle.kinds.specs.States.{stateOf}
+use Rattle.extract.specs.Extract.{plusZero, remainders, gathered}
+use Rattle.extract.specs.ExtractLaws.{remainders-length}
+use Rattle.extract.specs.LargestLaws.{zero-positive}
+use Rattle.walk.specs.Fitting.{Fitting}
+use Rattle.walk.specs.InUnits.{Small, Scale, Tau, remainders-small, gathers}
+use Rattle.walk.specs.Stepping.{Stepping}
+
+-- as a round opens: sigma is 2^(M + e) units, the work numbers are at most 2^e, and each round closed has lowered e by prec - M or more
+pub record Begun (W : Width) (F : Fitting W) (e n : ℕ) (sigma t : Float) (rounds : ℕ) (xs : List Float) : Type 0 where
+  pub some : 1 ≤ n
+  pub few : n ≤ W .length
+  pub count : length xs ≡ n
+  pub lowered : rounds * (prec (W .format) - exponentOf n) + e ≤ F .top
+  pub scale : Scale (W .format) (exponentOf n) e sigma
+  pub kept : Small (W .format) (2 ^ F .bound) t
+  pub work : Each (Small (W .format) (2 ^ e)) xs
+
+module _ {W : Width} {F : Fitting W} {e n : ℕ} {sigma t : Float} {rounds : ℕ} {xs : List Float} (B : Begun W F e n sigma t rounds xs) where
+  -- the rounds closed are fewer than the width allows
+  pub begun-rounds : rounds ≤ W .rounds
+  begun-rounds =
+      let p = prec (W .format) in
+      let apart : p - F .most ≤ p - exponentOf n = omega (arith, F .most-is n (B .few)) in
+      let h : rounds * (p - exponentOf n) < suc (W .rounds) * (p - exponentOf n) =
+      omega (arith, B .lowered, F .enough, mul-le-mul-left (suc (W .rounds)) apart) in
+      let l : rounds < suc (W .rounds) = lt-of-mul-lt-mul-right (p - exponentOf n) h in omega arith
+
+  first-tau : Tau (B .scale) 0 (plusZero (W .format))
+  unfolding whole
+  first-tau = record {
+    number = zero-positive (W .format) .number;
+    units = rw (zero-positive (W .format) .sign, zero-positive (W .format) .units) (tau-zero (prec (W .format)) (exponentOf n) e);
+  }
+
+  fewer : (k : ℕ) → length (take k xs) ≤ 2 ^ exponentOf n
+  fewer k = omega (arith, length-take k xs, B .count, ceil-ge (n + 2))
+
+  -- tau after the first k numbers
+  pub tau-taken : (k : ℕ) → Tau (B .scale) (length (take k xs)) (gathered (W .format) sigma (plusZero (W .format)) (take k xs))
+  tau-taken k =
+      let z : 0 + length (take k xs) ≡ length (take k xs) = omega arith in
+      rw z at (gathers (B .scale) (take k xs) first-tau (each-take (Small (W .format) (2 ^ e)) k xs (B .work)) (omega (arith, fewer k)) .0)
+
+  tau-small : (k : ℕ) → Small (W .format) (2 ^ F .bound) (gathered (W .format) sigma (plusZero (W .format)) (take k xs))
+  tau-small k =
+      let f = W .format in
+      let M = exponentOf n in
+      let tau = gathered f sigma (plusZero f) (take k xs) in
+      let most : 2 ^ (M + e) ≤ 2 ^ F .bound = pow-mono (omega (arith, F .most-is n (B .few), B .lowered, F .tau-room)) in
+      record {
+        number = tau-taken k .number;
+        within = omega (arith, tau-taken k .units .small, whole-mag f tau, mul-le-mul-right (2 ^ e) (fewer k), pow-add 2 M e, most);
+      }
+
+  pub tau-all : Small (W .format) (2 ^ F .bound) (gathered (W .format) sigma (plusZero (W .format)) xs)
+  tau-all = rw (take-all n xs (omega (arith, B .count))) at (tau-small n)
+
+  -- the state and the work area after the first k numbers, whatever blocks are pending
+  pub stepping : (k P : ℕ) → 0 < P → P < 2 ^ blocksOf W n
+      → Stepping W F e (stateOf n sigma t (gathered (W .format) sigma (plusZero (W .format)) (take k xs)) P rounds)
+      (remainders (W .format) sigma (take k xs) ++ drop k xs)
+  stepping k P l h = record {
+    some = B .some;
+    few = B .few;
+    count = length-front xs (remainders (W .format) sigma (take k xs)) k (remainders-length (W .format) sigma (take k xs)) ∙ B .count;
+    rounds = begun-rounds;
+    low = omega (arith, B .lowered);
+    scale = B .scale;
+    t = B .kept;
+    tau = tau-small k;
+    work = each-join (Small (W .format) (2 ^ e)) (remainders (W .format) sigma (take k xs)) (drop k xs)
+        (remainders-small (B .scale) (take k xs) (each-take (Small (W .format) (2 ^ e)) k xs (B .work))) (each-drop (Small (W .format) (2 ^ e)) k xs (B .work));
+    left = l;
+    inside = h;
+  }

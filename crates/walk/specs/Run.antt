@@ -1,0 +1,142 @@
+-- The undivided run: one round of it at a time, that a walk which has ended stays as it is, and that it ends within the rounds that a sound state may have
+-- closed and one more. Assumes nothing.
+use mathlib.Core.Path.{_≡_, refl, sym, ap, _∙_, subst}
+use mathlib.Core.List.{List, [], _∷_, foldl}
+use Prim.Native.Nat.{ℕ, zero, suc, _+_, _≤_}
+use native.Mathlib.Omega.{arith}
+use lib.Ieee.{Float}
+use Rattle.kinds.specs.Limits.{Width, blocksOf}
+use Rattle.kinds.specs.States.{stateOf}
+use Rattle.kinds.specs.declared.State.{State}
+use Rattle.kinds.specs.declared.Step.{Step}
+use Rattle.kinds.specs.declared.Step.the-variants.{More, Done, Refused}
+use Rattle.extract.specs.Extract.{plusZero, remainders, gathered}
+use Rattle.walk.specs.Round.{roundOf, closed}
+use Rattle.walk.specs.Walk.{Walked, walked, onward, rising, roundsFrom}
+use Rattle.walk.specs.Fitting.{Fitting}
+use Rattle.walk.specs.Begun.{Begun, begun-rounds}
+use Rattle.walk.specs.Rising.{round-closes}
+use Rattle.walk.specs.Closes.{Next, ends, goes, falls}
+
+module _ (W : Width) (blocks : ℕ) where
+  still : (x : Float) (r : ℕ) (ys : List Float) (bs : List ℕ) → foldl (onward W) (walked (Done x r) ys) bs ≡ walked (Done x r) ys
+  still x r ys [] = refl
+  still x r ys (b ∷ bs) = still x r ys bs
+
+  pub run-done : (k : ℕ) (x : Float) (r : ℕ) (ys : List Float) → roundsFrom W blocks k (walked (Done x r) ys) ≡ walked (Done x r) ys
+  unfolding roundsFrom
+  run-done zero x r ys = refl
+  run-done (suc k) x r ys = ap (roundsFrom W blocks k) (still x r ys (rising blocks)) ∙ run-done k x r ys
+
+  still-refused : (k p : ℕ) (ys : List Float) (bs : List ℕ) → foldl (onward W) (walked (Refused k p) ys) bs ≡ walked (Refused k p) ys
+  still-refused k p ys [] = refl
+  still-refused k p ys (b ∷ bs) = still-refused k p ys bs
+
+  pub run-refused : (m k p : ℕ) (ys : List Float) → roundsFrom W blocks m (walked (Refused k p) ys) ≡ walked (Refused k p) ys
+  unfolding roundsFrom
+  run-refused zero k p ys = refl
+  run-refused (suc m) k p ys = ap (roundsFrom W blocks m) (still-refused k p ys (rising blocks)) ∙ run-refused m k p ys
+
+-- ---- a state that opens a round of a run
+pub record Running (W : Width) (F : Fitting W) (n : ℕ) (s : State) (xs : List Float) : Type 0 where
+  pub e : ℕ
+  pub state : s ≡ roundOf W n (s .sigma) (s .t) (s .rounds)
+  pub begun : Begun W F e n (s .sigma) (s .t) (s .rounds) xs
+
+-- it and its work area as its round closes, all numbers taken
+abbrev pub allTaken : Width → State → List Float → State
+allTaken W s xs = stateOf (s .n) (s .sigma) (s .t) (gathered (W .format) (s .sigma) (s .tau) xs) 0 (s .rounds)
+
+abbrev pub allLeft : Width → State → List Float → List Float
+allLeft W s xs = remainders (W .format) (s .sigma) xs
+
+module _ {W : Width} {F : Fitting W} {n : ℕ} {s : State} {xs : List Float} (R : Running W F n s xs) where
+  same-n : n ≡ s .n
+  unfolding roundOf
+  same-n = sym (ap (λ (q : State). q .n) (R .state))
+
+  all-taken : stateOf n (s .sigma) (s .t) (gathered (W .format) (s .sigma) (plusZero (W .format)) xs) 0 (s .rounds) ≡ allTaken W s xs
+  unfolding roundOf
+  all-taken =
+      let tau : plusZero (W .format) ≡ s .tau = sym (ap (λ (q : State). q .tau) (R .state)) in
+      λ i. stateOf (same-n i) (s .sigma) (s .t) (gathered (W .format) (s .sigma) (tau i) xs) 0 (s .rounds)
+
+  -- a round of it, and what may follow
+  run-round : (k : ℕ) → roundsFrom W (blocksOf W n) (suc k) (walked (More s) xs)
+      ≡ roundsFrom W (blocksOf W n) k (walked (closed W (allTaken W s xs) (allLeft W s xs)) (allLeft W s xs))
+  unfolding roundsFrom
+  run-round k = ap (roundsFrom W (blocksOf W n) k)
+      ((λ i. foldl (onward W) (walked (More (R .state i)) xs) (rising (blocksOf W n)))
+      ∙ round-closes (R .begun)
+      ∙ ap (λ (q : State). walked (closed W q (allLeft W s xs)) (allLeft W s xs)) all-taken)
+
+  follows : Next W F n (s .rounds) (allLeft W s xs) (closed W (allTaken W s xs) (allLeft W s xs))
+  follows = rw all-taken at (falls (R .begun))
+
+  pub run-ends : (k : ℕ) (x : Float) (r : ℕ) → closed W (allTaken W s xs) (allLeft W s xs) ≡ Done x r
+      → walked (Done x r) (allLeft W s xs) ≡ roundsFrom W (blocksOf W n) (suc k) (walked (More s) xs)
+  run-ends k x r e = sym (run-round k ∙ ap (λ (q : Step). roundsFrom W (blocksOf W n) k (walked q (allLeft W s xs))) e ∙ run-done W (blocksOf W n) k x r (allLeft W s xs))
+
+  pub run-goes : (k : ℕ) (s' : State) → closed W (allTaken W s xs) (allLeft W s xs) ≡ More s'
+      → roundsFrom W (blocksOf W n) (suc k) (walked (More s) xs) ≡ roundsFrom W (blocksOf W n) k (walked (More s') (allLeft W s xs))
+  run-goes k s' e = run-round k ∙ ap (λ (q : Step). roundsFrom W (blocksOf W n) k (walked q (allLeft W s xs))) e
+
+  pub run-running : (s' : State) → closed W (allTaken W s xs) (allLeft W s xs) ≡ More s' → Running W F n s' (allLeft W s xs) × (s' .rounds ≡ s .rounds + 1)
+  unfolding roundOf
+  run-running s' e = go follows e
+    where
+      go : {q : Step} → Next W F n (s .rounds) (allLeft W s xs) q → q ≡ More s' → Running W F n s' (allLeft W s xs) × (s' .rounds ≡ s .rounds + 1)
+      go (ends x) h = let z : _≡_ {A = ℕ} 0 1 = cc in absurd (omega arith)
+      go (goes e sigma t B) h =
+          let z : roundOf W n sigma t (s .rounds + 1) ≡ s' = cc in
+          let q : State = roundOf W n sigma t (s .rounds + 1) in
+          let r : Running W F n q (allLeft W s xs) = record { e = e; state = refl; begun = B } in
+          subst (λ (q : State). Running W F n q (allLeft W s xs) × (q .rounds ≡ s .rounds + 1)) z (r, refl)
+
+  -- "the round closes and counts"
+  run-counted : (x : Float) (r : ℕ) → closed W (allTaken W s xs) (allLeft W s xs) ≡ Done x r → r ≡ s .rounds + 1
+  run-counted x r e = go follows e
+    where
+      go : {q : Step} → Next W F n (s .rounds) (allLeft W s xs) q → q ≡ Done x r → r ≡ s .rounds + 1
+      go (ends y) h = cc
+      go (goes e sigma t B) h = let z : _≡_ {A = ℕ} 0 1 = cc in absurd (omega arith)
+
+  pub run-accepted : (k p : ℕ) → closed W (allTaken W s xs) (allLeft W s xs) ≡ Refused k p → ⊥
+  run-accepted k p e = go follows e
+    where
+      go : {q : Step} → Next W F n (s .rounds) (allLeft W s xs) q → q ≡ Refused k p → ⊥
+      go (ends x) h = let z : _≡_ {A = ℕ} 0 1 = cc in omega arith
+      go (goes e sigma t B) h = let z : _≡_ {A = ℕ} 0 1 = cc in omega arith
+
+-- ---- the walk ends: after k more rounds than this one it has closed as many as a sound state may have
+pub record Ended (W : Width) (w : Walked) : Type 0 where
+  pub sum : Float
+  pub rounds : ℕ
+  pub answer : w .answer ≡ Done sum rounds
+  pub most : rounds ≤ suc (W .rounds)
+
+module _ {W : Width} {F : Fitting W} {n : ℕ} where
+  finished : {s : State} {xs : List Float} (k : ℕ) (x : Float) (r : ℕ) → Running W F n s xs → closed W (allTaken W s xs) (allLeft W s xs) ≡ Done x r
+      → Ended W (roundsFrom W (blocksOf W n) (suc k) (walked (More s) xs))
+  finished {s} {xs} k x r R e = record {
+    sum = x;
+    rounds = r;
+    answer = sym (ap (λ (w : Walked). w .answer) (run-ends R k x r e));
+    most = omega (arith, run-counted R x r e, begun-rounds (R .begun));
+  }
+
+  -- what a close leaves to be shown: that a walk which goes on ends
+  closing : {s : State} {xs : List Float} (k : ℕ) (R : Running W F n s xs)
+      → ((s' : State) → closed W (allTaken W s xs) (allLeft W s xs) ≡ More s' → Ended W (roundsFrom W (blocksOf W n) k (walked (More s') (allLeft W s xs))))
+      → Ended W (roundsFrom W (blocksOf W n) (suc k) (walked (More s) xs))
+  closing {s} {xs} k R h = go (closed W (allTaken W s xs) (allLeft W s xs)) refl
+    where
+      go : (q : Step) → closed W (allTaken W s xs) (allLeft W s xs) ≡ q → Ended W (roundsFrom W (blocksOf W n) (suc k) (walked (More s) xs))
+      go (Done x r) e = finished k x r R e
+      go (Refused j p) e = absurd (run-accepted R j p e)
+      go (More s') e = rw (run-goes R k s' e) (h s' e)
+
+  pub run-finishes : {s : State} {xs : List Float} (k : ℕ) → Running W F n s xs → s .rounds + k ≡ W .rounds
+      → Ended W (roundsFrom W (blocksOf W n) (suc k) (walked (More s) xs))
+  run-finishes zero R h = closing 0 R (λ s' e. let N = run-running R s' e in absurd (omega (arith, N .1, begun-rounds (N .0 .begun))))
+  run-finishes (suc k) R h = closing (suc k) R (λ s' e. let N = run-running R s' e in run-finishes k (N .0) (omega (arith, N .1)))

@@ -1,0 +1,93 @@
+-- A state of a run, with its work area, is sound: what holds of it, and that the gate lets each pending block pass. Assumes nothing.
+use mathlib.Core.Path.{_≡_, refl}
+use mathlib.Core.Bool.{true}
+use mathlib.Core.List.{List, [], _∷_}
+use Prim.Native.Nat.{ℕ, _+_, _*_, _^_, _≤_, _<_}
+use native.Mathlib.Nat.{mul-le-mul-left}
+use native.Mathlib.Numerals.{add-one}
+use native.Mathlib.Omega.{arith}
+use borrow.Author.Tests.{eq-eqb, le-leb, lt-ltb, lt-leb}
+use lib.ListN.{length}
+use lib.Pow.{pow-add, pow-mono}
+use lib.Ieee.{Float}
+use lib.Ieee.Bits.{is-true}
+use lib.Ieee.Scale.{finite}
+use Rattle.units.specs.Ceiling.{ceil-power}
+use Rattle.ieee.specs.Units.{magnitude}
+use Rattle.lists.specs.Bitset.{has}
+use Rattle.lists.specs.Each.{Each}
+use Rattle.kinds.specs.Limits.{Width, exponentOf, blocksOf}
+use Rattle.kinds.specs.declared.State.{State}
+use Rattle.kinds.specs.declared.Verdict.the-variants.{Good}
+use Rattle.sound.specs.Sound.{unitsAt, soundSigma, atMost, soundNumbers, soundPending, badPlace, sound, gated}
+use Rattle.walk.specs.Fitting.{Fitting}
+use Rattle.walk.specs.InUnits.{Small, Scale}
+
+-- what holds of a state of a run and its work area: sigma is 2^(M + e) units, and the work numbers are at most 2^e
+pub record Stepping (W : Width) (F : Fitting W) (e : ℕ) (s : State) (xs : List Float) : Type 0 where
+  pub some : 1 ≤ s .n
+  pub few : s .n ≤ W .length
+  pub count : length xs ≡ s .n
+  pub rounds : s .rounds ≤ W .rounds
+  pub low : e ≤ F .top
+  pub scale : Scale (W .format) (exponentOf (s .n)) e (s .sigma)
+  pub t : Small (W .format) (2 ^ F .bound) (s .t)
+  pub tau : Small (W .format) (2 ^ F .bound) (s .tau)
+  pub work : Each (Small (W .format) (2 ^ e)) xs
+  pub left : 0 < s .pending
+  pub inside : s .pending < 2 ^ blocksOf W (s .n)
+
+module _ {W : Width} {F : Fitting W} {e : ℕ} {s : State} {xs : List Float} (I : Stepping W F e s xs) where
+  sigma-sound : soundSigma W (s .n) (s .sigma) ≡ true
+  unfolding soundSigma
+  sigma-sound =
+      simp (
+        is-true (finite (s .sigma)) (I .scale .power .number .fini),
+        I .scale .power .sign,
+        I .scale .power .units,
+        ceil-power (exponentOf (s .n) + e),
+        eq-eqb (2 ^ (exponentOf (s .n) + e)) _ refl,
+        le-leb (2 ^ exponentOf (s .n)) (2 ^ (exponentOf (s .n) + e)) (pow-mono (omega arith)),
+        F .top-is,
+        le-leb (2 ^ (exponentOf (s .n) + e)) (2 ^ exponentOf (s .n) * 2 ^ F .top) most,
+      )
+    where
+      most : 2 ^ (exponentOf (s .n) + e) ≤ 2 ^ exponentOf (s .n) * 2 ^ F .top
+      most = rw (pow-add 2 (exponentOf (s .n)) e) (mul-le-mul-left (2 ^ exponentOf (s .n)) (pow-mono (I .low)))
+
+  small-sound : (x : Float) → Small (W .format) (2 ^ F .bound) x → atMost W (unitsAt W (W .carried)) x ≡ true
+  unfolding atMost
+  small-sound x X = simp (is-true (finite x) (X .number .fini), F .bound-is, le-leb _ _ (X .within))
+
+  numbers-sound : soundNumbers W s ≡ true
+  unfolding soundNumbers
+  numbers-sound =
+      simp (
+        le-leb _ _ (I .some),
+        le-leb _ _ (I .few),
+        le-leb _ _ (I .rounds),
+        sigma-sound,
+        small-sound (s .t) (I .t),
+        small-sound (s .tau) (I .tau),
+      )
+
+  pending-sound : soundPending W s ≡ true
+  unfolding soundPending
+  pending-sound = simp (lt-ltb _ _ (I .left), lt-ltb _ _ (I .inside))
+
+  places-sound : (ys : List Float) → Each (Small (W .format) (2 ^ e)) ys → badPlace W s ys ≡ length ys
+  unfolding badPlace
+  places-sound [] h = refl
+  places-sound (y ∷ ys) h =
+      simp (is-true (finite y) (h .0 .number .fini), I .scale .power .units, le-leb _ _ below, places-sound ys (h .1)) (add-one (length ys))
+    where
+      below : 2 ^ exponentOf (s .n) * magnitude (W .format) y ≤ 2 ^ (exponentOf (s .n) + e)
+      below = rw (pow-add 2 (exponentOf (s .n)) e) (mul-le-mul-left (2 ^ exponentOf (s .n)) (h .0 .within))
+
+  pub stepping-sound : sound W s xs ≡ true
+  unfolding sound
+  stepping-sound = simp (numbers-sound, pending-sound, eq-eqb _ _ (places-sound xs (I .work)))
+
+  pub stepping-accepted : (b : ℕ) → b < blocksOf W (s .n) → has (s .pending) b ≡ true → gated W s b xs ≡ Good
+  unfolding gated
+  stepping-accepted b h p = simp (eq-eqb _ _ (I .count), stepping-sound, lt-leb _ _ h, p)
