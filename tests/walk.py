@@ -379,6 +379,8 @@ def check_witnesses(chance):
         ([SIGN, ONE, SIGN], ONE, 1, [SIGN, 0, SIGN]),  # a remainder of -0 stays
         ([1 << 50, SIGN | (1 << 50) - 1], 1, 1, [0, 0]),  # sigma is 2^-1022 and t' one unit: finished
         ([1 << 51, SIGN | (1 << 51) - 1], 1, 2, [0, 0]),  # sigma is 2^-1021 and t' one unit: another round
+        ([ONE, SIGN | ONE - 128], bits(2.0**-46), 1, [0, 0]),  # t' is just 2^(2M+1) eps sigma: finished
+        ([ONE, SIGN | ONE - 124], bits(2.0**-46 - 2.0**-51), 2, [0, 0]),  # less: another round
     ], 1):
         expect("case", answer_of(patterns) == (("done", pattern, rounds), area), k)
         check_list(patterns, chance)
