@@ -10,6 +10,9 @@ import itertools
 import os
 import sys
 
+sys.dont_write_bytecode = True
+import walk  # noqa: E402
+
 # ---- document 01: numbers and limits. A number is its whole units of 2^-1074.
 LENGTH, MAGNITUDE, PARTS, WORDS = 4094, 0x7E70000000000000, 8, 33
 SIGN, INFINITY, ONE, UNIT = 1 << 63, 0x7FF << 52, 0x3FF << 52, 1
@@ -361,8 +364,190 @@ def last_lines():
         yield f"length {length}" + line + words_told(register)
 
 
+# ---- the faithful walks, by tests/walk.py
+NAN = 0x7FF8000000000000  # what each NaN is shown as
+
+
+def zeros(n, r):
+    """Zeros of both signs."""
+    return filled(n, 3, r)
+
+
+def ladder(n, places, distance):
+    """Pairs of powers of two that cancel, from 2^1000 down, each `distance` times halved from the last; then one unit, and zeros."""
+    numbers = zeros(n, distance)
+    numbers[:places] = [nearest(1 << 2074 - i // 2 * distance) | i % 2 << 63 for i in range(places)]
+    numbers[places] = UNIT
+    return numbers
+
+
+def two_blocks(n):
+    """1, 2^-53, zeros and 64 times 2^-107."""
+    return [ONE, 0x3CA << 52] + zeros(n, 1)[2:64] + [0x394 << 52] * (n - 64)
+
+
+def walked_lists():
+    """The lists above, and those on which the walk takes its longest ways or where a mistake in it shows."""
+    yield from lists()
+    r = [seed(6, k) for k in range(16)]
+    yield filled(63, 0, r[0])
+    yield filled(128, 5, r[1])
+    yield filled(1000, 0, r[2])
+    yield cancelling(1000, 0, r[3], r[3] >> 20, r[3])
+    yield cancelling(1000, 1, r[4], r[4] >> 20, r[4])
+    yield cancelling(4033, 4, r[5], r[5] >> 20, r[5])
+    yield cancelling(4094, 0, r[6], r[6] >> 20, r[6])
+    yield ladder(64, 60, 50)
+    yield ladder(2047, 102, 41)
+    yield two_blocks(128)
+    yield [SIGN, ONE, SIGN]
+    yield [1 << 50, SIGN | (1 << 50) - 1]
+    yield [1 << 51, SIGN | (1 << 51) - 1]
+    yield zeros(65, r[13])
+    yield ladder(300, 90, 45)
+    yield cancelling(4094, 7, r[15], r[15] >> 20, r[15])
+    yield [ONE, SIGN | ONE - 128]
+    yield [ONE, SIGN | ONE - 124]
+
+
+def step_told(answer):
+    if answer[0] == "more":
+        s = answer[1]
+        return " more " + " ".join(map(text, s[:3])) + f" n {s.n} pending " + text(s.pending) + f" rounds {s.rounds}"
+    if answer[0] == "done":
+        return f" {text(answer[1])} rounds {answer[2]}"
+    return " %d/%d" % answer[1:]
+
+
+def work_told(area):
+    mix = START
+    for p in area:
+        mix = following(mix ^ (NAN if p % SIGN > INFINITY else p))
+    return " work " + text(mix)
+
+
+def endless(r):
+    """The turns of the generator after r."""
+    while True:
+        r = following(r)
+        yield r
+
+
+def order_told(numbers, work, answer, order):
+    other = [HELD] * len(numbers)
+    ended, steps = walk.run(numbers, other, order, endless(seed(7, len(numbers))))
+    return f" {order.__name__} steps {steps}" + (" same" if ended == answer and other == work else " other") + work_told(other)
+
+
+def walk_lines():
+    for k, numbers in enumerate(walked_lists()):
+        work = [HELD] * len(numbers)
+        answer = walk.faithful(numbers, work)
+        line = f"walk {k} n {len(numbers)}" + step_told(answer) + work_told(work)
+        yield line + "".join(order_told(numbers, work, answer, order) for order in (walk.rising, walk.falling, walk.seeded))
+
+
+# ---- steps of states that no call gave out
+SIGMA, SMALL, CARRIED = 0x407 << 52, 0x3C3 << 52, 0x7F3 << 52
+STEPS = 5
+# lengths, each with its M and the set of all its blocks
+SIZES = [(1, 2, 1), (2, 2, 1), (3, 3, 1), (30, 5, 1), (64, 7, 1), (65, 7, 3), (130, 8, 7), (200, 8, 15)]
+
+
+def stray(pending, turn):
+    """One block in eight is any, pending or not, there or not."""
+    return turn % 5 if turn >> 40 & 7 == 0 else walk.seeded(pending, turn)
+
+
+def below(limit, r):
+    """A number of magnitude at most the limit's."""
+    rest = r // 8
+    magnitude = [0, limit, rest % (limit + 1), max(limit - (rest % 61 << 52), 0)][r // 2 % 4]
+    return (r & 1) << 63 | magnitude
+
+
+def carried(limit, r):
+    return below(limit if r % 2 else CARRIED, r // 2)
+
+
+def seeded_state(k):
+    """A sound state, and its work area."""
+    r = seed(8, k)
+    n, m, full = SIZES[k % len(SIZES)]
+    exponent = [r // 4 % 60, 2074 - r // 4 % 4, r // 4 % 2075, r // 4 % 2075][r % 4]
+    limit, a = nearest(1 << exponent), following(r)
+    b = following(a)
+    t = carried(limit, a)
+    tau = carried(limit, b) if b % 4 else t ^ SIGN
+    area = [below(limit, turn) for turn in turns(n, r)]
+    return walk.State(nearest(1 << exponent + m), t, tau, n, b >> 2 & full or full, [0, 3, 49, 50][a // 4 % 4]), area
+
+
+def witness(n, sigma, t, tau, pending, rounds, everywhere, place, number):
+    area = [everywhere] * n
+    area[place] = number
+    return walk.State(sigma, t, tau, n, pending, rounds), area
+
+
+WITNESSES = [
+    witness(1, SIGMA, 0, 0, 1, 50, 0, 0, SMALL),  # a 51st round that goes on, and is followed by 8
+    witness(1, SIGMA, 0, 0, 1, 50, 0, 0, ONE),  # one that finishes
+    witness(65, 0x7EE << 52, 0, CARRIED, 3, 0, MAGNITUDE, 0, MAGNITUDE),  # tau above 2^1012, and then 8
+    witness(65, SIGMA, 0x3D4 << 52, 0, 1, 0, 0, 64, ONE),  # a block not taken that is too large after rule 4
+    witness(65, SIGMA, ONE, 0, 1, 0, 0, 64, SIGN | ONE),  # a finish by rule 3 that answers +0
+    witness(129, SIGMA, 0, 0, 3, 0, 0, 128, SMALL),  # a restart by a block not taken
+    witness(65, 128, SIGN, SIGN, 2, 0, 1, 0, 1),  # the least sigma
+    witness(65, 64, SIGN, SIGN, 2, 0, 0, 0, 0),  # half of it
+]
+
+
+def several_told(s, area, order, turns):
+    """Steps until one is refused or finishes."""
+    answer, line = ("more", s), ""
+    for turn in itertools.islice(turns, STEPS):
+        if answer[0] == "more":
+            answer = walk.step(answer[1], area, order(answer[1].pending, turn))
+            line += step_told(answer)
+    return line + work_told(area)
+
+
+def state_lines():
+    seeded = 120
+    for k in range(seeded):
+        yield f"state {k}" + several_told(*seeded_state(k), stray, endless(seed(8, k)))
+    for k, (s, area) in enumerate(WITNESSES, seeded):
+        yield f"state {k}" + several_told(s, area, walk.rising, endless(0))
+
+
+BASE = walk.State(SIGMA, SIGN, SIGN, 65, 2, 0)
+BASE_AREA = [SIGN] * 64 + [0x4000000000000000]
+# what is changed and to which number, and the block of the step
+CHANGES = [
+    ("", 0, 0), ("", 0, 2), ("", 0, 63), ("", 0, 64), ("", 0, 1 << 63), ("pending", 1, 1), ("pending", 0, 1), ("pending", 4, 9), ("pending", ONES, 1),
+    ("n", 64, 9), ("n", 66, 9), ("n", 0, 9), ("n", ONES, 9), ("rounds", 51, 9), ("sigma", 0x406 << 52, 9), ("sigma", SIGMA + 1, 1),
+    ("sigma", SIGN | SIGMA, 1), ("sigma", 0, 1), ("sigma", INFINITY + 1, 1), ("sigma", INFINITY, 1), ("sigma", 0x7EF << 52, 1), ("t", CARRIED + 1, 1),
+    ("t", SIGN | INFINITY + 1, 1), ("t", SIGN | INFINITY, 1), ("tau", SIGN | CARRIED + 1, 1), ("tau", INFINITY + 1, 1), ("tau", INFINITY, 1),
+    (0, INFINITY + 1, 1), (0, SIGN | INFINITY, 1), (64, INFINITY + 1, 1), (63, 0x4000000000000001, 1), (64, 0xC000000000000001, 1), ("", 0, 1),
+]  # fmt: skip
+
+
+def refusal_lines():
+    for k, (what, number, block) in enumerate(CHANGES):
+        s, area = BASE, list(BASE_AREA)
+        if isinstance(what, int):
+            area[what] = number
+        elif what:
+            s = s._replace(**{what: number})
+        yield f"refusal {k}" + step_told(walk.step(s, area, block)) + work_told(area)
+    for n in (0, LENGTH + 1):
+        yield f"refusal of n {n}" + several_told(walk.State(SIGMA, 0, 0, n, 1, 0), [SIGN] * n, walk.rising, endless(0))
+
+
+GROUPS = [list_lines, run_lines, round_lines, last_lines, walk_lines, state_lines, refusal_lines]
+
+
 def main():
-    lines = [line for group in (list_lines, run_lines, round_lines, last_lines) for line in group()]
+    lines = [line for group in GROUPS for line in group()]
     if sys.argv[1:] != ["--check"]:
         print("\n".join(lines))
         return 0

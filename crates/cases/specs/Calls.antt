@@ -2,13 +2,21 @@
 -- The meanings are those that the public contracts cite.
 use mathlib.Core.List.{List, [], _∷_, map}
 use Prim.Native.Nat.{ℕ}
-use lib.ListN.{replicate}
+use lib.ListN.{length, replicate}
 use lib.Ieee.{binary64, ofBits, toBits}
-use Rattle.kinds.specs.Heard.{Heard, nearestHeard, partedHeard, entryHeard}
+use Rattle.kinds.specs.Limits.{doubles}
+use Rattle.kinds.specs.Heard.{Heard, stepHeard, nearestHeard, partedHeard, entryHeard}
 use Rattle.register.specs.Register.{added, withdrawn, rounded}
+use Rattle.walk.specs.Walk.{faithfulOf}
 use Rattle.sums.specs.Sums.{nearestOf, partsOf}
 
+-- what a work area holds before the call, at each place: 1.5, a number that is in no list and no answer of the table
+abbrev pub held : ℕ
+held = 0x3FF8000000000000
+
 pub data Call : Type 0 where
+  -- the faithful sum of a list by the undivided call
+  faithfulSum : List ℕ → Call
   -- the nearest sum of a list; its sum in k parts, from an area of zeros
   nearestSum : List ℕ → Call
   sumInParts : List ℕ → ℕ → Call
@@ -22,6 +30,9 @@ pub record Told : Type 0 where
   pub area : List ℕ
 
 unfoldable pub told : Call → Told
+told (faithfulSum ps) =
+    let w = faithfulOf doubles ps (replicate (length ps) (ofBits binary64 held)) in
+    record { heard = stepHeard (w .answer); area = map (toBits binary64) (w .work) }
 told (nearestSum ps) = record { heard = nearestHeard (nearestOf ps); area = [] }
 told (sumInParts ps k) =
     let s = partsOf ps (replicate k (ofBits binary64 0)) in

@@ -7,11 +7,17 @@ use native.Mathlib.Omega.{arith}
 use lib.Dec.{T, eqb, eqb→eq}
 use lib.ListN.{length, getD}
 use lib.Ieee.Fits.{and-l, and-r}
-use lib.Ieee.{ofBits, toBits}
+use lib.Ieee.{ofBits, toBits, add, sub, mul, le, eq}
+use Rattle.units.specs.Rounding.{ceil}
 use Rattle.lists.specs.Digits.{number, digits, signed, residue}
 use Rattle.ieee.specs.Units.{value, nearestFloat}
 use Rattle.judge.specs.Judge.{faultOf, firstFault, judged}
 use Rattle.register.specs.Register.{enter, rounded}
+use Rattle.extract.specs.Extract.{remainders, gathered, lastSum, largest}
+use Rattle.exponent.specs.Power.{powerOf}
+use Rattle.sound.specs.Sound as N
+use Rattle.walk.specs.Round as R
+use Rattle.walk.specs.Walk as W
 use Rattle.sums.specs.Sums as S
 use Rattle.kinds.specs.Heard.{nowhere, at, Heard, refused, more, done, nearest, parts, accepted, count}
 use Rattle.cases.specs.Calls.{Told, Row, told}
@@ -104,7 +110,11 @@ rows-hold (r ∷ rs) t zero d h = row-holds r (and-l (passes r) (every rs) t)
 rows-hold (r ∷ rs) t (suc k) d h = rows-hold rs (and-r (passes r) (every rs) t) k d (omega arith)
 
 computed : every table ≡ true
-unfolding every table judged firstFault faultOf S.nearestAfter S.partsAfter S.parts enter rounded number digits signed residue nearestFloat value ofBits toBits
+unfolding
+    every table judged firstFault faultOf W.openedAfter W.steppedAfter W.taken W.rising W.roundsFrom R.turned R.roundOf R.scaled R.finished R.closed
+    N.soundSigma N.atMost N.soundNumbers N.soundPending N.badPlace N.sound N.gated remainders gathered lastSum largest powerOf ceil
+    S.nearestAfter S.partsAfter S.parts enter rounded number digits signed residue nearestFloat value
+    ofBits toBits add sub mul le eq
 computed = refl
 
 pub table-holds : (k : ℕ) (d : Row) → k < length table → told (getD table k d .call) ≡ getD table k d .expected

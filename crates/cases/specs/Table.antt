@@ -1,10 +1,11 @@
--- The table. Definitions only. A number of document 01 is written by its pattern: 1 is 3FF0000000000000, 2^-53 is 3CA0000000000000, 2^-1074 is 1.
+-- The table. Definitions only. A number of document 01 is written by its pattern: 1 is 3FF0000000000000, -1 BFF0000000000000, -0 8000000000000000,
+-- 2^-53 3CA0000000000000, 2^100 4630000000000000, 2^-1074 1. After a faithful sum the area holds the last remainders, of which document 01 says nothing here.
 use mathlib.Core.Bool.{true}
 use mathlib.Core.List.{List, [], _∷_, _++_}
 use Prim.Native.Nat.{ℕ, _-_, _^_}
 use lib.ListN.{replicate}
-use Rattle.kinds.specs.Heard.{nowhere, at, refused, nearest, parts, accepted}
-use Rattle.cases.specs.Calls.{Row, nearestSum, sumInParts, add, withdraw, round}
+use Rattle.kinds.specs.Heard.{nowhere, at, refused, done, nearest, parts, accepted}
+use Rattle.cases.specs.Calls.{Row, held, faithfulSum, nearestSum, sumInParts, add, withdraw, round}
 
 -- the register of zeros; the one after 1 was withdrawn from it: "words 0 to 15 zero, word 16 = 2^64 - 2^50, the rest all ones"
 abbrev zeros : List ℕ
@@ -26,15 +27,42 @@ justNot = replicate 31 (2 ^ 64 - 1) ++ ((2 ^ 64 - 2 ^ 60 - 1) ∷ (2 ^ 50 - 1) �
 
 unfoldable pub table : List Row
 table =
-    -- 5, "nearest 1; two parts 1 and 2^-53, exact"
-    record { call = nearestSum (0x3FF0000000000000 ∷ 0x3CA0000000000000 ∷ []); expected = record { heard = nearest 0x3FF0000000000000; area = [] } }
+    -- 1
+    record { call = faithfulSum []; expected = record { heard = done 0 0; area = [] } }
+    -- 2
+    ∷ record { call = faithfulSum (0x3FF0000000000000 ∷ []); expected = record { heard = done 0x3FF0000000000000 1; area = 0 ∷ [] } }
+    -- 3
+    ∷ record {
+      call = faithfulSum (0x8000000000000000 ∷ 0x8000000000000000 ∷ []);
+      expected = record { heard = done 0 0; area = 0x8000000000000000 ∷ 0x8000000000000000 ∷ [] };
+    }
+    -- 4
+    ∷ record { call = faithfulSum (0x3FF0000000000000 ∷ 0xBFF0000000000000 ∷ []); expected = record { heard = done 0 1; area = 0 ∷ 0 ∷ [] } }
+    -- 5, "faithful and nearest 1; two parts 1 and 2^-53, exact"; the faithful sum's rounds are the walk's
+    ∷ record {
+      call = faithfulSum (0x3FF0000000000000 ∷ 0x3CA0000000000000 ∷ []);
+      expected = record { heard = done 0x3FF0000000000000 1; area = 0 ∷ 0x3CA0000000000000 ∷ [] };
+    }
+    ∷ record { call = nearestSum (0x3FF0000000000000 ∷ 0x3CA0000000000000 ∷ []); expected = record { heard = nearest 0x3FF0000000000000; area = [] } }
     ∷ record {
       call = sumInParts (0x3FF0000000000000 ∷ 0x3CA0000000000000 ∷ []) 2;
       expected = record { heard = parts true; area = 0x3FF0000000000000 ∷ 0x3CA0000000000000 ∷ [] };
     }
-    -- 6, "nearest 3FF0000000000001"
+    -- 6, "faithful 1, nearest 3FF0000000000001"; the faithful sum's rounds are the walk's
+    ∷ record {
+      call = faithfulSum (0x3FF0000000000000 ∷ 0x3CA0000000000000 ∷ 1 ∷ []);
+      expected = record { heard = done 0x3FF0000000000000 1; area = 0 ∷ 0x3CA0000000000000 ∷ 1 ∷ [] };
+    }
     ∷ record { call = nearestSum (0x3FF0000000000000 ∷ 0x3CA0000000000000 ∷ 1 ∷ []); expected = record { heard = nearest 0x3FF0000000000001; area = [] } }
+    -- 7
+    ∷ record {
+      call = faithfulSum (0x4630000000000000 ∷ 0x3FF0000000000000 ∷ 0xC630000000000000 ∷ []);
+      expected = record { heard = done 0x3FF0000000000000 2; area = 0 ∷ 0 ∷ 0 ∷ [] };
+    }
+    -- 8
+    ∷ record { call = faithfulSum (1 ∷ 1 ∷ []); expected = record { heard = done 2 1; area = 0 ∷ 0 ∷ [] } }
     -- 9, "refusal 3, place 0"
+    ∷ record { call = faithfulSum (0x7E70000000000001 ∷ []); expected = record { heard = refused 3 (at 0); area = held ∷ [] } }
     ∷ record { call = nearestSum (0x7E70000000000001 ∷ []); expected = record { heard = refused 3 (at 0); area = [] } }
     -- 10
     ∷ record { call = withdraw zeros 0x3FF0000000000000; expected = record { heard = accepted; area = lessOne } }

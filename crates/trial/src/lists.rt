@@ -12,7 +12,7 @@ const SHAPED: u64 = 16 * KINDS;
 
 const LONGEST: u64 = SHAPED + 9;
 
-const CASES: u64 = LONGEST + 6;
+pub const CASES: u64 = LONGEST + 6;
 
 // How many lengths of the parts slice are tried: 0 to one more than allowed.
 const COUNTS: u64 = Doubles::PARTS as u64 + 2;
@@ -42,7 +42,7 @@ fn shaped(list: &mut [u64], k: u64) {
     }
 }
 
-fn length(k: u64) -> usize {
+pub fn length(k: u64) -> usize {
     if k < SHAPED {
         return shaped_length(k) as usize;
     }
@@ -55,7 +55,7 @@ fn length(k: u64) -> usize {
     Doubles::LENGTH + 1
 }
 
-fn make(list: &mut [u64], k: u64) {
+pub fn make(list: &mut [u64], k: u64) {
     if k < SHAPED {
         shaped(list, k);
     } else if k < LONGEST {

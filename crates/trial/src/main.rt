@@ -1,11 +1,17 @@
 // The tests that run: what the library answers on lists and registers made by a generator, one line for each. tests/trial.py says what document 01 asks for.
+mod areas;
 mod contents;
 mod generator;
+mod ladders;
 mod lists;
+mod refusals;
 mod registers;
 mod shapes;
+mod states;
 mod text;
+mod walks;
 
+use areas::HELD;
 use kinds::Doubles;
 use words::WORDS;
 
@@ -14,4 +20,9 @@ fn main() {
     lists::all(&mut list);
     let mut register = [0u64; WORDS + 1];
     registers::all(&mut register);
+    let mut work = [HELD; Doubles::LENGTH + 1];
+    let mut other = [HELD; Doubles::LENGTH + 1];
+    walks::all(&mut list, &mut work, &mut other);
+    states::all(&mut work);
+    refusals::all(&mut work);
 }

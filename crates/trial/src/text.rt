@@ -33,13 +33,16 @@ pub fn pattern(p: u64) {
     put(&text);
 }
 
-// A double's pattern. The calls give out no NaN, so that a line with this word can only be wrong.
-pub fn double(x: f64) {
+// A double's pattern. The bits of a NaN cannot be read: each is shown as this one.
+pub fn bits(x: f64) -> u64 {
     if x != x {
-        put(b" nan");
-    } else {
-        pattern(f64::to_bits(x));
+        return 0x7FF8_0000_0000_0000;
     }
+    f64::to_bits(x)
+}
+
+pub fn double(x: f64) {
+    pattern(bits(x));
 }
 
 // A space, and a refusal: its number, a bar and its place.
