@@ -1,13 +1,13 @@
 -- The close in floats is the close in units: t', the sum T of what is left, tau2 and the answer, none of which overflows. Assumes nothing.
-use mathlib.Core.Path.{_≡_, refl, sym, ap, _∙_}
+use mathlib.Core.Path.{_≡_, refl, ap, _∙_}
 use mathlib.Core.List.{List, [], _∷_, foldl}
-use Prim.Native.Nat.{ℕ, suc, _+_, _*_, _^_, _≤_, _<_}
-use native.Mathlib.Nat.{mul-comm, mul-le-mul-right}
+use Prim.Native.Nat.{ℕ, suc, _+_, _*_, _^_, _≤_}
+use native.Mathlib.Nat.{mul-le-mul-right}
 use native.Mathlib.Omega.{arith}
 use lib.ListN.{length}
 use lib.Pow.{pow-add, pow-mono}
 use lib.Ieee.{Float, Format, prec, emax, low, add, sub}
-use Rattle.units.specs.Whole.{Whole, nat, _⊕_, _⊖_, Within, Multiple}
+use Rattle.units.specs.Whole.{Whole, nat, _⊕_, _⊖_, Within}
 use Rattle.units.specs.Rounding.{fl, Representable}
 use Rattle.units.specs.SignedRounding.{fl-within, rep-pow}
 use Rattle.units.specs.Walk as units

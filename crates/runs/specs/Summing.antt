@@ -1,16 +1,16 @@
 -- A round of a run over numbers that sum to S: what it leaves sums to S, each of document 01's four rules keeps that, and a finish is a faithful rounding of
 -- S. Assumes nothing.
-use mathlib.Core.Path.{_≡_, refl, sym, ap, _∙_}
+use mathlib.Core.Path.{_≡_, refl, sym, _∙_}
 use mathlib.Core.Logic.{_⊎_, inl, inr}
-use mathlib.Core.Bool.{Bool, true, false, cond, _||_}
+use mathlib.Core.Bool.{Bool, true, false, _||_}
 use mathlib.Core.List.{List, [], _∷_}
 use Prim.Native.Nat.{ℕ, zero, suc, _+_, _-_, _*_, _^_, _≤_, _<_}
 use native.Mathlib.Omega.{arith}
-use borrow.Author.Tests.{eqb-true, leb-true}
-use lib.ListN.{length, length-map}
-use lib.Pow.{pow-add, pow-mono, pow-pos}
-use lib.Ieee.{Float, Format, prec, low, emax, add, le, eq}
-use Rattle.units.specs.Whole.{Whole, nat, _⊕_, _≈_, Within, mag, total, All}
+use borrow.Author.Tests.{eqb-true}
+use lib.ListN.{length-map}
+use lib.Pow.{pow-add, pow-mono}
+use lib.Ieee.{Float, Format, prec, low, emax, le, eq}
+use Rattle.units.specs.Whole.{Whole, nat, _≈_, Within, mag, All}
 use Rattle.units.specs.Powers.{le-or-lt}
 use Rattle.units.specs.Rounding.{ceil}
 use Rattle.units.specs.Ceiling.{ceil-ge}
@@ -18,18 +18,18 @@ use Rattle.units.specs.Faithful.{Faithful}
 use Rattle.units.specs.Walk as units
 use Rattle.units.specs.Turns.{turns, tau-zero, round-closes}
 use Rattle.units.specs.Closing.{close-nothing, close-restart, close-finish, close-further}
-use Rattle.ieee.specs.Units.{Number, magnitude, negative, whole}
+use Rattle.ieee.specs.Units.{Number, magnitude, whole}
 use Rattle.ieee.specs.Rounded.{prec-pos}
 use Rattle.ieee.specs.Sum.{whole-mag}
 use Rattle.ieee.specs.Compare.{eq-units}
 use Rattle.lists.specs.Each.{Each, each-weaker}
 use Rattle.kinds.specs.Limits.{Width, exponentOf}
-use Rattle.extract.specs.Extract.{plusZero, absolute, remainders, gathered, largest, lastSum}
+use Rattle.extract.specs.Extract.{plusZero, absolute, remainders, gathered, largest}
 use Rattle.extract.specs.ExtractLaws.{largest-bounds}
 use Rattle.extract.specs.LargestLaws.{zero-positive, absolute-is}
 use Rattle.walk.specs.Round.{allZero, sigmaOf, leastNormal, scaled, finished}
 use Rattle.walk.specs.Closes.{carried, restarts, further, above, reached, below-normal, above-normal, threshold}
-use Rattle.walk.specs.InUnits.{Small, wholes, all-ready, gathers, remainders-units, remainders-small}
+use Rattle.walk.specs.InUnits.{wholes, all-ready, gathers, remainders-units, remainders-small}
 use Rattle.walk.specs.Fitting.{Fitting}
 use Rattle.walk.specs.Begun.{Begun, first-tau, tau-all}
 use Rattle.runs.specs.CloseUnits.{zero-whole, Held, held, last-sum, tau1-units, answer-units}
