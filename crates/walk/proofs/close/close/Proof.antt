@@ -33,9 +33,7 @@ exponent-requires : tie.Need-exponent-requires
 exponent-requires c κs = search needs
 
 few : (c : tie.After-exponent) → c .exponent .result ≤ 12
-few c =
-    let s = c .before .before .before .before .before .before in
-    rw (c .exponent .ensures, c .before .of .ensures) (exponent-most (s .args .s .n) (s .pre .few))
+few c = rw (c .exponent .ensures) (exponent-most (c .before .of .result .n) (search needs))
 
 mul-scaled : tie.Need-mul-scaled
 mul-scaled c = omega (arith, few c)

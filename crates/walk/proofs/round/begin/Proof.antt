@@ -1,5 +1,11 @@
 -- `walk::round::begin` meets its contract: the callees give each field. Assumes nothing.
+use mathlib.Core.Path.{ap, _∙_}
 use borrow.Author.Needs.{needs}
+use lib.Ieee.{binary64}
+use Rattle.lists.specs.Bitset.{full}
+use Rattle.extract.specs.Extract.{plusZero}
+use Rattle.kinds.specs.Limits.{doubles, blocksOf}
+use Rattle.kinds.specs.States.{stateOf}
 use Rattle.walk.specs.Round.{roundOf}
 use Rattle.walk.proofs.round.begin.Statement.{statement}
 use Rattle.walk.proofs.round.begin.Tie as tie
@@ -20,7 +26,9 @@ returns : tie.Need-returns
 unfolding roundOf
 returns c =
     let b = c .before .before in
-    rw (c .of2 .ensures, c .before .full .ensures, b .blocks2 .ensures, b .before .of .ensures)
+    let a = b .before .before .args in
+    let p = c .before .full .ensures ∙ ap full (b .blocks2 .ensures ∙ ap (blocksOf doubles) (b .before .of .ensures)) in
+    rw (c .of2 .ensures) (λ i. stateOf (a .n) (a .sigma) (a .t) (plusZero binary64) (p i) (a .rounds))
 
 pub begin-spec : {M : Type 1} → statement M
 begin-spec = tie.close (tie.spec of-requires blocks-requires full-requires of-requires-2 returns)

@@ -23,8 +23,8 @@ ceiling-requires c κs = search needs
 exists : (c : tie.After-ceiling) → c .before .exponent .result + c .ceiling .result < powers binary64
 exists c =
     let a = c .before .before .before in
-    rw (c .before .exponent .ensures, c .ceiling .ensures, c .before .before .of .ensures)
-    (sigma-exists doubles-fit (a .args .n) (magnitude binary64 (a .args .mu)) (a .pre .0) (a .pre .2 .within))
+    rw (c .before .exponent .ensures, c .ceiling .ensures)
+    (sigma-exists doubles-fit (c .before .before .of .result .n) (magnitude binary64 (a .args .mu)) (search needs) (a .pre .2 .within))
 
 add-power : tie.Need-add-power
 add-power c = omega (arith, exists c)

@@ -4,9 +4,13 @@ use Prim.Native.Nat.{_+_, _-_, _*_, min}
 use native.Mathlib.Omega.{arith}
 use borrow.Author.Needs.{needs}
 use denote.Ref.{now}
-use lib.ListN.{length}
+use lib.Ieee.{binary64}
+use lib.ListN.{length, take, drop}
 use lib.Seq.{drop-drop}
-use Rattle.walk.specs.Round.{turned}
+use Rattle.extract.specs.Extract.{gathered}
+use Rattle.kinds.specs.States.{stateOf}
+use Rattle.kinds.specs.Limits.{doubles}
+use Rattle.walk.specs.Round.{blockOf, turned}
 use Rattle.walk.specs.CutLaws.{take-cut, drop-cut}
 use Rattle.walk.proofs.round.take.Statement.{statement}
 use Rattle.walk.proofs.round.take.Tie as tie
@@ -55,9 +59,11 @@ returns c =
     let from = 64 * a .block in
     let e : l .least .result ≡ min (from + 64) (length xs) = l .least .ensures ∙ ap (min (from + 64)) (sym (l .before .before .pre .1)) in
     let d : from + (l .least .result - from) ≡ l .least .result = omega arith in
-    let q = x .extract .ensures in (
-      rw (c .of .ensures, w .without .ensures, q .0, e, take-cut xs from 64),
-      rw (q .1, drop-drop, d, e, take-cut xs from 64, drop-cut xs from 64),
+    let p : take (l .least .result - from) (drop from xs) ≡ blockOf doubles (a .block) xs = rw e (take-cut xs from 64) in
+    let s = a .s in
+    let q = x .extract .ensures .0 ∙ ap (gathered binary64 (s .sigma) (s .tau)) p in (
+      rw (c .of .ensures) (λ i. stateOf (s .n) (s .sigma) (s .t) (q i) (w .without .ensures i) (s .rounds)),
+      rw (x .extract .ensures .1, p, drop-drop, d, e, drop-cut xs from 64),
     )
 
 pub take-spec : {M : Type 1} → statement M

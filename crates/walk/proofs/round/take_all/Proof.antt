@@ -1,5 +1,6 @@
 -- `walk::round::take_all` meets its contract: the extraction is that of the whole area. Assumes nothing.
 use borrow.Author.Needs.{needs}
+use Rattle.kinds.specs.States.{stateOf}
 use Rattle.walk.proofs.round.take_all.Statement.{statement}
 use Rattle.walk.proofs.round.take_all.Tie as tie
 
@@ -13,7 +14,10 @@ same-length : tie.Need-same-length
 same-length c = search needs
 
 returns : tie.Need-returns
-returns c = let e = c .before .before .before .extract .ensures in (rw (c .of .ensures, e .0), e .1)
+returns c =
+    let s = c .before .before .before .before .before .before .args .s in
+    let e = c .before .before .before .extract .ensures in
+    (rw (c .of .ensures) (λ i. stateOf (s .n) (s .sigma) (s .t) (e .0 i) 0 (s .rounds)), e .1)
 
 pub take-all-spec : {M : Type 1} → statement M
 take-all-spec = tie.close (tie.spec extract-requires of-requires same-length returns)
