@@ -40,6 +40,13 @@ equals-zero f x X z =
     eqb-true _ _ (sym (eq-units f x (plusZero f) X (zero-positive f .number)) ∙ z) in
     rw (zero-whole f) at h
 
+pub all-zero : (f : Format) (xs : List Float) → allZero f xs ≡ true → All (λ x. x ≈ nat 0) (wholes f xs)
+all-zero f xs a = none xs (rw (eqb-true (largest f xs) 0 a) at (largest-bounds f xs))
+  where
+    none : (zs : List Float) → Each (λ y. magnitude f y ≤ 0) zs → All (λ x. x ≈ nat 0) (wholes f zs)
+    none [] h = tt
+    none (z ∷ zs) h = (omega (arith, whole-mag f z, h .0), none zs (h .1))
+
 -- the round of a run as it opens, with t and the work numbers summing to S
 pub record Summing (W : Width) (F : Fitting W) (S : Whole) (e n : ℕ) (sigma t : Float) (rounds : ℕ) (xs : List Float) : Type 0 where
   pub begun : Begun W F e n sigma t rounds xs
@@ -99,19 +106,9 @@ module _ {W : Width} {F : Fitting W} {S : Whole} {e n : ℕ} {sigma t : Float} {
       → units.tau1 (prec (W .format)) (whole (W .format) t) (whole (W .format) (tauOf W sigma xs)) ≈ nat 0
   next-zero z = rw (next-units .0) at (equals-zero (W .format) (carried W sigma t xs) (next-units .1 .number) z)
 
-  none : (f : Format) (zs : List Float) → Each (λ y. magnitude f y ≤ 0) zs → All (λ x. x ≈ nat 0) (wholes f zs)
-  none f [] h = tt
-  none f (z ∷ zs) h = (omega (arith, whole-mag f z, h .0), none f zs (h .1))
-
-  all-zero : allZero (W .format) (leftOf W sigma xs) ≡ true → All (λ x. x ≈ nat 0) (wholes (W .format) (leftOf W sigma xs))
-  all-zero z =
-      let f = W .format in
-      let ys = leftOf W sigma xs in
-      none f ys (rw (eqb-true (largest f ys) 0 z) at (largest-bounds f ys))
-
   -- ---- rule 1: S is zero
   pub sums-nothing : eq (carried W sigma t xs) (plusZero (W .format)) ≡ true → allZero (W .format) (leftOf W sigma xs) ≡ true → S ≈ nat 0
-  sums-nothing z a = close-nothing (prec (W .format)) (exponentOf n) n two half few closes (next-zero z) (all-zero a)
+  sums-nothing z a = close-nothing (prec (W .format)) (exponentOf n) n two half few closes (next-zero z) (all-zero (W .format) (leftOf W sigma xs) a)
 
   -- ---- rule 2: what is left sums to S
   pub sums-restart : eq (carried W sigma t xs) (plusZero (W .format)) ≡ true → allZero (W .format) (leftOf W sigma xs) ≡ false
@@ -158,7 +155,7 @@ module _ {W : Width} {F : Fitting W} {S : Whole} {e n : ℕ} {sigma t : Float} {
       }
 
   -- the sum T of what is left, and the answer, in units
-  finished-units : Number (W .format) (finished (W .format) (carried W sigma t xs) t (tauOf W sigma xs) (leftOf W sigma xs))
+  pub finished-units : Number (W .format) (finished (W .format) (carried W sigma t xs) t (tauOf W sigma xs) (leftOf W sigma xs))
       × (whole (W .format) (finished (W .format) (carried W sigma t xs) t (tauOf W sigma xs) (leftOf W sigma xs))
       ≡ units.answer (prec (W .format)) (whole (W .format) t) (whole (W .format) (tauOf W sigma xs)) (wholes (W .format) (leftOf W sigma xs)))
   finished-units =

@@ -62,7 +62,7 @@ module _ {W : Width} {F : Fitting W} {n : ℕ} {s : State} {xs : List Float} (R 
   unfolding roundOf
   same-n = sym (ap (λ (q : State). q .n) (R .state))
 
-  all-taken : stateOf n (s .sigma) (s .t) (gathered (W .format) (s .sigma) (plusZero (W .format)) xs) 0 (s .rounds) ≡ allTaken W s xs
+  pub all-taken : stateOf n (s .sigma) (s .t) (gathered (W .format) (s .sigma) (plusZero (W .format)) xs) 0 (s .rounds) ≡ allTaken W s xs
   unfolding roundOf
   all-taken =
       let tau : plusZero (W .format) ≡ s .tau = sym (ap (λ (q : State). q .tau) (R .state)) in
@@ -101,7 +101,7 @@ module _ {W : Width} {F : Fitting W} {n : ℕ} {s : State} {xs : List Float} (R 
           subst (λ (q : State). Running W F n q (allLeft W s xs) × (q .rounds ≡ s .rounds + 1)) z (r, refl)
 
   -- "the round closes and counts"
-  run-counted : (x : Float) (r : ℕ) → closed W (allTaken W s xs) (allLeft W s xs) ≡ Done x r → r ≡ s .rounds + 1
+  pub run-counted : (x : Float) (r : ℕ) → closed W (allTaken W s xs) (allLeft W s xs) ≡ Done x r → r ≡ s .rounds + 1
   run-counted x r e = go follows e
     where
       go : {q : Step} → Next W F n (s .rounds) (allLeft W s xs) q → q ≡ Done x r → r ≡ s .rounds + 1
