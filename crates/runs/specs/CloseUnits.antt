@@ -28,7 +28,11 @@ zero-whole f = rw (zero-positive f .sign, zero-positive f .units)
 -- ---- T: after c numbers of at most 2^j units each, a partial sum is at most c 2^j
 module _ (f : Format) (j c₀ : ℕ) (room : c₀ * 2 ^ j ≤ 2 ^ (low f + emax f)) (fit : c₀ ≤ 2 ^ prec f) where
   count-rep : (c : ℕ) → c ≤ c₀ → Representable (prec f) (nat (c * 2 ^ j))
-  count-rep c h = record { exp = j; on = record { count = nat c; is = omega arith }; small = omega (arith, mul-le-mul-right (2 ^ j) h, mul-le-mul-right (2 ^ j) fit) }
+  count-rep c h = record {
+    exp = j;
+    on = record { count = nat c; is = omega arith };
+    small = omega (arith, mul-le-mul-right (2 ^ j) h, mul-le-mul-right (2 ^ j) fit);
+  }
 
   sums : (xs : List Float) (c : ℕ) (T : Float) → Number f T → Within (whole f T) (c * 2 ^ j) → Each (Small f (2 ^ j)) xs → c + length xs ≤ c₀
       → Number f (foldl (add f) T xs) × (whole f (foldl (add f) T xs) ≡ units.summed (prec f) (whole f T) (wholes f xs))
@@ -37,7 +41,8 @@ module _ (f : Format) (j c₀ : ℕ) (room : c₀ * 2 ^ j ≤ 2 ^ (low f + emax 
   sums (x ∷ xs) c T N W h l =
       let z : Within (whole f T ⊕ whole f x) (suc c * 2 ^ j) = omega (arith, W, whole-mag f x, h .0 .within) in
       let r = add-rounds N (h .0 .number) (low f + emax f) (omega arith) (omega (arith, z, room, mul-le-mul-right (2 ^ j) (below c l))) in
-      let w : Within (whole f (add f T x)) (suc c * 2 ^ j) = rw (r .units) (fl-within (prec f) (prec-pos f) (whole f T ⊕ whole f x) (count-rep (suc c) (below c l)) z) in
+      let w : Within (whole f (add f T x)) (suc c * 2 ^ j) =
+      rw (r .units) (fl-within (prec f) (prec-pos f) (whole f T ⊕ whole f x) (count-rep (suc c) (below c l)) z) in
       let R = sums xs (suc c) (add f T x) (r .number) w (h .1) (omega arith) in
       (R .0, R .1 ∙ ap (λ (t : Whole). units.summed (prec f) t (wholes f xs)) (r .units), R .2)
     where
@@ -81,7 +86,8 @@ module _ {f : Format} (b : ℕ) (room : b + 5 ≤ low f + emax f) {t tau : Float
   pub tau1-units : (whole f (add f t tau) ≡ units.tau1 (prec f) (whole f t) (whole f tau)) × Held f (b + 1) (add f t tau)
   tau1-units = plus b (omega arith) t-held tau-held
 
-  difference : (whole f (sub f (add f t tau) t) ≡ fl (prec f) (units.tau1 (prec f) (whole f t) (whole f tau) ⊖ whole f t)) × Held f (b + 1 + 1) (sub f (add f t tau) t)
+  difference : (whole f (sub f (add f t tau) t) ≡ fl (prec f) (units.tau1 (prec f) (whole f t) (whole f tau) ⊖ whole f t))
+      × Held f (b + 1 + 1) (sub f (add f t tau) t)
   difference = rw (tau1-units .0) at (minus (b + 1) (omega arith) (tau1-units .1) (wider (omega arith) t-held))
 
   pub tau2-units : (whole f (sub f tau (sub f (add f t tau) t)) ≡ units.tau2 (prec f) (whole f t) (whole f tau))

@@ -7,7 +7,7 @@ use mathlib.Core.List.{List, [], _∷_}
 use Prim.Native.Nat.{ℕ, zero, suc, _+_, _-_, _*_, _^_, _≤_, _<_}
 use native.Mathlib.Omega.{arith}
 use borrow.Author.Tests.{eqb-true}
-use lib.ListN.{length-map}
+use lib.ListN.{length, length-map}
 use lib.Pow.{pow-add, pow-mono}
 use lib.Ieee.{Float, Format, prec, low, emax, le, eq}
 use Rattle.units.specs.Whole.{Whole, nat, _≈_, Within, mag, All}
@@ -87,7 +87,8 @@ module _ {W : Width} {F : Fitting W} {S : Whole} {e n : ℕ} {sigma t : Float} {
       (all-ready σ xs (A .begun .work)) (omega (arith, A .opened .count)) (omega (arith, few)) in
       rw tau-units (record { sum = omega (arith, T .1) })
 
-  closes : units.Closed (prec (W .format)) (exponentOf n) n e S (whole (W .format) t) (whole (W .format) (tauOf W sigma xs)) (wholes (W .format) (leftOf W sigma xs))
+  closes : units.Closed (prec (W .format)) (exponentOf n) n e S (whole (W .format) t) (whole (W .format) (tauOf W sigma xs))
+      (wholes (W .format) (leftOf W sigma xs))
   closes =
       let f = W .format in
       let σ = A .begun .scale in
@@ -163,13 +164,16 @@ module _ {W : Width} {F : Fitting W} {S : Whole} {e n : ℕ} {sigma t : Float} {
       let M = exponentOf n in
       let ys = leftOf W sigma xs in
       let B = A .begun in
-      let top : 2 ^ M * 2 ^ e ≤ 2 ^ F .bound = rw (pow-add 2 M e) at (pow-mono {i = M + e} {j = F .bound} (omega (arith, F .most-is n (B .few), B .lowered, F .tau-room))) in
+      let inside : M + e ≤ F .bound = omega (arith, F .most-is n (B .few), B .lowered, F .tau-room) in
+      let top : 2 ^ M * 2 ^ e ≤ 2 ^ F .bound = rw (pow-add 2 M e) at (pow-mono inside) in
       let wide : 2 ^ F .bound ≤ 2 ^ (low f + emax f) = pow-mono (omega (arith, room)) in
       let fit : 2 ^ M ≤ 2 ^ prec f = pow-mono (omega (arith, half)) in
-      let T = last-sum f e (2 ^ M) (omega arith) fit ys (remainders-small (B .scale) xs (B .work)) (omega (arith, few, closes .count, length-map ys (whole f))) in
+      let count : length ys ≤ 2 ^ M = omega (arith, few, closes .count, length-map ys (whole f)) in
+      let T = last-sum f e (2 ^ M) (omega arith) fit ys (remainders-small (B .scale) xs (B .work)) count in
       answer-units (F .bound) room (held (B .kept)) (held (tau-all B)) ys (T .0) (T .1) (omega (arith, T .2))
 
-  pub sums-finish : (le sigma (leastNormal (W .format)) || le (scaled (W .format) (2 * exponentOf n + 1) sigma) (absolute (W .format) (carried W sigma t xs))) ≡ true
+  pub sums-finish : (le sigma (leastNormal (W .format))
+      || le (scaled (W .format) (2 * exponentOf n + 1) sigma) (absolute (W .format) (carried W sigma t xs))) ≡ true
       → Faithful (prec (W .format)) (whole (W .format) (finished (W .format) (carried W sigma t xs) t (tauOf W sigma xs) (leftOf W sigma xs))) S
   sums-finish h = rw (finished-units .1) (close-finish (prec f) (exponentOf n) n two half few closes (rule (le sigma (leastNormal f)) refl h))
     where
