@@ -79,7 +79,9 @@ module _ {W : Width} {ps : List ℕ} (A : Allowed W ps) where
 
   pub opens : (F : Fitting W) → length ps ≤ W .length → allZero (W .format) (floats W ps) ≡ false
       → Begun W F (ceil (largest (W .format) (floats W ps))) (length ps) (sigmaOf (W .format) (length ps) (floats W ps)) (plusZero (W .format)) 0 (floats W ps)
-  opens F few z = begins (unitsAt W (W .magnitude)) (omega (arith, some-left (W .format) (floats W ps) z, floats-length)) few floats-length allowed-small (omega (arith, least, zero-mul (prec (W .format) - exponentOf (length ps))))
+  opens F few z =
+      begins (unitsAt W (W .magnitude)) (omega (arith, some-left (W .format) (floats W ps) z, floats-length)) few floats-length allowed-small
+      (omega (arith, least, zero-mul (prec (W .format) - exponentOf (length ps))))
     where
       least : ceil (largest (W .format) (floats W ps)) ≤ F .top
       least = ceil-least (largest-le (W .format) (2 ^ F .top) (floats W ps)

@@ -69,7 +69,8 @@ module _ {W : Width} {F : Fitting W} {e n : ℕ} {sigma t : Float} {rounds : ℕ
       rw (block-at j h, take-at done (drop k xs) k (front j h), rest, mul-suc (W .block) j, take-add k (W .block) xs, remainders-join f sigma)
       (sym (append-assoc done (remainders f sigma (take (W .block) (drop k xs))) (drop (k + W .block) xs)))
     where
-      rest : drop (W .block * j + W .block) (remainders (W .format) sigma (take (W .block * j) xs) ++ drop (W .block * j) xs) ≡ drop (W .block * j + W .block) xs
+      rest : drop (W .block * j + W .block) (remainders (W .format) sigma (take (W .block * j) xs) ++ drop (W .block * j) xs)
+          ≡ drop (W .block * j + W .block) xs
       rest =
           sym (drop-drop (W .block) (W .block * j) (remainders (W .format) sigma (take (W .block * j) xs) ++ drop (W .block * j) xs))
           ∙ ap (drop (W .block)) (drop-at (remainders (W .format) sigma (take (W .block * j) xs)) (drop (W .block * j) xs) (W .block * j) (front j h))
@@ -84,7 +85,8 @@ module _ {W : Width} {F : Fitting W} {e n : ℕ} {sigma t : Float} {rounds : ℕ
   unfolding stateAt tauAt workAt
   accepted j h =
       stepping-accepted
-      (stepping B (W .block * j) (2 ^ blocksOf W n - 2 ^ j) (omega (arith, pow-lt {i = j} {j = blocksOf W n} h)) (omega (arith, pow-pos j, pow-pos (blocksOf W n))))
+      (stepping B (W .block * j) (2 ^ blocksOf W n - 2 ^ j)
+      (omega (arith, pow-lt {i = j} {j = blocksOf W n} h)) (omega (arith, pow-pos j, pow-pos (blocksOf W n))))
       j h (has-from h)
 
   takes : (j : ℕ) → j < blocksOf W n → stepped W (stateAt j) j (workAt j)

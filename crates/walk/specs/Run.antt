@@ -82,7 +82,10 @@ module _ {W : Width} {F : Fitting W} {n : ℕ} {s : State} {xs : List Float} (R 
 
   pub run-ends : (k : ℕ) (x : Float) (r : ℕ) → closed W (allTaken W s xs) (allLeft W s xs) ≡ Done x r
       → walked (Done x r) (allLeft W s xs) ≡ roundsFrom W (blocksOf W n) (suc k) (walked (More s) xs)
-  run-ends k x r e = sym (run-round k ∙ ap (λ (q : Step). roundsFrom W (blocksOf W n) k (walked q (allLeft W s xs))) e ∙ run-done W (blocksOf W n) k x r (allLeft W s xs))
+  run-ends k x r e =
+      sym (run-round k
+      ∙ ap (λ (q : Step). roundsFrom W (blocksOf W n) k (walked q (allLeft W s xs))) e
+      ∙ run-done W (blocksOf W n) k x r (allLeft W s xs))
 
   pub run-goes : (k : ℕ) (s' : State) → closed W (allTaken W s xs) (allLeft W s xs) ≡ More s'
       → roundsFrom W (blocksOf W n) (suc k) (walked (More s) xs) ≡ roundsFrom W (blocksOf W n) k (walked (More s') (allLeft W s xs))
@@ -132,7 +135,8 @@ module _ {W : Width} {F : Fitting W} {n : ℕ} {s : State} {xs : List Float} (R 
         count = remainders-length (W .format) (s .sigma) xs ∙ B .count ∙ same-n R;
         rounds = begun-rounds B;
         work = each-weaker (Small (W .format) (2 ^ R .e)) (Small (W .format) (unitsAt W (W .magnitude)))
-            (λ x X. record { number = X .number; within = rw (F .top-is) (le-trans (X .within) l) }) (allLeft W s xs) (remainders-small (B .scale) xs (B .work));
+            (λ x X. record { number = X .number; within = rw (F .top-is) (le-trans (X .within) l) })
+            (allLeft W s xs) (remainders-small (B .scale) xs (B .work));
       })
 
   module _ {q : Step} (Q : q ≡ closed W taken ys) where
