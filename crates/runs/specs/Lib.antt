@@ -3,3 +3,7 @@ pub mod CloseUnits
 pub mod Summing
 pub mod SumRun
 pub mod Faithful
+pub mod Taken
+pub mod TakenLaws
+pub mod OneBlock
+pub mod MidRound

@@ -47,6 +47,7 @@ module _ {W : Width} {F : Fitting W} {e n : ℕ} {sigma t : Float} {rounds : ℕ
   first-tau = record {
     number = zero-positive (W .format) .number;
     units = rw (zero-positive (W .format) .sign, zero-positive (W .format) .units) (tau-zero (prec (W .format)) (exponentOf n) e);
+    plus = λ z. zero-positive (W .format) .sign;
   }
 
   fewer : (k : ℕ) → length (take k xs) ≤ 2 ^ exponentOf n

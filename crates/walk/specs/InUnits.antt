@@ -1,19 +1,22 @@
 -- Taking numbers in floats is taking them in units: the remainders and tau are those of `units/Walk`, and nothing overflows.
 -- sigma is 2^(M + e) units and the numbers are at most 2^e. Assumes nothing.
-use mathlib.Core.Path.{_≡_, refl, ap, _∙_}
-use mathlib.Core.Bool.{not, _&&_}
+use mathlib.Core.Path.{_≡_, refl, sym, ap, _∙_}
+use mathlib.Core.Bool.{Bool, true, false, not, _&&_}
 use mathlib.Core.List.{List, [], _∷_, map}
 use Prim.Native.Nat.{ℕ, suc, _+_, _-_, _*_, _^_, _≤_, _<_}
 use native.Mathlib.Omega.{arith}
+use lib.IntN.{pos}
 use lib.ListN.{length}
 use lib.Pow.{pow-add, pow-mono}
 use lib.Ieee.{Float, Format, prec, emax, low, add}
-use Rattle.units.specs.Whole.{Whole, nat, _⊕_, _⊖_, Within, All}
+use Rattle.units.specs.Whole.{Whole, nat, _⊕_, _⊖_, _≈_, mag, Within, int, All}
 use Rattle.units.specs.Rounding.{fl}
+use Rattle.units.specs.SignedRounding.{fl-zero}
+use Rattle.units.specs.Integers.{int-same, int-difference}
 use Rattle.units.specs.Walk as units
 use Rattle.units.specs.Extraction.{extract}
 use Rattle.units.specs.Turns.{tau-under, turn-left, turn-tau}
-use Rattle.ieee.specs.Units.{Number, Rounds, magnitude, negative, whole}
+use Rattle.ieee.specs.Units.{Number, Rounds, magnitude, negative, whole, signOf}
 use Rattle.ieee.specs.Rounded.{prec-pos}
 use Rattle.ieee.specs.Sum.{whole-mag}
 use Rattle.ieee.specs.Nearest.{number-rep}
@@ -29,6 +32,28 @@ pub record Small (f : Format) (most : ℕ) (x : Float) : Type 0 where
 
 abbrev pub wholes : Format → List Float → List Whole
 wholes f xs = map (whole f) xs
+
+-- a sum is -0 only where both operands are, so not where the first never is
+sum-plus : {f : Format} (x y : Float) {r : Float} → (magnitude f x ≡ 0 → negative x ≡ false) → Rounds f (negative x && negative y) (whole f x ⊕ whole f y) r
+    → magnitude f r ≡ 0 → negative r ≡ false
+unfolding whole
+sum-plus {f} x y {r} h R z = R .sign ∙ ap (signOf (negative x && negative y)) zero ∙ go (negative x) (negative y) refl refl
+  where
+    none : whole f x ⊕ whole f y ≈ nat 0
+    none = fl-zero (prec f) (prec-pos f) (whole f x ⊕ whole f y) (rw (R .units) at (empty (whole f r) (whole-mag f r ∙ z)))
+      where
+        empty : (a : Whole) → mag a ≡ 0 → a ≈ nat 0
+        empty a m = omega arith
+
+    zero : int (whole f x ⊕ whole f y) ≡ pos 0
+    zero = int-same (whole f x ⊕ whole f y) (nat 0) none ∙ int-difference (pos 0)
+
+    go : (s t : Bool) → negative x ≡ s → negative y ≡ t → (s && t) ≡ false
+    go false t e i = refl
+    go true false e i = refl
+    go true true e i =
+        let m : magnitude f x ≡ 0 = omega (arith, rw (e, i) at none) in
+        sym e ∙ h m
 
 -- sigma is 2^(M + e) units, with room above it
 pub record Scale (f : Format) (M e : ℕ) (sigma : Float) : Type 0 where
@@ -88,10 +113,11 @@ module _ {f : Format} {M e : ℕ} {sigma : Float} (σ : Scale f M e sigma) where
   remainders-units [] h = refl
   remainders-units (x ∷ xs) h = λ i. remainder-is (h .0) .units i ∷ remainders-units xs (h .1) i
 
-  -- ---- tau after c numbers were taken: a number, in units what `units/Turns` has
+  -- ---- tau after c numbers were taken: a number, in units what `units/Turns` has, and never -0
   pub record Tau (c : ℕ) (tau : Float) : Type 0 where
     pub number : Number f tau
     pub units : units.Tau (prec f) M e c (whole f tau)
+    pub plus : magnitude f tau ≡ 0 → negative tau ≡ false
 
   next-sum : {c : ℕ} {tau x : Float} → Tau c tau → Small f (2 ^ e) x → c < 2 ^ M
       → Rounds f (negative tau && negative (highPart f sigma x)) (whole f tau ⊕ whole f (highPart f sigma x)) (add f tau (highPart f sigma x))
@@ -106,9 +132,10 @@ module _ {f : Format} {M e : ℕ} {sigma : Float} (σ : Scale f M e sigma) where
   next-units {tau = tau} T X l = next-sum T X l .units ∙ ap (λ (q : Whole). fl (prec f) (whole f tau ⊕ q)) (high-is X .units)
 
   next-tau : {c : ℕ} {tau x : Float} → Tau c tau → Small f (2 ^ e) x → c < 2 ^ M → Tau (suc c) (add f tau (highPart f sigma x))
-  next-tau T X l = record {
+  next-tau {tau = tau} {x} T X l = record {
     number = next-sum T X l .number;
     units = rw (next-units T X l) (turn-tau (prec f) (prec-pos f) M e (σ .some) (σ .few) (T .units) (ready X) l);
+    plus = sum-plus tau (highPart f sigma x) (T .plus) (next-sum T X l);
   }
 
   pub gathers : (xs : List Float) {c : ℕ} {tau : Float} → Tau c tau → Each (Small f (2 ^ e)) xs → c + length xs ≤ 2 ^ M

@@ -1,0 +1,134 @@
+-- A round in the middle, whatever blocks were taken in whatever order: the state is a function of the pending set, it is sound, each pending block is
+-- accepted, and after the last the round closes as in rising order. Assumes nothing.
+use mathlib.Core.Path.{_≡_, refl, sym, ap, _∙_}
+use mathlib.Core.Bool.{Bool, true, false, cond}
+use mathlib.Core.List.{List, [], _∷_, _++_, map}
+use Prim.Native.Nat.{ℕ, suc, _+_, _-_, _*_, _/_, _^_, _≤_, _<_}
+use native.Mathlib.Nat.{mul-comm, mul-le-mul-right, div-lt-iff-lt-mul, lt-div-mul-add}
+use native.Mathlib.Omega.{arith}
+use lib.ListN.{length, drop, length-map}
+use lib.Pow.{pow-add, pow-mono, pow-pos}
+use lib.Ieee.{Float, Format, prec}
+use Rattle.units.specs.Whole.{Whole, nat, _⊕_, _≈_, Within, total}
+use Rattle.units.specs.Ceiling.{ceil-ge}
+use Rattle.units.specs.Walk as units
+use Rattle.units.specs.Turns.{turns}
+use Rattle.ieee.specs.Units.{Number, magnitude, negative, whole}
+use Rattle.ieee.specs.Rounded.{prec-pos}
+use Rattle.ieee.specs.Sum.{whole-mag}
+use Rattle.lists.specs.Bitset.{has, without, full}
+use Rattle.lists.specs.BitsetLaws.{has-full, has-below, without-less}
+use Rattle.lists.specs.Each.{Each, each-take, each-drop}
+use Rattle.kinds.specs.Limits.{Width, exponentOf, blocksOf}
+use Rattle.kinds.specs.States.{stateOf}
+use Rattle.kinds.specs.declared.State.{State}
+use Rattle.extract.specs.Extract.{plusZero, gathered}
+use Rattle.walk.specs.Round.{blockOf}
+use Rattle.walk.specs.Fitting.{Fitting}
+use Rattle.walk.specs.InUnits.{Small, Tau, wholes, all-ready, gathers, left-small}
+use Rattle.walk.specs.Begun.{Begun, begun-rounds, first-tau}
+use Rattle.walk.specs.Stepping.{Stepping}
+use Rattle.runs.specs.CloseUnits.{zero-whole}
+use Rattle.runs.specs.Taken.{pendingAt, mixed, takenOf}
+use Rattle.runs.specs.TakenLaws.{taken-nothing, taken-fewer, mixed-each, mixed-length}
+use Rattle.runs.specs.OneBlock.{own-numbers, count-then, total-then}
+
+-- the high part of a float, in units
+abbrev pub highUnits : Format → ℕ → Float → Whole
+highUnits f k x = units.high (prec f) k (whole f x)
+
+high-list : (f : Format) (k : ℕ) (xs : List Float) → units.highs (prec f) k (wholes f xs) ≡ map (highUnits f k) xs
+high-list f k [] = refl
+high-list f k (x ∷ xs) = ap (λ (l : List Whole). highUnits f k x ∷ l) (high-list f k xs)
+
+-- tau after the blocks that aren't in P were taken: the exact sum of their numbers' high parts
+module _ {W : Width} {F : Fitting W} {e n : ℕ} {sigma t : Float} {rounds : ℕ} {xs : List Float} (B : Begun W F e n sigma t rounds xs) where
+  pub record Mid (P : ℕ) (tau : Float) : Type 0 where
+    pub inside : P < 2 ^ blocksOf W n
+    pub tau-is : Tau (B .scale) (length (takenOf (pendingAt W P) 0 xs)) tau
+    pub sum : whole (W .format) tau ≈ total (map (highUnits (W .format) (exponentOf n + e)) (takenOf (pendingAt W P) 0 xs))
+
+  count-small : (P : ℕ) → length (takenOf (pendingAt W P) 0 xs) ≤ n
+  count-small P = omega (arith, taken-fewer (pendingAt W P) 0 xs, B .count)
+
+  -- every place is in a block
+  block-below : (j : ℕ) → j < n → j / W .block < blocksOf W n
+  block-below j h = div-lt-iff-lt-mul {k = W .block} (F .block) .1
+      (omega (arith, lt-div-mul-add {a = n + (W .block - 1)} {b = W .block} (F .block), F .block))
+
+  pub mid-begins : Mid (full (blocksOf W n)) (plusZero (W .format))
+  mid-begins =
+      let none : takenOf (pendingAt W (full (blocksOf W n))) 0 xs ≡ [] =
+      taken-nothing (pendingAt W (full (blocksOf W n))) 0 xs (λ j l h. has-full (block-below j (omega (arith, B .count)))) in
+      record {
+        inside = omega (arith, pow-pos (blocksOf W n));
+        tau-is = rw none (first-tau B);
+        sum = rw (none, zero-whole (W .format)) refl;
+      }
+
+  pub mid-takes : {P : ℕ} {tau : Float} → Mid P tau → (b : ℕ) → has P b ≡ true
+      → Mid (without P b) (gathered (W .format) sigma tau (blockOf W b xs))
+  mid-takes {P} {tau} T b h = record {
+    inside = omega (arith, T .inside, without-less P b h);
+    tau-is = rw count (G .0);
+    sum = omega (arith, total-then W (F .block) xs b there P h (highUnits f k), T .sum, grown);
+  }
+    where
+      f : Format
+      f = W .format
+
+      k : ℕ
+      k = exponentOf n + e
+
+      block : List Float
+      block = blockOf W b xs
+
+      there : b < blocksOf W (length xs)
+      there = rw (B .count) (has-below P b h (blocksOf W n) (T .inside))
+
+      count : length (takenOf (pendingAt W (without P b)) 0 xs) ≡ length (takenOf (pendingAt W P) 0 xs) + length block
+      count = count-then W (F .block) xs b there P h
+
+      most : length (takenOf (pendingAt W P) 0 xs) + length block ≤ 2 ^ exponentOf n
+      most = omega (arith, count, count-small (without P b), ceil-ge (n + 2))
+
+      small : Each (Small f (2 ^ e)) block
+      small = each-take (Small f (2 ^ e)) (W .block) (drop (W .block * b) xs) (each-drop (Small f (2 ^ e)) (W .block * b) xs (B .work))
+
+      G : Tau (B .scale) (length (takenOf (pendingAt W P) 0 xs) + length block) (gathered f sigma tau block)
+          × (whole f (gathered f sigma tau block) ≡ units.gathered (prec f) k (whole f tau) (wholes f block))
+      G = gathers (B .scale) block (T .tau-is) small most
+
+      grown : whole f (gathered f sigma tau block) ≈ whole f tau ⊕ total (map (highUnits f k) block)
+      grown =
+          let c = length (takenOf (pendingAt W P) 0 xs) in
+          rw (G .1, ← (high-list f k block)) (turns (prec f) (prec-pos f) (exponentOf n) e (B .scale .some) (B .scale .few) (wholes f block) (c + length block)
+          (T .tau-is .units) (all-ready (B .scale) block small) (ap (λ (l : ℕ). c + l) (sym (length-map block (whole f)))) most .1)
+
+  -- ---- the state is sound
+  tau-small : {P : ℕ} {tau : Float} → Mid P tau → Small (W .format) (2 ^ F .bound) tau
+  tau-small {P} {tau} T =
+      let f = W .format in
+      let M = exponentOf n in
+      let c : length (takenOf (pendingAt W P) 0 xs) ≤ 2 ^ M = omega (arith, count-small P, ceil-ge (n + 2)) in
+      let most : 2 ^ (M + e) ≤ 2 ^ F .bound = pow-mono (omega (arith, F .most-is n (B .few), B .lowered, F .tau-room)) in
+      record {
+        number = T .tau-is .number;
+        within = omega (arith, T .tau-is .units .small, whole-mag f tau, mul-le-mul-right (2 ^ e) c, pow-add 2 M e, most);
+      }
+
+  pub mid-stepping : {P : ℕ} {tau : Float} → Mid P tau → 0 < P
+      → Stepping W F e (stateOf n sigma t tau P rounds) (mixed (W .format) sigma (pendingAt W P) 0 xs)
+  mid-stepping {P} T l = record {
+    some = B .some;
+    few = B .few;
+    count = mixed-length (pendingAt W P) (W .format) sigma 0 xs ∙ B .count;
+    rounds = begun-rounds B;
+    low = omega (arith, B .lowered);
+    scale = B .scale;
+    t = B .kept;
+    tau = tau-small T;
+    work = mixed-each (pendingAt W P) (W .format) sigma (Small (W .format) (2 ^ e)) (λ x X. left-small (B .scale) X) 0 xs (B .work);
+    left = l;
+    inside = T .inside;
+  }
