@@ -37,7 +37,7 @@ use Rattle.runs.specs.OneBlock.{own-numbers, count-then, total-then}
 abbrev pub highUnits : Format → ℕ → Float → Whole
 highUnits f k x = units.high (prec f) k (whole f x)
 
-high-list : (f : Format) (k : ℕ) (xs : List Float) → units.highs (prec f) k (wholes f xs) ≡ map (highUnits f k) xs
+pub high-list : (f : Format) (k : ℕ) (xs : List Float) → units.highs (prec f) k (wholes f xs) ≡ map (highUnits f k) xs
 high-list f k [] = refl
 high-list f k (x ∷ xs) = ap (λ (l : List Whole). highUnits f k x ∷ l) (high-list f k xs)
 
@@ -52,7 +52,7 @@ module _ {W : Width} {F : Fitting W} {e n : ℕ} {sigma t : Float} {rounds : ℕ
   count-small P = omega (arith, taken-fewer (pendingAt W P) 0 xs, B .count)
 
   -- every place is in a block
-  block-below : (j : ℕ) → j < n → j / W .block < blocksOf W n
+  pub block-below : (j : ℕ) → j < n → j / W .block < blocksOf W n
   block-below j h = div-lt-iff-lt-mul {k = W .block} (F .block) .1
       (omega (arith, lt-div-mul-add {a = n + (W .block - 1)} {b = W .block} (F .block), F .block))
 

@@ -1,0 +1,136 @@
+-- A step at a pending block in the middle of a round is accepted; after the last block the round closes as it does in rising order. Assumes nothing.
+use mathlib.Core.Path.{_≡_, refl, sym, ap, _∙_}
+use mathlib.Core.Bool.{Bool, true, false, cond}
+use mathlib.Core.List.{List, map}
+use Prim.Native.Nat.{ℕ, zero, suc, _+_, _^_, _/_, _≤_, _<_}
+use native.Mathlib.Nat.{zero-div}
+use native.Mathlib.Omega.{arith}
+use borrow.Author.Tests.{eq-eqb, ne-eqb}
+use lib.Dec.{eqb, leb}
+use lib.IntN.{natAbs}
+use lib.ListN.{length, length-map}
+use lib.Ieee.{Float, Format, prec}
+use Rattle.units.specs.Whole.{Whole, nat, _≈_, total, int}
+use Rattle.units.specs.Integers.{int-same}
+use Rattle.units.specs.Ceiling.{ceil-ge}
+use Rattle.units.specs.Walk as units
+use Rattle.units.specs.Turns.{turns, tau-zero}
+use Rattle.ieee.specs.Units.{Number, magnitude, negative, value, whole}
+use Rattle.ieee.specs.Finite.{same-float}
+use Rattle.ieee.specs.Rounded.{prec-pos}
+use Rattle.ieee.specs.Sum.{value-int, value-mag}
+use Rattle.lists.specs.Bitset.{has, without}
+use Rattle.lists.specs.BitsetLaws.{has-below}
+use Rattle.kinds.specs.Limits.{Width, exponentOf, blocksOf}
+use Rattle.kinds.specs.States.{stateOf}
+use Rattle.kinds.specs.declared.State.{State}
+use Rattle.kinds.specs.declared.Step.the-variants.{More}
+use Rattle.kinds.specs.declared.Verdict.{Verdict}
+use Rattle.kinds.specs.declared.Verdict.the-variants.{Good, Refused}
+use Rattle.extract.specs.Extract.{plusZero, remainders, gathered}
+use Rattle.sound.specs.Sound.{gated}
+use Rattle.walk.specs.Round.{blockOf, turned, closed}
+use Rattle.walk.specs.Walk.{Walked, walked, takenState, taken, stepped, steppedAfter}
+use Rattle.walk.specs.StepLaws.{stepped-good, taken-closes, taken-goes}
+use Rattle.walk.specs.Fitting.{Fitting}
+use Rattle.walk.specs.InUnits.{Tau, wholes, all-ready, gathers}
+use Rattle.walk.specs.Begun.{Begun, first-tau}
+use Rattle.walk.specs.Stepping.{stepping-sound, stepping-accepted}
+use Rattle.runs.specs.CloseUnits.{zero-whole}
+use Rattle.runs.specs.Taken.{pendingAt, mixed, takenOf}
+use Rattle.runs.specs.TakenLaws.{taken-all, mixed-all}
+use Rattle.runs.specs.OneBlock.{own-numbers, own-block}
+use Rattle.runs.specs.MidRound.{Mid, highUnits, high-list, mid-takes, mid-stepping}
+
+-- the empty set has no member
+pub empty-has : (b : ℕ) → has 0 b ≡ false
+empty-has b = rw (zero-div (2 ^ b))
+
+pub has-positive : (P b : ℕ) → has P b ≡ true → 0 < P
+has-positive zero b h = let z : _≡_ {A = Bool} true false = sym h ∙ empty-has b in let c : _≡_ {A = ℕ} 0 1 = cc in absurd (omega arith)
+has-positive (suc P) b h = omega arith
+
+module _ {W : Width} {F : Fitting W} {e n : ℕ} {sigma t : Float} {rounds : ℕ} {xs : List Float} (B : Begun W F e n sigma t rounds xs) where
+  -- ---- all blocks taken: tau and the area are those of the rising order
+  all-of : takenOf (pendingAt W 0) 0 xs ≡ xs
+  all-of = taken-all (pendingAt W 0) 0 xs (λ j l h. empty-has (j / W .block))
+
+  all-left : mixed (W .format) sigma (pendingAt W 0) 0 xs ≡ remainders (W .format) sigma xs
+  all-left = mixed-all (pendingAt W 0) (W .format) sigma 0 xs (λ j l h. empty-has (j / W .block))
+
+  risen : Tau (B .scale) (length xs) (gathered (W .format) sigma (plusZero (W .format)) xs)
+      × (whole (W .format) (gathered (W .format) sigma (plusZero (W .format)) xs) ≈ total (map (highUnits (W .format) (exponentOf n + e)) xs))
+  risen =
+      let f = W .format in
+      let k = exponentOf n + e in
+      let most : length xs ≤ 2 ^ exponentOf n = omega (arith, B .count, ceil-ge (n + 2)) in
+      let z : 0 + length xs ≡ length xs = omega arith in
+      let G = gathers (B .scale) xs (first-tau B) (B .work) (omega arith) in
+      let T = turns (prec f) (prec-pos f) (exponentOf n) e (B .scale .some) (B .scale .few) (wholes f xs) (length xs) (tau-zero (prec f) (exponentOf n) e)
+      (all-ready (B .scale) xs (B .work)) (sym z ∙ ap (λ (l : ℕ). 0 + l) (sym (length-map xs (whole f)))) most in
+      (rw z at (G .0), rw (G .1, zero-whole f, ← (high-list f k xs)) (omega (arith, T .1)))
+
+  -- a float is its units where it isn't -0
+  same : {x y : Float} {c d : ℕ} → Tau (B .scale) c x → Tau (B .scale) d y → whole (W .format) x ≈ whole (W .format) y → x ≡ y
+  same {x} {y} X Y h =
+      let f = W .format in
+      let v : value f x ≡ value f y = value-int f x ∙ int-same (whole f x) (whole f y) h ∙ sym (value-int f y) in
+      same-float (X .number) (Y .number) v
+      (λ z. X .plus (sym (value-mag f x) ∙ ap natAbs z) ∙ sym (Y .plus (sym (value-mag f y) ∙ ap natAbs (sym v ∙ z))))
+
+  last-tau : {tau : Float} → Mid B 0 tau → tau ≡ gathered (W .format) sigma (plusZero (W .format)) xs
+  last-tau T = same (T .tau-is) (risen .0) (omega (arith, rw all-of at (T .sum), risen .1))
+
+  -- ---- one block
+  there : {P : ℕ} {tau : Float} → Mid B P tau → (b : ℕ) → has P b ≡ true → b < blocksOf W (length xs)
+  there {P} T b h = rw (B .count) (has-below P b h (blocksOf W n) (T .inside))
+
+  step-state : {P : ℕ} {tau : Float} → Mid B P tau → (b : ℕ) → has P b ≡ true
+      → takenState W (stateOf n sigma t tau P rounds) b (mixed (W .format) sigma (pendingAt W P) 0 xs)
+      ≡ stateOf n sigma t (gathered (W .format) sigma tau (blockOf W b xs)) (without P b) rounds
+  step-state {P} {tau} T b h =
+      λ i. stateOf n sigma t (gathered (W .format) sigma tau (own-numbers W (F .block) xs b (there T b h) P h sigma i)) (without P b) rounds
+
+  pub mid-accepted : {P : ℕ} {tau : Float} → Mid B P tau → (b : ℕ) → has P b ≡ true
+      → gated W (stateOf n sigma t tau P rounds) b (mixed (W .format) sigma (pendingAt W P) 0 xs) ≡ Good
+  mid-accepted {P} T b h = stepping-accepted (mid-stepping B T (has-positive P b h)) b (has-below P b h (blocksOf W n) (T .inside)) h
+
+  -- it isn't the last
+  pub mid-goes : {P : ℕ} {tau : Float} → Mid B P tau → (b : ℕ) → has P b ≡ true → (without P b ≡ 0 → ⊥)
+      → stepped W (stateOf n sigma t tau P rounds) b (mixed (W .format) sigma (pendingAt W P) 0 xs)
+      ≡ walked (More (stateOf n sigma t (gathered (W .format) sigma tau (blockOf W b xs)) (without P b) rounds))
+      (mixed (W .format) sigma (pendingAt W (without P b)) 0 xs)
+  mid-goes {P} {tau} T b h z =
+      let s = stateOf n sigma t tau P rounds in
+      let work = mixed (W .format) sigma (pendingAt W P) 0 xs in
+      sym (stepped-good W s b work (gated W s b work) (mid-accepted T b h))
+      ∙ sym (taken-goes W s b work (stateOf n sigma t (gathered (W .format) sigma tau (blockOf W b xs)) (without P b) rounds) _
+      (sym (step-state T b h)) (sym (own-block W (F .block) xs b (there T b h) P h sigma)) z)
+
+  -- it is
+  pub mid-closes : {P : ℕ} {tau : Float} → Mid B P tau → (b : ℕ) → has P b ≡ true → without P b ≡ 0
+      → stepped W (stateOf n sigma t tau P rounds) b (mixed (W .format) sigma (pendingAt W P) 0 xs)
+      ≡ walked (closed W (stateOf n sigma t (gathered (W .format) sigma (plusZero (W .format)) xs) 0 rounds) (remainders (W .format) sigma xs))
+      (remainders (W .format) sigma xs)
+  mid-closes {P} {tau} T b h z =
+      let s = stateOf n sigma t tau P rounds in
+      let work = mixed (W .format) sigma (pendingAt W P) 0 xs in
+      let next = stateOf n sigma t (gathered (W .format) sigma tau (blockOf W b xs)) (without P b) rounds in
+      let last = last-tau (rw z at (mid-takes B T b h)) in
+      let area = ap (λ (Q : ℕ). mixed (W .format) sigma (pendingAt W Q) 0 xs) z ∙ all-left in
+      sym (stepped-good W s b work (gated W s b work) (mid-accepted T b h))
+      ∙ sym (taken-closes W s b work next _ (sym (step-state T b h)) (sym (own-block W (F .block) xs b (there T b h) P h sigma)) _ z refl)
+      ∙ (λ i. walked (closed W (stateOf n sigma t (last i) (z i) rounds) (area i)) (area i))
+
+  -- a block that isn't pending is refused with 6 or 7
+  pub mid-refused : {P : ℕ} {tau : Float} → Mid B P tau → 0 < P → (b : ℕ) → has P b ≡ false
+      → gated W (stateOf n sigma t tau P rounds) b (mixed (W .format) sigma (pendingAt W P) 0 xs)
+      ≡ Refused (cond (leb (blocksOf W n) b) 6 7) 0
+  unfolding gated
+  mid-refused {P} T l b h =
+      let I = mid-stepping B T l in
+      simp (eq-eqb _ _ (I .count), stepping-sound I, h) (go (leb (blocksOf W n) b))
+    where
+      go : (c : Bool) → cond c (Refused 6 0) (Refused 7 0) ≡ Refused (cond c 6 7) 0
+      go true = refl
+      go false = refl

@@ -1,0 +1,229 @@
+-- Every run over an accepted list is in a round of the walk that the undivided call walks, or has ended as that call does; the accepted steps are counted.
+-- Assumes nothing.
+use mathlib.Core.Path.{_≡_, refl, sym, ap, _∙_, subst}
+use mathlib.Core.Logic.{_⊎_, inl, inr}
+use mathlib.Core.Bool.{Bool, true, false, cond}
+use mathlib.Core.List.{List, [], _∷_, foldl}
+use Prim.Native.Nat.{ℕ, zero, suc, _+_, _-_, _*_, _^_, _≤_, _<_}
+use native.Mathlib.Nat.{suc-mul, zero-mul}
+use native.Mathlib.Numerals.{add-one}
+use native.Mathlib.Omega.{arith}
+use borrow.Author.Tests.{eqb-true, eqb-false}
+use lib.Dec.{eqb, leb}
+use lib.ListN.{length}
+use lib.Ieee.{Float}
+use Rattle.units.specs.Whole.{Whole, difference}
+use Rattle.lists.specs.Bitset.{has, without, full}
+use Rattle.lists.specs.BitsetLaws.{has-below, has-full}
+use Rattle.kinds.specs.Limits.{Width, blocksOf}
+use Rattle.kinds.specs.States.{stateOf}
+use Rattle.kinds.specs.declared.State.{State}
+use Rattle.kinds.specs.declared.Step.{Step}
+use Rattle.kinds.specs.declared.Step.the-variants.{More, Done, Refused}
+use Rattle.sums.specs.Sums.{sumOf}
+use Rattle.extract.specs.Extract.{plusZero, remainders, gathered}
+use Rattle.walk.specs.Round.{blockOf, roundOf, closed}
+use Rattle.walk.specs.Walk.{Walked, walked, roundsFrom, stepped, faithfulOf}
+use Rattle.sound.specs.Sound.{gated}
+use Rattle.walk.specs.StepLaws.{stepped-refused}
+use Rattle.walk.specs.Fitting.{Fitting}
+use Rattle.walk.specs.Begun.{Begun, begun-rounds}
+use Rattle.walk.specs.Run.{Running, run-ends, run-goes}
+use Rattle.runs.specs.Taken.{pendingAt, mixed}
+use Rattle.runs.specs.TakenLaws.{mixed-nothing}
+use Rattle.runs.specs.Summing.{Summing}
+use Rattle.runs.specs.SumRun.{Closed, ends, goes, sums-close}
+use Rattle.runs.specs.MidRound.{Mid, mid-begins, mid-takes, block-below}
+use Rattle.runs.specs.MidStep.{has-positive, mid-goes, mid-closes, mid-refused}
+use Rattle.runs.specs.Runs.{Ran, heeded, tried}
+use Rattle.runs.specs.MembersLaws.{members-none, members-full, members-without, members-most}
+use Rattle.runs.specs.Runs.{members}
+
+tried-more : (W : Width) (r : Ran) (b : ℕ) (s : State) (xs : List Float) → r .walk ≡ walked (More s) xs → tried W r b ≡ heeded r (stepped W s b xs)
+tried-more W r b s xs e = rw e
+
+module _ (W : Width) (F : Fitting W) (ps : List ℕ) (work : List Float) where
+  -- in a round of the walk over the list: its numbers sum to S, some blocks are pending, and what follows from its opening is the undivided call
+  pub record During (r : Ran) : Type 0 where
+    pub e : ℕ
+    pub sigma : Float
+    pub t : Float
+    pub rounds : ℕ
+    pub xs : List Float
+    pub summing : Summing W F (difference (sumOf (W .format) ps)) e (length ps) sigma t rounds xs
+    pub pending : ℕ
+    pub tau : Float
+    pub mid : Mid (summing .begun) pending tau
+    pub some : 0 < pending
+    pub walk : r .walk ≡ walked (More (stateOf (length ps) sigma t tau pending rounds)) (mixed (W .format) sigma (pendingAt W pending) 0 xs)
+    pub steps : r .steps + members pending (blocksOf W (length ps)) ≡ rounds * blocksOf W (length ps) + blocksOf W (length ps)
+    pub rest : roundsFrom W (blocksOf W (length ps)) (suc (W .rounds) - rounds) (walked (More (roundOf W (length ps) sigma t rounds)) xs)
+        ≡ faithfulOf W ps work
+
+  -- ended, as the undivided call does
+  pub record Over (r : Ran) : Type 0 where
+    pub sum : Float
+    pub rounds : ℕ
+    pub answer : r .walk .answer ≡ Done sum rounds
+    pub undivided : r .walk ≡ faithfulOf W ps work
+    pub steps : r .steps ≡ rounds * blocksOf W (length ps)
+
+  abbrev pub Reached : Ran → Type 0
+  Reached r = During r ⊎ Over r
+
+  -- ---- as a round opens
+  opening : {e : ℕ} {sigma t : Float} {rounds : ℕ} {xs : List Float} (A : Summing W F (difference (sumOf (W .format) ps)) e (length ps) sigma t rounds xs)
+      (r : Ran) → r .walk ≡ walked (More (roundOf W (length ps) sigma t rounds)) xs → r .steps ≡ rounds * blocksOf W (length ps)
+      → roundsFrom W (blocksOf W (length ps)) (suc (W .rounds) - rounds) (walked (More (roundOf W (length ps) sigma t rounds)) xs) ≡ faithfulOf W ps work
+      → During r
+  unfolding roundOf
+  opening {e} {sigma} {t} {rounds} {xs} A r w s h = record {
+    e = e;
+    sigma = sigma;
+    t = t;
+    rounds = rounds;
+    xs = xs;
+    summing = A;
+    pending = full B;
+    tau = plusZero (W .format);
+    mid = mid-begins (A .begun);
+    some = has-positive (full B) 0 (has-full blocks);
+    walk = w ∙ ap (λ (l : List Float). walked (More (roundOf W (length ps) sigma t rounds)) l) (sym whole);
+    steps = rw (members-full B) (omega (arith, s));
+    rest = h;
+  }
+    where
+      B : ℕ
+      B = blocksOf W (length ps)
+
+      blocks : 0 < B
+      blocks = let h = block-below (A .begun) 0 (A .begun .some) in omega arith
+
+      whole : mixed (W .format) sigma (pendingAt W (full (blocksOf W (length ps)))) 0 xs ≡ xs
+      whole = mixed-nothing (pendingAt W (full (blocksOf W (length ps)))) (W .format) sigma 0 xs
+          (λ j l h. has-full (block-below (A .begun) j (omega (arith, A .begun .count))))
+
+  -- ---- a step at a pending block
+  module _ (r : Ran) (D : During r) (b : ℕ) (h : has (D .pending) b ≡ true) where
+    n : ℕ
+    n = length ps
+
+    B : ℕ
+    B = blocksOf W (length ps)
+
+    state : State
+    state = stateOf (length ps) (D .sigma) (D .t) (D .tau) (D .pending) (D .rounds)
+
+    area : List Float
+    area = mixed (W .format) (D .sigma) (pendingAt W (D .pending)) 0 (D .xs)
+
+    trying : tried W r b ≡ heeded r (stepped W state b area)
+    unfolding state area
+    trying = tried-more W r b state area (D .walk)
+
+    below : b < blocksOf W (length ps)
+    below = has-below (D .pending) b h (blocksOf W (length ps)) (D .mid .inside)
+
+    fewer : members (without (D .pending) b) (blocksOf W (length ps)) + 1 ≡ members (D .pending) (blocksOf W (length ps))
+    fewer = members-without (D .pending) b (blocksOf W (length ps)) h below
+
+    -- not the last of the round
+    next : Walked
+    next = walked (More (stateOf (length ps) (D .sigma) (D .t) (gathered (W .format) (D .sigma) (D .tau) (blockOf W b (D .xs))) (without (D .pending) b) (D .rounds)))
+        (mixed (W .format) (D .sigma) (pendingAt W (without (D .pending) b)) 0 (D .xs))
+
+    goes-on : (without (D .pending) b ≡ 0 → ⊥) → During (tried W r b)
+    unfolding state area next
+    goes-on z = subst During (sym (trying ∙ ap (heeded r) (mid-goes (D .summing .begun) (D .mid) b h z))) (record {
+      e = D .e;
+      sigma = D .sigma;
+      t = D .t;
+      rounds = D .rounds;
+      xs = D .xs;
+      summing = D .summing;
+      pending = without (D .pending) b;
+      tau = gathered (W .format) (D .sigma) (D .tau) (blockOf W b (D .xs));
+      mid = mid-takes (D .summing .begun) (D .mid) b h;
+      some = omega (arith, z);
+      walk = refl;
+      steps = omega (arith, D .steps, fewer);
+      rest = D .rest;
+    })
+
+    -- the last: the round closes
+    left : List Float
+    left = remainders (W .format) (D .sigma) (D .xs)
+
+    first : State
+    first = roundOf W (length ps) (D .sigma) (D .t) (D .rounds)
+
+    running : Running W F (length ps) first (D .xs)
+    unfolding roundOf first
+    running = record { e = D .e; state = refl; begun = D .summing .begun }
+
+    k : ℕ
+    k = W .rounds - D .rounds
+
+    fuel : suc (W .rounds) - D .rounds ≡ suc k
+    unfolding k
+    fuel = omega (arith, begun-rounds (D .summing .begun))
+
+    closes : without (D .pending) b ≡ 0 → Reached (tried W r b)
+    unfolding state area left first k roundOf
+    closes z = subst Reached (sym (trying ∙ ap (heeded r) (mid-closes (D .summing .begun) (D .mid) b h z))) (go (sums-close (D .summing)) refl)
+      where
+        q : Step
+        q = closed W (stateOf (length ps) (D .sigma) (D .t) (gathered (W .format) (D .sigma) (plusZero (W .format)) (D .xs)) 0 (D .rounds)) left
+
+        count : r .steps + 1 ≡ (D .rounds + 1) * blocksOf W (length ps)
+        count =
+            let m : members (D .pending) (blocksOf W (length ps)) ≡ 1 = omega (arith, fewer, rw z at fewer, members-none (blocksOf W (length ps))) in
+            rw (add-one (D .rounds), suc-mul (D .rounds) (blocksOf W (length ps))) (omega (arith, D .steps))
+
+        go : {a : Step} → Closed W F (difference (sumOf (W .format) ps)) (length ps) (D .rounds) left a → q ≡ a → Reached (heeded r (walked a left))
+        go (ends x N G) e = inr (record {
+          sum = x;
+          rounds = D .rounds + 1;
+          answer = refl;
+          undivided = run-ends running k x (D .rounds + 1) e ∙ ap (λ (j : ℕ). roundsFrom W (blocksOf W (length ps)) j (walked (More first) (D .xs))) (sym fuel) ∙ D .rest;
+          steps = count;
+        })
+        go (goes e' sigma' t' A) e =
+            let next = roundOf W (length ps) sigma' t' (D .rounds + 1) in
+            let j : suc (W .rounds) - (D .rounds + 1) ≡ k = omega arith in
+            inl (opening A _ refl count
+            (ap (λ (j : ℕ). roundsFrom W (blocksOf W (length ps)) j (walked (More next) left)) j
+            ∙ sym (run-goes running k next e)
+            ∙ ap (λ (j : ℕ). roundsFrom W (blocksOf W (length ps)) j (walked (More first) (D .xs))) (sym fuel)
+            ∙ D .rest))
+
+    pub reached-accepts : Reached (tried W r b)
+    reached-accepts = go (eqb (without (D .pending) b) 0) refl
+      where
+        go : (c : Bool) → eqb (without (D .pending) b) 0 ≡ c → Reached (tried W r b)
+        go true e = closes (eqb-true _ 0 e)
+        go false e = inl (goes-on (eqb-false _ 0 e))
+
+  -- ---- a step at any other block leaves the run as it is
+  pub reached-refuses : (r : Ran) (D : During r) (b : ℕ) → has (D .pending) b ≡ false → tried W r b ≡ r
+  reached-refuses r D b h =
+      let s = stateOf (length ps) (D .sigma) (D .t) (D .tau) (D .pending) (D .rounds) in
+      let area = mixed (W .format) (D .sigma) (pendingAt W (D .pending)) 0 (D .xs) in
+      let e : stepped W s b area ≡ walked (Refused (cond (leb (blocksOf W (length ps)) b) 6 7) 0) area =
+      sym (stepped-refused W s b area (gated W s b area) _ _ (mid-refused (D .summing .begun) (D .mid) (D .some) b h)) in
+      tried-more W r b s area (D .walk) ∙ ap (heeded r) e
+
+  pub reached-step : (r : Ran) → Reached r → (b : ℕ) → Reached (tried W r b)
+  reached-step r (inl D) b = go (has (D .pending) b) refl
+    where
+      go : (c : Bool) → has (D .pending) b ≡ c → Reached (tried W r b)
+      go true h = reached-accepts r D b h
+      go false h = inl (rw (reached-refuses r D b h) D)
+  reached-step r (inr O) b = inr (rw still O)
+    where
+      still : tried W r b ≡ r
+      still = rw (O .answer)
+
+  pub reached-run : (bs : List ℕ) (r : Ran) → Reached r → Reached (foldl (tried W) r bs)
+  reached-run [] r h = h
+  reached-run (b ∷ bs) r h = reached-run bs (tried W r b) (reached-step r h b)

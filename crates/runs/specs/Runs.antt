@@ -1,0 +1,41 @@
+-- A run: an opening, then steps at blocks in any order, each with the state and the work area that the opening or the last accepted step left; refused steps
+-- may stand between. Definitions only.
+use mathlib.Core.Bool.{cond}
+use mathlib.Core.List.{List, foldl}
+use Prim.Native.Nat.{ℕ, zero, suc, _+_}
+use lib.Ieee.{Float}
+use Rattle.lists.specs.Bitset.{has}
+use Rattle.kinds.specs.Limits.{Width}
+use Rattle.kinds.specs.declared.Step.{Step}
+use Rattle.kinds.specs.declared.Step.the-variants.{More, Done, Refused}
+use Rattle.walk.specs.Walk.{Walked, opened, stepped}
+
+-- what the opening or the last accepted step left, and how many steps were accepted
+pub record Ran : Type 0 where
+  pub walk : Walked
+  pub steps : ℕ
+
+-- a step that was tried: a refused one leaves the run as it is
+abbrev pub heeded : Ran → Walked → Ran
+heeded r w = by (w .answer)
+  where
+    by : Step → Ran
+    by (More s) = record { walk = w; steps = r .steps + 1 }
+    by (Done x k) = record { walk = w; steps = r .steps + 1 }
+    by (Refused k p) = r
+
+abbrev pub tried : Width → Ran → ℕ → Ran
+tried W r b = by (r .walk .answer)
+  where
+    by : Step → Ran
+    by (More s) = heeded r (stepped W s b (r .walk .work))
+    by (Done x k) = r
+    by (Refused k p) = r
+
+abbrev pub runOf : Width → List ℕ → List Float → List ℕ → Ran
+runOf W ps work bs = foldl (tried W) (record { walk = opened W ps work; steps = 0 }) bs
+
+-- how many of the numbers below count are in a set
+unfoldable pub members : ℕ → ℕ → ℕ
+members P zero = 0
+members P (suc count) = cond (has P count) 1 0 + members P count
