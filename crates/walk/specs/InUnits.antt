@@ -15,7 +15,7 @@ use Rattle.units.specs.SignedRounding.{fl-zero}
 use Rattle.units.specs.Integers.{int-same, int-difference}
 use Rattle.units.specs.Walk as units
 use Rattle.units.specs.Extraction.{extract}
-use Rattle.units.specs.Turns.{tau-under, turn-left, turn-tau}
+use Rattle.units.specs.Turns.{tau-under, turn-left, turn-exact, turn-tau}
 use Rattle.ieee.specs.Units.{Number, Rounds, magnitude, negative, whole, signOf}
 use Rattle.ieee.specs.Rounded.{prec-pos}
 use Rattle.ieee.specs.Sum.{whole-mag}
@@ -77,6 +77,10 @@ module _ {f : Format} {M e : ℕ} {sigma : Float} (σ : Scale f M e sigma) where
   inside : {x : Float} → Small f (2 ^ e) x → Within (whole f x) (2 ^ (M + e))
   inside {x} X = omega (arith, whole-mag f x, X .within, pow-mono {i = e} {j = M + e} (omega arith))
 
+  raised-rounds : {x : Float} → Small f (2 ^ e) x → Rounds f (negative sigma && negative x) (whole f sigma ⊕ whole f x) (add f sigma x)
+  raised-rounds {x} X = add-rounds (σ .power .number) (X .number) (M + e + 1) (omega (arith, σ .room))
+      (rw (sigma-whole, pow-add 2 (M + e) 1) (omega (arith, inside X)))
+
   high-is : {x : Float} → Small f (2 ^ e) x
       → Rounds f (negative (add f sigma x) && not (negative sigma)) (fl (prec f) (nat (2 ^ (M + e)) ⊕ whole f x) ⊖ nat (2 ^ (M + e))) (highPart f sigma x)
   high-is X = high-rounds (σ .power .number) (X .number) (M + e) (σ .room) sigma-whole (inside X)
@@ -113,6 +117,22 @@ module _ {f : Format} {M e : ℕ} {sigma : Float} (σ : Scale f M e sigma) where
   remainders-units [] h = refl
   remainders-units (x ∷ xs) h = λ i. remainder-is (h .0) .units i ∷ remainders-units xs (h .1) i
 
+  -- ---- "For each place both subtractions are exact: in units q is (sigma + p rounded) less sigma, and the remainder is p less q."
+  pub record Exact (x : Float) : Type 0 where
+    pub raised : whole f (add f sigma x) ≡ fl (prec f) (whole f sigma ⊕ whole f x)
+    pub high : whole f (highPart f sigma x) ≈ whole f (add f sigma x) ⊖ whole f sigma
+    pub remainder : whole f (remainderOf f sigma x) ≈ whole f x ⊖ whole f (highPart f sigma x)
+
+  pub taken-exact : {x : Float} → Small f (2 ^ e) x → Exact x
+  taken-exact {x} X =
+      let E = extract (prec f) (prec-pos f) M e (σ .some) (σ .few) (ready X .rep) (ready X .small) in
+      let r = raised-rounds X in
+      record {
+        raised = r .units;
+        high = rw (high-is X .units, r .units, sigma-whole) (E .high-is);
+        remainder = rw (remainder-is X .units, high-is X .units) (E .remainder-is);
+      }
+
   -- ---- tau after c numbers were taken: a number, in units what `units/Turns` has, and never -0
   pub record Tau (c : ℕ) (tau : Float) : Type 0 where
     pub number : Number f tau
@@ -137,6 +157,11 @@ module _ {f : Format} {M e : ℕ} {sigma : Float} (σ : Scale f M e sigma) where
     units = rw (next-units T X l) (turn-tau (prec f) (prec-pos f) M e (σ .some) (σ .few) (T .units) (ready X) l);
     plus = sum-plus tau (highPart f sigma x) (T .plus) (next-sum T X l);
   }
+
+  -- "The additions to tau are exact"
+  pub tau-exact : {c : ℕ} {tau x : Float} → Tau c tau → Small f (2 ^ e) x → c < 2 ^ M
+      → whole f (add f tau (highPart f sigma x)) ≈ whole f tau ⊕ whole f (highPart f sigma x)
+  tau-exact T X l = rw (next-units T X l, high-is X .units) (turn-exact (prec f) (prec-pos f) M e (σ .some) (σ .few) (T .units) (ready X) l)
 
   pub gathers : (xs : List Float) {c : ℕ} {tau : Float} → Tau c tau → Each (Small f (2 ^ e)) xs → c + length xs ≤ 2 ^ M
       → Tau (c + length xs) (gathered f sigma tau xs)
