@@ -8,7 +8,10 @@ pub mod Taken
 pub mod TakenLaws
 pub mod OneBlock
 pub mod MidRound
+pub mod Conserved
 pub mod MidStep
 pub mod Runs
 pub mod MembersLaws
 pub mod Reached
+pub mod OrderLaws
+pub mod AnyOrder

@@ -1,14 +1,15 @@
 -- A run: an opening, then steps at blocks in any order, each with the state and the work area that the opening or the last accepted step left; refused steps
 -- may stand between. Definitions only.
-use mathlib.Core.Bool.{cond}
-use mathlib.Core.List.{List, foldl}
+use mathlib.Core.Bool.{Bool, cond, _&&_}
+use mathlib.Core.List.{List, [], _∷_, foldl}
 use Prim.Native.Nat.{ℕ, zero, suc, _+_}
+use lib.Dec.{eqb}
 use lib.Ieee.{Float}
-use Rattle.lists.specs.Bitset.{has}
+use Rattle.lists.specs.Bitset.{has, without}
 use Rattle.kinds.specs.Limits.{Width}
 use Rattle.kinds.specs.declared.Step.{Step}
 use Rattle.kinds.specs.declared.Step.the-variants.{More, Done, Refused}
-use Rattle.walk.specs.Walk.{Walked, opened, stepped}
+use Rattle.walk.specs.Walk.{Walked, opened, stepped, onward}
 
 -- what the opening or the last accepted step left, and how many steps were accepted
 pub record Ran : Type 0 where
@@ -39,3 +40,13 @@ runOf W ps work bs = foldl (tried W) (record { walk = opened W ps work; steps = 
 unfoldable pub members : ℕ → ℕ → ℕ
 members P zero = 0
 members P (suc count) = cond (has P count) 1 0 + members P count
+
+-- bs are the members of P, each once
+unfoldable pub once : ℕ → List ℕ → Bool
+once P [] = eqb P 0
+once P (b ∷ bs) = has P b && once (without P b) bs
+
+-- that many rounds from round i on, each with its blocks in the order that π gives for it
+unfoldable pub ordered : Width → (ℕ → List ℕ) → ℕ → ℕ → Walked → Walked
+ordered W π zero i w = w
+ordered W π (suc k) i w = ordered W π k (suc i) (foldl (onward W) w (π i))

@@ -53,17 +53,17 @@ pub record Summing (W : Width) (F : Fitting W) (S : Whole) (e n : ℕ) (sigma t 
   pub opened : units.Opened (prec (W .format)) (exponentOf n) n e S (whole (W .format) t) (wholes (W .format) xs)
 
 -- tau and the work area as it closes
-abbrev tauOf : Width → Float → List Float → Float
+abbrev pub tauOf : Width → Float → List Float → Float
 tauOf W sigma xs = gathered (W .format) sigma (plusZero (W .format)) xs
 
-abbrev leftOf : Width → Float → List Float → List Float
+abbrev pub leftOf : Width → Float → List Float → List Float
 leftOf W sigma xs = remainders (W .format) sigma xs
 
 module _ {W : Width} {F : Fitting W} {S : Whole} {e n : ℕ} {sigma t : Float} {rounds : ℕ} {xs : List Float} (A : Summing W F S e n sigma t rounds xs) where
-  few : n + 2 ≤ 2 ^ exponentOf n
+  pub few : n + 2 ≤ 2 ^ exponentOf n
   few = ceil-ge (n + 2)
 
-  two : 2 ≤ exponentOf n
+  pub two : 2 ≤ exponentOf n
   two = large (exponentOf n) few
     where
       large : (M : ℕ) → n + 2 ≤ 2 ^ M → 2 ≤ M
@@ -71,7 +71,7 @@ module _ {W : Width} {F : Fitting W} {S : Whole} {e n : ℕ} {sigma t : Float} {
       large (suc zero) h = absurd (omega (arith, A .begun .some))
       large (suc (suc M)) h = omega arith
 
-  half : exponentOf n + exponentOf n < prec (W .format)
+  pub half : exponentOf n + exponentOf n < prec (W .format)
   half = omega (arith, F .most-is n (A .begun .few), F .half)
 
   tau-units : whole (W .format) (tauOf W sigma xs) ≡ units.gathered (prec (W .format)) (exponentOf n + e) (nat 0) (wholes (W .format) xs)
@@ -87,7 +87,7 @@ module _ {W : Width} {F : Fitting W} {S : Whole} {e n : ℕ} {sigma t : Float} {
       (all-ready σ xs (A .begun .work)) (omega (arith, A .opened .count)) (omega (arith, few)) in
       rw tau-units (record { sum = omega (arith, T .1) })
 
-  closes : units.Closed (prec (W .format)) (exponentOf n) n e S (whole (W .format) t) (whole (W .format) (tauOf W sigma xs))
+  pub closes : units.Closed (prec (W .format)) (exponentOf n) n e S (whole (W .format) t) (whole (W .format) (tauOf W sigma xs))
       (wholes (W .format) (leftOf W sigma xs))
   closes =
       let f = W .format in

@@ -85,6 +85,9 @@ module _ {f : Format} {M e : ℕ} {sigma : Float} (σ : Scale f M e sigma) where
       → Rounds f (negative (add f sigma x) && not (negative sigma)) (fl (prec f) (nat (2 ^ (M + e)) ⊕ whole f x) ⊖ nat (2 ^ (M + e))) (highPart f sigma x)
   high-is X = high-rounds (σ .power .number) (X .number) (M + e) (σ .room) sigma-whole (inside X)
 
+  pub high-units : {x : Float} → Small f (2 ^ e) x → whole f (highPart f sigma x) ≡ units.high (prec f) (M + e) (whole f x)
+  high-units X = high-is X .units
+
   remainder-is : {x : Float} → Small f (2 ^ e) x
       → Rounds f (negative x && not (negative (highPart f sigma x))) (whole f x ⊖ units.high (prec f) (M + e) (whole f x)) (remainderOf f sigma x)
   remainder-is X = remainder-rounds (σ .power .number) (X .number) (M + e) (σ .room) sigma-whole (inside X)

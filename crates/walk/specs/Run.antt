@@ -26,7 +26,7 @@ use Rattle.walk.specs.Rising.{round-closes}
 use Rattle.walk.specs.Closes.{Next, ends, goes, falls}
 
 module _ (W : Width) (blocks : ℕ) where
-  still : (x : Float) (r : ℕ) (ys : List Float) (bs : List ℕ) → foldl (onward W) (walked (Done x r) ys) bs ≡ walked (Done x r) ys
+  pub still : (x : Float) (r : ℕ) (ys : List Float) (bs : List ℕ) → foldl (onward W) (walked (Done x r) ys) bs ≡ walked (Done x r) ys
   still x r ys [] = refl
   still x r ys (b ∷ bs) = still x r ys bs
 
@@ -69,7 +69,7 @@ module _ {W : Width} {F : Fitting W} {n : ℕ} {s : State} {xs : List Float} (R 
       λ i. stateOf (same-n i) (s .sigma) (s .t) (gathered (W .format) (s .sigma) (tau i) xs) 0 (s .rounds)
 
   -- a round of it, and what may follow
-  run-round : (k : ℕ) → roundsFrom W (blocksOf W n) (suc k) (walked (More s) xs)
+  pub run-round : (k : ℕ) → roundsFrom W (blocksOf W n) (suc k) (walked (More s) xs)
       ≡ roundsFrom W (blocksOf W n) k (walked (closed W (allTaken W s xs) (allLeft W s xs)) (allLeft W s xs))
   unfolding roundsFrom
   run-round k = ap (roundsFrom W (blocksOf W n) k)

@@ -1,0 +1,133 @@
+-- The order of the blocks changes nothing: a round in any order of its blocks closes as in rising order, and the run with any order of blocks in each round is
+-- the undivided call's walk, every step accepted. Assumes nothing.
+use mathlib.Core.Path.{_≡_, refl, sym, ap, _∙_}
+use mathlib.Core.Logic.{_⊎_, inl, inr}
+use mathlib.Core.Bool.{Bool, true, false}
+use mathlib.Core.List.{List, [], _∷_, foldl, Perm}
+use Prim.Native.Nat.{ℕ, zero, suc, _+_, _<_}
+use native.Mathlib.Omega.{arith}
+use borrow.Author.Tests.{eqb-true, eqb-false}
+use lib.Dec.{T, eqb}
+use lib.ListN.{length}
+use lib.Ieee.{Float}
+use lib.Ieee.Fits.{and-l, and-r}
+use lib.Ieee.Bits.{is-true}
+use Rattle.lists.specs.Bitset.{has, without, full}
+use Rattle.lists.specs.BitsetLaws.{has-full}
+use Rattle.kinds.specs.Limits.{Width, blocksOf}
+use Rattle.kinds.specs.States.{stateOf}
+use Rattle.kinds.specs.declared.State.{State}
+use Rattle.kinds.specs.declared.Step.{Step}
+use Rattle.kinds.specs.declared.Step.the-variants.{More, Done, Refused}
+use Rattle.kinds.specs.declared.Verdict.the-variants.{Good}
+use Rattle.judge.specs.Judge.{floats}
+use Rattle.judge.specs.Table.{GivenWhen}
+use Rattle.extract.specs.Extract.{plusZero, remainders, gathered}
+use Rattle.walk.specs.Round.{allZero, blockOf, roundOf, closed}
+use Rattle.walk.specs.Walk.{Walked, walked, opened, onward, rising, roundsFrom, faithfulOf}
+use Rattle.walk.specs.Fitting.{Fitting}
+use Rattle.walk.specs.Begun.{Begun}
+use Rattle.walk.specs.Run.{Running, allTaken, allLeft, all-taken, still, run-round, run-running, run-accepted, run-done}
+use Rattle.runs.specs.Taken.{pendingAt, mixed}
+use Rattle.runs.specs.TakenLaws.{mixed-nothing}
+use Rattle.runs.specs.MidRound.{Mid, mid-begins, mid-takes, block-below}
+use Rattle.runs.specs.MidStep.{empty-has, has-positive, mid-goes, mid-closes}
+use Rattle.runs.specs.Runs.{once, ordered}
+use Rattle.runs.specs.OrderLaws.{once-permuted}
+use Rattle.runs.specs.OpenedSum.{opened-zero, opened-round, opened-summing}
+
+-- ---- one round
+module _ {W : Width} {F : Fitting W} {e n : ℕ} {sigma t : Float} {rounds : ℕ} {xs : List Float} (B : Begun W F e n sigma t rounds xs) where
+  -- the close, and the state and the area in the middle
+  end : Walked
+  end = walked (closed W (stateOf n sigma t (gathered (W .format) sigma (plusZero (W .format)) xs) 0 rounds) (remainders (W .format) sigma xs))
+      (remainders (W .format) sigma xs)
+
+  at : ℕ → Float → Walked
+  at P tau = walked (More (stateOf n sigma t tau P rounds)) (mixed (W .format) sigma (pendingAt W P) 0 xs)
+
+  -- after the last block nothing is left to take
+  ended : (bs : List ℕ) (P : ℕ) → P ≡ 0 → T (once P bs) → foldl (onward W) end bs ≡ end
+  unfolding once
+  ended [] P z o = refl
+  ended (b ∷ bs) P z o =
+      let f : _≡_ {A = Bool} true false = sym (is-true (has P b) (and-l (has P b) (once (without P b) bs) o)) ∙ rw z (empty-has b) in
+      let c : _≡_ {A = ℕ} 0 1 = cc in absurd (omega arith)
+
+  from : (bs : List ℕ) (P : ℕ) (tau : Float) → Mid B P tau → 0 < P → T (once P bs) → foldl (onward W) (at P tau) bs ≡ end
+  unfolding once at end
+  from [] P tau M l o = absurd (omega (arith, eqb-true P 0 (is-true (eqb P 0) o)))
+  from (b ∷ bs) P tau M l o = go (eqb (without P b) 0) refl (from bs (without P b) tau' (mid-takes B M b h))
+    where
+      h : has P b ≡ true
+      h = is-true (has P b) (and-l (has P b) (once (without P b) bs) o)
+
+      rest : T (once (without P b) bs)
+      rest = and-r (has P b) (once (without P b) bs) o
+
+      tau' : Float
+      tau' = gathered (W .format) sigma tau (blockOf W b xs)
+
+      go : (c : Bool) → eqb (without P b) 0 ≡ c
+          → (0 < without P b → T (once (without P b) bs) → foldl (onward W) (at (without P b) tau') bs ≡ end)
+          → foldl (onward W) (onward W (at P tau) b) bs ≡ end
+      go true z k = ap (λ (w : Walked). foldl (onward W) w bs) (mid-closes B M b h (eqb-true _ 0 z)) ∙ ended bs (without P b) (eqb-true _ 0 z) rest
+      go false z k =
+          let n = eqb-false (without P b) 0 z in
+          ap (λ (w : Walked). foldl (onward W) w bs) (mid-goes B M b h n) ∙ k (omega (arith, n)) rest
+
+  pub round-any-order : (bs : List ℕ) → T (once (full (blocksOf W n)) bs) → foldl (onward W) (walked (More (roundOf W n sigma t rounds)) xs) bs
+      ≡ walked (closed W (stateOf n sigma t (gathered (W .format) sigma (plusZero (W .format)) xs) 0 rounds) (remainders (W .format) sigma xs))
+      (remainders (W .format) sigma xs)
+  unfolding roundOf at end
+  round-any-order bs o =
+      let P = full (blocksOf W n) in
+      let blocks : 0 < blocksOf W n = let h = block-below B 0 (B .some) in omega arith in
+      let whole = mixed-nothing (pendingAt W P) (W .format) sigma 0 xs (λ j l h. has-full (block-below B j (omega (arith, B .count)))) in
+      ap (λ (l : List Float). foldl (onward W) (walked (More (roundOf W n sigma t rounds)) l) bs) (sym whole)
+      ∙ from bs P (plusZero (W .format)) (mid-begins B) (has-positive P 0 (has-full blocks)) o
+
+-- ---- rounds, each in an order of its own
+ordered-done : (W : Width) (π : ℕ → List ℕ) (k i : ℕ) (x : Float) (r : ℕ) (ys : List Float) → ordered W π k i (walked (Done x r) ys) ≡ walked (Done x r) ys
+unfolding ordered
+ordered-done W π zero i x r ys = refl
+ordered-done W π (suc k) i x r ys = ap (ordered W π k (suc i)) (still W 0 x r ys (π i)) ∙ ordered-done W π k (suc i) x r ys
+
+module _ (W : Width) (F : Fitting W) (n : ℕ) (π : ℕ → List ℕ) (each : (i : ℕ) → T (once (full (blocksOf W n)) (π i))) where
+  closing : {s : State} {xs : List Float} → Running W F n s xs → (i : ℕ)
+      → foldl (onward W) (walked (More s) xs) (π i) ≡ walked (closed W (allTaken W s xs) (allLeft W s xs)) (allLeft W s xs)
+  closing {s} {xs} R i =
+      (λ j. foldl (onward W) (walked (More (R .state j)) xs) (π i))
+      ∙ round-any-order (R .begun) (π i) (each i)
+      ∙ ap (λ (q : State). walked (closed W q (allLeft W s xs)) (allLeft W s xs)) (all-taken R)
+
+  ordered-run : (k i : ℕ) {s : State} {xs : List Float} → Running W F n s xs
+      → ordered W π k i (walked (More s) xs) ≡ roundsFrom W (blocksOf W n) k (walked (More s) xs)
+  unfolding ordered roundsFrom
+  ordered-run zero i R = refl
+  ordered-run (suc k) i {s} {xs} R =
+      ap (ordered W π k (suc i)) (closing R i)
+      ∙ agree (closed W (allTaken W s xs) (allLeft W s xs)) refl (λ s' e. ordered-run k (suc i) (run-running R s' e .0))
+      ∙ sym (run-round R k)
+    where
+      agree : (q : Step) → closed W (allTaken W s xs) (allLeft W s xs) ≡ q
+          → ((s' : State) → closed W (allTaken W s xs) (allLeft W s xs) ≡ More s'
+          → ordered W π k (suc i) (walked (More s') (allLeft W s xs)) ≡ roundsFrom W (blocksOf W n) k (walked (More s') (allLeft W s xs)))
+          → ordered W π k (suc i) (walked q (allLeft W s xs)) ≡ roundsFrom W (blocksOf W n) k (walked q (allLeft W s xs))
+      agree (Done x r) e h = ordered-done W π k (suc i) x r (allLeft W s xs) ∙ sym (run-done W (blocksOf W n) k x r (allLeft W s xs))
+      agree (Refused j p) e h = absurd (run-accepted R j p e)
+      agree (More s') e h = h s' e
+
+-- ---- "for every sequence of permutations of the blocks, one per round, that run exists and finishes", with the undivided call's answer, rounds and remainders
+module _ {W : Width} (F : Fitting W) (ps : List ℕ) (work : List Float) (G : GivenWhen W (eqb (length work) (length ps)) true ps Good) where
+  pub any-order : (π : ℕ → List ℕ) → ((i : ℕ) → Perm (π i) (rising (blocksOf W (length ps))))
+      → ordered W π (suc (W .rounds)) 0 (opened W ps work) ≡ faithfulOf W ps work
+  unfolding roundOf
+  any-order π each = go (allZero (W .format) (floats W ps)) refl
+    where
+      go : (b : Bool) → allZero (W .format) (floats W ps) ≡ b → ordered W π (suc (W .rounds)) 0 (opened W ps work) ≡ faithfulOf W ps work
+      go true a = rw (opened-zero F ps work G a)
+          (ordered-done W π (suc (W .rounds)) 0 _ 0 (floats W ps) ∙ sym (run-done W (blocksOf W (length ps)) (suc (W .rounds)) _ 0 (floats W ps)))
+      go false a = rw (opened-round F ps work G a)
+          (ordered-run W F (length ps) π (λ i. once-permuted (blocksOf W (length ps)) (each i)) (suc (W .rounds)) 0
+          (record { e = _; state = refl; begun = opened-summing F ps work G a .begun }))
