@@ -15,3 +15,5 @@ pub mod MembersLaws
 pub mod Reached
 pub mod OrderLaws
 pub mod AnyOrder
+pub mod Demand3
+pub mod Demand3Laws

@@ -48,7 +48,7 @@ module _ {W : Width} {F : Fitting W} {e n : ℕ} {sigma t : Float} {rounds : ℕ
     pub tau-is : Tau (B .scale) (length (takenOf (pendingAt W P) 0 xs)) tau
     pub sum : whole (W .format) tau ≈ total (map (highUnits (W .format) (exponentOf n + e)) (takenOf (pendingAt W P) 0 xs))
 
-  count-small : (P : ℕ) → length (takenOf (pendingAt W P) 0 xs) ≤ n
+  pub count-small : (P : ℕ) → length (takenOf (pendingAt W P) 0 xs) ≤ n
   count-small P = omega (arith, taken-fewer (pendingAt W P) 0 xs, B .count)
 
   -- every place is in a block

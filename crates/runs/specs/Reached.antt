@@ -11,19 +11,23 @@ use native.Mathlib.Omega.{arith}
 use borrow.Author.Tests.{eqb-true, eqb-false}
 use lib.Dec.{eqb, leb}
 use lib.ListN.{length}
-use lib.Ieee.{Float}
+use lib.Ieee.{Float, prec}
 use Rattle.units.specs.Whole.{Whole, difference}
 use Rattle.lists.specs.Bitset.{has, without, full}
 use Rattle.lists.specs.BitsetLaws.{has-below, has-full}
-use Rattle.kinds.specs.Limits.{Width, blocksOf}
+use Rattle.kinds.specs.Limits.{Width, exponentOf, blocksOf}
 use Rattle.kinds.specs.States.{stateOf}
 use Rattle.kinds.specs.declared.State.{State}
 use Rattle.kinds.specs.declared.Step.{Step}
 use Rattle.kinds.specs.declared.Step.the-variants.{More, Done, Refused}
+use Rattle.kinds.specs.declared.Verdict.the-variants.{Good}
+use Rattle.judge.specs.Judge.{floats}
+use Rattle.judge.specs.Table.{GivenWhen}
 use Rattle.sums.specs.Sums.{sumOf}
 use Rattle.extract.specs.Extract.{plusZero, remainders, gathered}
-use Rattle.walk.specs.Round.{blockOf, roundOf, closed}
-use Rattle.walk.specs.Walk.{Walked, walked, roundsFrom, stepped, faithfulOf}
+use Rattle.walk.specs.Round.{allZero, blockOf, roundOf, closed}
+use Rattle.walk.specs.Walk.{Walked, walked, opened, roundsFrom, stepped, faithfulOf}
+use Rattle.walk.specs.Undivided.{faithful-done}
 use Rattle.sound.specs.Sound.{gated}
 use Rattle.walk.specs.StepLaws.{stepped-refused}
 use Rattle.walk.specs.Fitting.{Fitting}
@@ -32,6 +36,7 @@ use Rattle.walk.specs.Run.{Running, run-ends, run-goes}
 use Rattle.runs.specs.Taken.{pendingAt, mixed}
 use Rattle.runs.specs.TakenLaws.{mixed-nothing}
 use Rattle.runs.specs.Summing.{Summing}
+use Rattle.runs.specs.OpenedSum.{zeroOf, opened-zero, opened-round, opened-summing}
 use Rattle.runs.specs.SumRun.{Closed, ends, goes, sums-close}
 use Rattle.runs.specs.MidRound.{Mid, mid-begins, mid-takes, block-below}
 use Rattle.runs.specs.MidStep.{has-positive, mid-goes, mid-closes, mid-refused}
@@ -67,6 +72,7 @@ module _ (W : Width) (F : Fitting W) (ps : List ℕ) (work : List Float) where
     pub answer : r .walk .answer ≡ Done sum rounds
     pub undivided : r .walk ≡ faithfulOf W ps work
     pub steps : r .steps ≡ rounds * blocksOf W (length ps)
+    pub lowered : (j : ℕ) → rounds ≡ suc j → j * (prec (W .format) - exponentOf (length ps)) ≤ F .top
 
   abbrev pub Reached : Ran → Type 0
   Reached r = During r ⊎ Over r
@@ -187,6 +193,7 @@ module _ (W : Width) (F : Fitting W) (ps : List ℕ) (work : List Float) where
           answer = refl;
           undivided = run-ends running k x (D .rounds + 1) e ∙ ap (λ (j : ℕ). roundsFrom W (blocksOf W (length ps)) j (walked (More first) (D .xs))) (sym fuel) ∙ D .rest;
           steps = count;
+          lowered = λ j i. let e : j ≡ D .rounds = omega arith in rw e (omega (arith, D .summing .begun .lowered));
         })
         go (goes e' sigma' t' A) e =
             let next = roundOf W (length ps) sigma' t' (D .rounds + 1) in
@@ -227,3 +234,27 @@ module _ (W : Width) (F : Fitting W) (ps : List ℕ) (work : List Float) where
   pub reached-run : (bs : List ℕ) (r : Ran) → Reached r → Reached (foldl (tried W) r bs)
   reached-run [] r h = h
   reached-run (b ∷ bs) r h = reached-run bs (tried W r b) (reached-step r h b)
+
+  -- ---- from the opening of an accepted list
+  pub reached-opens : GivenWhen W (eqb (length work) (length ps)) true ps Good → Reached (record { walk = opened W ps work; steps = 0 })
+  reached-opens G = go (allZero (W .format) (floats W ps)) refl
+    where
+      start : Ran
+      start = record { walk = opened W ps work; steps = 0 }
+
+      go : (b : Bool) → allZero (W .format) (floats W ps) ≡ b → Reached start
+      go true a =
+          let e = opened-zero F ps work G a in
+          inr (record {
+            sum = zeroOf W ps;
+            rounds = 0;
+            answer = ap (λ (w : Walked). w .answer) e;
+            undivided = e ∙ faithful-done F ps work (Done (zeroOf W ps) 0) (floats W ps) (sym e) _ 0 refl;
+            steps = sym (zero-mul (blocksOf W (length ps)));
+            lowered = λ j i. absurd (omega arith);
+          })
+      go false a =
+          let z : suc (W .rounds) - 0 ≡ suc (W .rounds) = omega arith in
+          let e = opened-round F ps work G a in
+          inl (opening (opened-summing F ps work G a) start e (sym (zero-mul (blocksOf W (length ps))))
+          (λ i. roundsFrom W (blocksOf W (length ps)) (z i) (sym e i)))

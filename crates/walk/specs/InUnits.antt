@@ -33,6 +33,18 @@ pub record Small (f : Format) (most : ℕ) (x : Float) : Type 0 where
 abbrev pub wholes : Format → List Float → List Whole
 wholes f xs = map (whole f) xs
 
+-- "For each place both subtractions are exact: in units q is (sigma + p rounded) less sigma, and the remainder is p less q."
+pub record Exact (f : Format) (sigma x : Float) : Type 0 where
+  pub raised : whole f (add f sigma x) ≡ fl (prec f) (whole f sigma ⊕ whole f x)
+  pub high : whole f (highPart f sigma x) ≈ whole f (add f sigma x) ⊖ whole f sigma
+  pub remainder : whole f (remainderOf f sigma x) ≈ whole f x ⊖ whole f (highPart f sigma x)
+
+-- "The additions to tau are exact": each of them, in rising order
+abbrev pub ExactSums : Format → Float → Float → List Float → Type 0
+ExactSums f sigma tau [] = Unit {0}
+ExactSums f sigma tau (x ∷ xs) =
+    (whole f (add f tau (highPart f sigma x)) ≈ whole f tau ⊕ whole f (highPart f sigma x)) × ExactSums f sigma (add f tau (highPart f sigma x)) xs
+
 -- a sum is -0 only where both operands are, so not where the first never is
 sum-plus : {f : Format} (x y : Float) {r : Float} → (magnitude f x ≡ 0 → negative x ≡ false) → Rounds f (negative x && negative y) (whole f x ⊕ whole f y) r
     → magnitude f r ≡ 0 → negative r ≡ false
@@ -120,13 +132,8 @@ module _ {f : Format} {M e : ℕ} {sigma : Float} (σ : Scale f M e sigma) where
   remainders-units [] h = refl
   remainders-units (x ∷ xs) h = λ i. remainder-is (h .0) .units i ∷ remainders-units xs (h .1) i
 
-  -- ---- "For each place both subtractions are exact: in units q is (sigma + p rounded) less sigma, and the remainder is p less q."
-  pub record Exact (x : Float) : Type 0 where
-    pub raised : whole f (add f sigma x) ≡ fl (prec f) (whole f sigma ⊕ whole f x)
-    pub high : whole f (highPart f sigma x) ≈ whole f (add f sigma x) ⊖ whole f sigma
-    pub remainder : whole f (remainderOf f sigma x) ≈ whole f x ⊖ whole f (highPart f sigma x)
-
-  pub taken-exact : {x : Float} → Small f (2 ^ e) x → Exact x
+  -- ---- exactness
+  pub taken-exact : {x : Float} → Small f (2 ^ e) x → Exact f sigma x
   taken-exact {x} X =
       let E = extract (prec f) (prec-pos f) M e (σ .some) (σ .few) (ready X .rep) (ready X .small) in
       let r = raised-rounds X in
@@ -162,9 +169,14 @@ module _ {f : Format} {M e : ℕ} {sigma : Float} (σ : Scale f M e sigma) where
   }
 
   -- "The additions to tau are exact"
-  pub tau-exact : {c : ℕ} {tau x : Float} → Tau c tau → Small f (2 ^ e) x → c < 2 ^ M
+  tau-exact : {c : ℕ} {tau x : Float} → Tau c tau → Small f (2 ^ e) x → c < 2 ^ M
       → whole f (add f tau (highPart f sigma x)) ≈ whole f tau ⊕ whole f (highPart f sigma x)
   tau-exact T X l = rw (next-units T X l, high-is X .units) (turn-exact (prec f) (prec-pos f) M e (σ .some) (σ .few) (T .units) (ready X) l)
+
+  pub gathers-exact : (xs : List Float) {c : ℕ} {tau : Float} → Tau c tau → Each (Small f (2 ^ e)) xs → c + length xs ≤ 2 ^ M → ExactSums f sigma tau xs
+  gathers-exact [] T h l = tt
+  gathers-exact (x ∷ xs) {c} T h l =
+      let m : c < 2 ^ M = omega arith in (tau-exact T (h .0) m, gathers-exact xs (next-tau T (h .0) m) (h .1) (omega arith))
 
   pub gathers : (xs : List Float) {c : ℕ} {tau : Float} → Tau c tau → Each (Small f (2 ^ e)) xs → c + length xs ≤ 2 ^ M
       → Tau (c + length xs) (gathered f sigma tau xs)

@@ -1,0 +1,54 @@
+-- Demand 3's words about a run: what holds while it goes on, and when it has finished. Definitions only.
+use mathlib.Core.Path.{_≡_}
+use mathlib.Core.Bool.{true, false, cond}
+use mathlib.Core.List.{List, map}
+use Prim.Native.Nat.{ℕ, suc, _+_, _-_, _*_, _≤_}
+use lib.Dec.{leb}
+use lib.IntN.{_+ℤ_}
+use lib.ListN.{length}
+use lib.Ieee.{Float, prec}
+use Rattle.units.specs.Whole.{exactSum}
+use Rattle.units.specs.Walk.{roundedUp}
+use Rattle.ieee.specs.Units.{value, magnitude, negative}
+use Rattle.ieee.specs.Accuracy.{FaithfulTo}
+use Rattle.lists.specs.Bitset.{has}
+use Rattle.lists.specs.Each.{Each}
+use Rattle.kinds.specs.Limits.{Width, exponentOf, blocksOf}
+use Rattle.kinds.specs.declared.State.{State}
+use Rattle.kinds.specs.declared.Verdict.the-variants.{Good, Refused}
+use Rattle.sums.specs.Sums.{sumOf}
+use Rattle.sound.specs.Sound.{sound, gated}
+use Rattle.walk.specs.Round.{blockOf}
+use Rattle.walk.specs.Walk.{faithfulOf}
+use Rattle.walk.specs.InUnits.{Exact, ExactSums}
+use Rattle.runs.specs.Runs.{Ran, tried, members}
+
+-- a run over the list ps that goes on with the state s
+pub record Going (W : Width) (ps : List ℕ) (r : Ran) (s : State) : Type 0 where
+  -- "Every state of a run is sound."
+  pub sound : sound W s (r .walk .work) ≡ true
+  -- "A pending block is never refused; any other block number is refused with 6 or 7 .., and a refusal changes nothing."
+  pub accepts : (b : ℕ) → has (s .pending) b ≡ true → gated W s b (r .walk .work) ≡ Good
+  pub refuses : (b : ℕ) → has (s .pending) b ≡ false → gated W s b (r .walk .work) ≡ Refused (cond (leb (blocksOf W (s .n)) b) 6 7) 0
+  pub unchanged : (b : ℕ) → has (s .pending) b ≡ false → tried W r b ≡ r
+  -- "For each place both subtractions are exact .. The additions to tau are exact and tau is never -0."
+  pub exact : Each (Exact (W .format) (s .sigma)) (r .walk .work)
+  pub gathers : (b : ℕ) → has (s .pending) b ≡ true → ExactSums (W .format) (s .sigma) (s .tau) (blockOf W b (r .walk .work))
+  pub plus : magnitude (W .format) (s .tau) ≡ 0 → negative (s .tau) ≡ false
+  -- "t plus tau plus the work numbers is S"
+  pub conserves : value (W .format) (s .t) +ℤ value (W .format) (s .tau) +ℤ exactSum (map (value (W .format)) (r .walk .work)) ≡ sumOf (W .format) ps
+  -- the accepted steps are those of the rounds closed, and the blocks taken since
+  pub steps : r .steps + members (s .pending) (blocksOf W (s .n)) ≡ s .rounds * blocksOf W (s .n) + blocksOf W (s .n)
+  pub rounds : s .rounds ≤ W .rounds
+
+-- a run that has finished with the sum x after k rounds; magnitudes are at most 2^top units
+pub record Finished (W : Width) (top : ℕ) (ps : List ℕ) (work : List Float) (r : Ran) (x : Float) (k : ℕ) : Type 0 where
+  -- "the same answer, round count and remainders, those of the undivided call"
+  pub undivided : r .walk ≡ faithfulOf W ps work
+  -- no number of the format lies strictly between x and S, and x is S where S is one
+  pub faithful : FaithfulTo (W .format) (sumOf (W .format) ps) x
+  -- "Accepted steps at the finish = rounds times B"
+  pub steps : r .steps ≡ k * blocksOf W (length ps)
+  -- "at most 1 plus the quotient (2022+M)/(53-M) rounded up, hence at most 51"; 2022 is top + 1 - prec
+  pub rounds : k ≤ 1 + roundedUp (top + 1 - prec (W .format) + exponentOf (length ps)) (prec (W .format) - exponentOf (length ps))
+  pub most : k ≤ suc (W .rounds)
