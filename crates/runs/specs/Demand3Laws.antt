@@ -2,7 +2,7 @@
 use mathlib.Core.Path.{_≡_, refl, sym, ap, _∙_, subst}
 use mathlib.Core.Logic.{_⊎_, inl, inr}
 use mathlib.Core.Bool.{Bool, true, false, cond}
-use mathlib.Core.List.{List, [], _∷_, map}
+use mathlib.Core.List.{List, [], _∷_, map, foldl}
 use Prim.Native.Nat.{ℕ, zero, suc, _+_, _-_, _*_, _^_, _≤_, _<_}
 use native.Mathlib.Nat.{le-div-iff-mul-le, mul-le-mul-right, suc-mul}
 use native.Mathlib.Omega.{arith}
@@ -27,8 +27,9 @@ use Rattle.kinds.specs.declared.Step.the-variants.{More, Done, Refused}
 use Rattle.kinds.specs.declared.Verdict.the-variants.{Good}
 use Rattle.judge.specs.Table.{GivenWhen}
 use Rattle.sums.specs.Sums.{sumOf}
-use Rattle.walk.specs.Round.{blockOf}
-use Rattle.walk.specs.Walk.{Walked, walked, faithfulOf}
+use Rattle.judge.specs.Judge.{floats}
+use Rattle.walk.specs.Round.{allZero, blockOf}
+use Rattle.walk.specs.Walk.{Walked, walked, opened, faithfulOf}
 use Rattle.walk.specs.Fitting.{Fitting}
 use Rattle.walk.specs.InUnits.{Small, wholes, Exact, ExactSums, taken-exact, gathers-exact}
 use Rattle.walk.specs.Begun.{begun-rounds}
@@ -39,7 +40,8 @@ use Rattle.runs.specs.OneBlock.{own-numbers, count-then}
 use Rattle.runs.specs.MidRound.{Mid, mid-stepping, count-small}
 use Rattle.runs.specs.Conserved.{mid-conserves}
 use Rattle.runs.specs.MidStep.{mid-accepted, mid-refused}
-use Rattle.runs.specs.Runs.{Ran, runOf, members}
+use Rattle.runs.specs.Runs.{Ran, tried, runOf}
+use Rattle.runs.specs.OpenedSum.{zeroOf, opened-zero, opened-round}
 use Rattle.runs.specs.Reached.{During, Over, Reached, reached-opens, reached-run, reached-refuses}
 use Rattle.runs.specs.Demand3.{Going, Finished}
 
@@ -207,3 +209,22 @@ module _ {W : Width} (F : Fitting W) (ps : List ℕ) (work : List Float) where
         go (inr O) =
             let most = finishes _ O G (O .sum) (O .rounds) (O .answer) .most in
             omega (arith, O .steps, mul-le-mul-right (blocksOf W (length ps)) most)
+
+    -- "a list finished at its opening has 0 rounds and 0 steps"
+    pub run-at-once : (x : Float) (k : ℕ) → opened W ps work .answer ≡ Done x k → (k ≡ 0) × (runOf W ps work bs .steps ≡ 0)
+    run-at-once x k h = (none (allZero (W .format) (floats W ps)) refl, ap (λ (r : Ran). r .steps) (stays bs))
+      where
+        none : (b : Bool) → allZero (W .format) (floats W ps) ≡ b → k ≡ 0
+        none true a = let m : Done (zeroOf W ps) 0 ≡ Done x k = sym (ap (λ (w : Walked). w .answer) (opened-zero F ps work G a)) ∙ h in cc
+        none false a =
+            let m = sym (ap (λ (w : Walked). w .answer) (opened-round F ps work G a)) ∙ h in let z : _≡_ {A = ℕ} 0 1 = cc in absurd (omega arith)
+
+        start : Ran
+        start = record { walk = opened W ps work; steps = 0 }
+
+        still : (b : ℕ) → tried W start b ≡ start
+        still b = rw h
+
+        stays : (bs : List ℕ) → foldl (tried W) start bs ≡ start
+        stays [] = refl
+        stays (b ∷ bs) = ap (λ (r : Ran). foldl (tried W) r bs) (still b) ∙ stays bs

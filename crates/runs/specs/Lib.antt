@@ -17,3 +17,4 @@ pub mod OrderLaws
 pub mod AnyOrder
 pub mod Demand3
 pub mod Demand3Laws
+pub mod Instances

@@ -1,0 +1,63 @@
+-- The theorems about runs at document 01's width, and at the numbers for binary32 (2,046 numbers, 2^100, 2^111, 20 rounds), a line each. Assumes nothing.
+use mathlib.Core.Path.{_≡_}
+use mathlib.Core.Bool.{true}
+use mathlib.Core.List.{List, Perm}
+use Prim.Native.Nat.{ℕ, suc, _*_, _≤_}
+use lib.Dec.{eqb}
+use lib.ListN.{length}
+use lib.Ieee.{Float}
+use Rattle.kinds.specs.Limits.{Width, doubles, blocksOf}
+use Rattle.kinds.specs.declared.State.{State}
+use Rattle.kinds.specs.declared.Step.the-variants.{More, Done}
+use Rattle.kinds.specs.declared.Verdict.the-variants.{Good}
+use Rattle.judge.specs.Table.{GivenWhen}
+use Rattle.walk.specs.Walk.{opened, rising, faithfulOf}
+use Rattle.walk.specs.Instances.{doubles-fit, singles, singles-fit}
+use Rattle.runs.specs.Faithful.{FaithfulSum, faithful-promised}
+use Rattle.runs.specs.Runs.{runOf, ordered}
+use Rattle.runs.specs.AnyOrder.{any-order}
+use Rattle.runs.specs.Demand3.{Going, Finished}
+use Rattle.runs.specs.Demand3Laws.{run-goes, run-finishes, run-bounded}
+
+-- an accepted list of either width
+abbrev pub Accepted : Width → List ℕ → List Float → Type 0
+Accepted W ps work = GivenWhen W (eqb (length work) (length ps)) true ps Good
+
+-- ---- demand 2, the faithful sum
+pub faithful-64 : (ps : List ℕ) (work : List Float) → Accepted doubles ps work → FaithfulSum doubles ps (faithfulOf doubles ps work)
+faithful-64 = faithful-promised doubles-fit
+
+pub faithful-32 : (ps : List ℕ) (work : List Float) → Accepted singles ps work → FaithfulSum singles ps (faithfulOf singles ps work)
+faithful-32 = faithful-promised singles-fit
+
+-- ---- demand 3
+pub any-order-64 : (ps : List ℕ) (work : List Float) → Accepted doubles ps work → (π : ℕ → List ℕ)
+    → ((i : ℕ) → Perm (π i) (rising (blocksOf doubles (length ps)))) → ordered doubles π 51 0 (opened doubles ps work) ≡ faithfulOf doubles ps work
+any-order-64 = any-order doubles-fit
+
+pub any-order-32 : (ps : List ℕ) (work : List Float) → Accepted singles ps work → (π : ℕ → List ℕ)
+    → ((i : ℕ) → Perm (π i) (rising (blocksOf singles (length ps)))) → ordered singles π 20 0 (opened singles ps work) ≡ faithfulOf singles ps work
+any-order-32 = any-order singles-fit
+
+module _ (ps : List ℕ) (work : List Float) (bs : List ℕ) where
+  pub goes-64 : Accepted doubles ps work → (s : State) → runOf doubles ps work bs .walk .answer ≡ More s → Going doubles ps (runOf doubles ps work bs) s
+  goes-64 G = run-goes doubles-fit ps work G bs
+
+  pub goes-32 : Accepted singles ps work → (s : State) → runOf singles ps work bs .walk .answer ≡ More s → Going singles ps (runOf singles ps work bs) s
+  goes-32 G = run-goes singles-fit ps work G bs
+
+  pub finishes-64 : Accepted doubles ps work → (x : Float) (k : ℕ) → runOf doubles ps work bs .walk .answer ≡ Done x k
+      → Finished doubles 2074 ps work (runOf doubles ps work bs) x k
+  unfolding doubles-fit
+  finishes-64 G = run-finishes doubles-fit ps work G bs
+
+  pub finishes-32 : Accepted singles ps work → (x : Float) (k : ℕ) → runOf singles ps work bs .walk .answer ≡ Done x k
+      → Finished singles 249 ps work (runOf singles ps work bs) x k
+  unfolding singles-fit
+  finishes-32 G = run-finishes singles-fit ps work G bs
+
+  pub bounded-64 : Accepted doubles ps work → runOf doubles ps work bs .steps ≤ 51 * blocksOf doubles (length ps)
+  bounded-64 G = run-bounded doubles-fit ps work G bs
+
+  pub bounded-32 : Accepted singles ps work → runOf singles ps work bs .steps ≤ 20 * blocksOf singles (length ps)
+  bounded-32 G = run-bounded singles-fit ps work G bs
