@@ -4,7 +4,7 @@ use mathlib.Core.Path.{_≡_, sym, ap, _∙_}
 use mathlib.Core.List.{List, [], _∷_, _++_, map}
 use Prim.Native.Nat.{ℕ}
 use lib.Dec.{lit<}
-use lib.IntN.{ℤ, negℤ, _+ℤ_, _-ℤ_, +ℤ-assoc, +ℤ-comm, +ℤ-idl, +ℤ-idr, -ℤ-+ℤ-cancel}
+use lib.IntN.{ℤ, negℤ, _+ℤ_, _-ℤ_, +ℤ-assoc, +ℤ-comm, -ℤ-+ℤ-cancel}
 use Rattle.units.specs.Whole.{exactSum}
 use Rattle.lists.specs.SignedDigits.{cut-whole}
 use Rattle.words.specs.Words.{wordBits, wordCount, wholeOf, wordsOf}
@@ -27,21 +27,25 @@ module _ (ws : List ℕ) (H : Held ws) where
   pub run-same : (cs ds : List Change) → AllEntered ws cs → AllEntered ws ds → exactSum (map changeOf cs) ≡ exactSum (map changeOf ds) → run ws cs ≡ run ws ds
   run-same cs ds A B e = run-words cs A ∙ ap (λ (z : ℤ). wordsOf (wholeOf ws +ℤ z)) e ∙ sym (run-words ds B)
 
--- p joins after xs and leaves after ys
-abbrev pub history : List Change → List Change → ℕ → List Change
-history xs ys p = xs ++ (add p ∷ (ys ++ (withdraw p ∷ [])))
+-- p joins after xs, leaves after ys, and zs follow; the same history without p
+abbrev pub history : List Change → List Change → List Change → ℕ → List Change
+history xs ys zs p = xs ++ (add p ∷ (ys ++ (withdraw p ∷ zs)))
 
-gone : (xs ys : List Change) (p : ℕ) → exactSum (map changeOf (history xs ys p)) ≡ exactSum (map changeOf (xs ++ ys))
-gone (x ∷ xs) ys p = ap (λ (z : ℤ). changeOf x +ℤ z) (gone xs ys p)
-gone [] ys p =
-    ap (λ (z : ℤ). unitsOf p +ℤ z) (last ys)
-    ∙ +ℤ-comm (unitsOf p) (exactSum (map changeOf ys) -ℤ unitsOf p)
-    ∙ -ℤ-+ℤ-cancel (exactSum (map changeOf ys)) (unitsOf p)
+abbrev pub stayed : List Change → List Change → List Change → List Change
+stayed xs ys zs = xs ++ (ys ++ zs)
+
+pub gone : (xs ys zs : List Change) (p : ℕ) → exactSum (map changeOf (history xs ys zs p)) ≡ exactSum (map changeOf (stayed xs ys zs))
+gone (x ∷ xs) ys zs p = ap (λ (z : ℤ). changeOf x +ℤ z) (gone xs ys zs p)
+gone [] ys zs p =
+    ap (λ (z : ℤ). unitsOf p +ℤ z) (leaves ys)
+    ∙ +ℤ-comm (unitsOf p) (exactSum (map changeOf (ys ++ zs)) -ℤ unitsOf p)
+    ∙ -ℤ-+ℤ-cancel (exactSum (map changeOf (ys ++ zs))) (unitsOf p)
   where
-    last : (ys : List Change) → exactSum (map changeOf (ys ++ (withdraw p ∷ []))) ≡ exactSum (map changeOf ys) -ℤ unitsOf p
-    last [] = +ℤ-idr (negℤ (unitsOf p)) ∙ sym (+ℤ-idl (negℤ (unitsOf p)))
-    last (y ∷ ys) = ap (λ (z : ℤ). changeOf y +ℤ z) (last ys) ∙ sym (+ℤ-assoc (changeOf y) (exactSum (map changeOf ys)) (negℤ (unitsOf p)))
+    leaves : (ys : List Change) → exactSum (map changeOf (ys ++ (withdraw p ∷ zs))) ≡ exactSum (map changeOf (ys ++ zs)) -ℤ unitsOf p
+    leaves [] = +ℤ-comm (negℤ (unitsOf p)) (exactSum (map changeOf zs))
+    leaves (y ∷ ys) = ap (λ (z : ℤ). changeOf y +ℤ z) (leaves ys) ∙ sym (+ℤ-assoc (changeOf y) (exactSum (map changeOf (ys ++ zs))) (negℤ (unitsOf p)))
 
-pub farewell : (ws : List ℕ) (xs ys : List Change) (p : ℕ) → Held ws → AllEntered ws (history xs ys p) → AllEntered ws (xs ++ ys)
-    → run ws (history xs ys p) ≡ run ws (xs ++ ys)
-farewell ws xs ys p H A B = run-same ws H (history xs ys p) (xs ++ ys) A B (gone xs ys p)
+-- all words are those of the same history without p
+pub farewell : (ws : List ℕ) (xs ys zs : List Change) (p : ℕ) → Held ws → AllEntered ws (history xs ys zs p) → AllEntered ws (stayed xs ys zs)
+    → run ws (history xs ys zs p) ≡ run ws (stayed xs ys zs)
+farewell ws xs ys zs p H A B = run-same ws H (history xs ys zs p) (stayed xs ys zs) A B (gone xs ys zs p)

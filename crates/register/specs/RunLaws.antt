@@ -15,7 +15,7 @@ use Rattle.units.specs.Integers.{int-mag}
 use Rattle.units.specs.ExactSum.{abs-plus}
 use Rattle.ieee.specs.Units.{whole}
 use Rattle.ieee.specs.Sum.{value-int, whole-mag}
-use Rattle.lists.specs.Digits.{number, signed, inside}
+use Rattle.lists.specs.Digits.{number, digits, residue, signed, inside}
 use Rattle.lists.specs.TwosComplement.{inside-small}
 use Rattle.lists.specs.SignedDigits.{cut-words}
 use Rattle.kinds.specs.Limits.{doubles}
@@ -24,10 +24,11 @@ use Rattle.kinds.specs.declared.Entry.the-variants.{Refused, Entered}
 use Rattle.judge.specs.Judge.{faultOf}
 use Rattle.judge.specs.Table.{floatOf, sizeOf, most, Allowed}
 use Rattle.judge.specs.FaultLaws.{fault-0, fault-number, most-doubles}
-use Rattle.words.specs.Words.{wordBits, wordCount, registerBits, wholeOf}
+use Rattle.words.specs.Words.{wordBits, wordCount, registerBits, wholeOf, wordsOf}
 use Rattle.register.specs.Register.{unitsOf, added, withdrawn}
 use Rattle.register.specs.Entries.{EntryWhen, entered, wrong-length, bad-number, out-of-range}
 use Rattle.register.specs.Entries.{Change, add, withdraw, patternOf, changeOf, changed, run, AllEntered, zeros}
+use Rattle.register.specs.Steps.{Held}
 use Rattle.register.specs.RegisterLaws.{entry-when, entry-leaves, no-fault, whole-after}
 
 apart {ℓ} : {X : Type ℓ} → _≡_ {A = ℕ} 0 1 → X
@@ -120,9 +121,17 @@ module _ (H : ℕ) (I : (z : ℤ) → natAbs z < H → inside registerBits z ≡
 
 -- ---- from zero
 
-zero-whole : wholeOf zeros ≡ pos 0
+pub zero-whole : wholeOf zeros ≡ pos 0
 unfolding number signed
 zero-whole = refl
+
+-- the words of zero, so that a run from them is one of words
+zero-words : wordsOf (pos 0) ≡ zeros
+unfolding digits residue
+zero-words = refl
+
+pub zeros-held : Held zeros
+zeros-held = rw zero-words at (cut-words wordBits wordCount (pos 0))
 
 -- n calls from zero come to at most n * 2 ^ 2074 units, and 2 ^ 37 * 2 ^ 2074 is 2 ^ 2111
 few : (n : ℕ) → n < 2 ^ 37 → n * most doubles < 2 ^ (registerBits - 1)

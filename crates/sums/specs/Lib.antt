@@ -7,3 +7,4 @@ pub mod SumLaws
 pub mod AnswerLaws
 pub mod SplitLaws
 pub mod Promised
+pub mod Farewell
