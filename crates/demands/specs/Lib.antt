@@ -3,3 +3,5 @@ pub mod SoundState
 pub mod SoundStateLaws
 pub mod Tables
 pub mod TablesLaws
+pub mod WalkRefusals
+pub mod Determined

@@ -1,8 +1,10 @@
--- Document 01's table of refusals for a block step and for rounding a register: what each answer is given exactly for. Definitions only.
+-- Document 01's table of refusals for a block step, for the walk of a list and for rounding a register: what each answer is given exactly for.
+-- Definitions only.
 use mathlib.Core.Path.{_≡_}
 use mathlib.Core.Bool.{true, false}
 use mathlib.Core.List.{List}
 use Prim.Native.Nat.{ℕ, _≤_, _<_}
+use lib.Dec.{eqb}
 use lib.IntN.{natAbs}
 use lib.ListN.{length}
 use lib.Ieee.{Float, binary64}
@@ -14,6 +16,7 @@ use Rattle.kinds.specs.declared.Verdict.{Verdict}
 use Rattle.kinds.specs.declared.Verdict.the-variants.{Good, Refused}
 use Rattle.kinds.specs.declared.Nearest.{Nearest}
 use Rattle.kinds.specs.declared.Nearest.the-variants as nearests
+use Rattle.judge.specs.Table.{GivenWhen}
 use Rattle.words.specs.Words.{wordCount, wholeOf}
 use Rattle.demands.specs.SoundState.{SoundState}
 
@@ -28,6 +31,10 @@ pub data StepWhen (W : Width) (s : State) (b : ℕ) (work : List Float) : Verdic
   -- "block already taken in this round"
   taken-before : length work ≡ s .n → SoundState W s work → b < blocksOf W (s .n) → has (s .pending) b ≡ false → StepWhen W s b work (Refused 7 0)
   accepted : length work ≡ s .n → SoundState W s work → b < blocksOf W (s .n) → has (s .pending) b ≡ true → StepWhen W s b work Good
+
+-- opening and the undivided call: a list with a work area, and no parts slice
+abbrev pub WalkWhen : Width → List ℕ → List Float → Verdict → Type 0
+WalkWhen W ps work = GivenWhen W (eqb (length work) (length ps)) true ps
 
 -- "On rounding a register: 4, 10." "refusal 10 is given when its magnitude is 2^2098 - 2^2044 units or more"
 pub data RoundWhen (ws : List ℕ) : Nearest → Type 0 where
