@@ -5,3 +5,4 @@ pub mod Tables
 pub mod TablesLaws
 pub mod WalkRefusals
 pub mod Determined
+pub mod Refusals
