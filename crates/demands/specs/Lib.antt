@@ -6,3 +6,4 @@ pub mod TablesLaws
 pub mod WalkRefusals
 pub mod Determined
 pub mod Refusals
+pub mod Hearing

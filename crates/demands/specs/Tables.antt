@@ -1,7 +1,7 @@
 -- Document 01's table of refusals for a block step, for the walk of a list and for rounding a register: what each answer is given exactly for.
 -- Definitions only.
 use mathlib.Core.Path.{_≡_}
-use mathlib.Core.Bool.{true, false}
+use mathlib.Core.Bool.{true, false, cond}
 use mathlib.Core.List.{List}
 use Prim.Native.Nat.{ℕ, _≤_, _<_}
 use lib.Dec.{eqb}
@@ -10,6 +10,7 @@ use lib.ListN.{length}
 use lib.Ieee.{Float, binary64}
 use Rattle.ieee.specs.Units.{limit, nearestFloat}
 use Rattle.lists.specs.Bitset.{has}
+use Rattle.kinds.specs.Heard.{Place, nowhere, at, tells}
 use Rattle.kinds.specs.Limits.{Width, blocksOf}
 use Rattle.kinds.specs.declared.State.{State}
 use Rattle.kinds.specs.declared.Verdict.{Verdict}
@@ -19,6 +20,10 @@ use Rattle.kinds.specs.declared.Nearest.the-variants as nearests
 use Rattle.judge.specs.Table.{GivenWhen}
 use Rattle.words.specs.Words.{wordCount, wholeOf}
 use Rattle.demands.specs.SoundState.{SoundState}
+
+-- the column "Tells": the place for 2 and 3, and nothing more for any other number
+abbrev pub told : ℕ → ℕ → Place
+told k i = cond (tells k) (at i) nowhere
 
 -- "On a block step: 4, 8, 6, 7.", each where none before it holds. None tells a place.
 pub data StepWhen (W : Width) (s : State) (b : ℕ) (work : List Float) : Verdict → Type 0 where

@@ -12,7 +12,6 @@ use lib.ListN.{length}
 use lib.Ieee.{Float, eq}
 use Rattle.ieee.specs.Units.{nearestFloat}
 use Rattle.kinds.specs.Limits.{Width}
-use Rattle.kinds.specs.Heard.{nowhere, placeOf, refused, stepHeard}
 use Rattle.kinds.specs.declared.State.{State}
 use Rattle.kinds.specs.declared.Step.{Step}
 use Rattle.kinds.specs.declared.Step.the-variants.{More, Done, Refused}
@@ -29,7 +28,7 @@ use Rattle.walk.specs.OpeningLaws.{opened-refused}
 use Rattle.walk.specs.Undivided as undivided
 use Rattle.walk.specs.Fitting.{Fitting}
 use Rattle.runs.specs.Faithful.{faithful-promised}
-use Rattle.demands.specs.Tables.{StepWhen, WalkWhen, wrong-length, not-sound, no-block, taken-before}
+use Rattle.demands.specs.Tables.{StepWhen, WalkWhen}
 use Rattle.demands.specs.TablesLaws.{step-when}
 
 -- ---- what the three share: the verdict that an answer comes from, and what a refusal leaves
@@ -101,16 +100,6 @@ module _ (W : Width) (s : State) (b : ℕ) (work : List Float) where
   module _ (top : ℕ) (is : unitsAt W (W .magnitude) ≡ 2 ^ top) (k i : ℕ) where
     pub step-refused : (stepped W s b work .answer ≡ Refused k i) ↔ StepWhen W s b work (verdicts.Refused k i)
     step-refused = refusals (step-after (gated W s b work)) (StepWhen W s b work) (step-when W top is s b work) k i
-
-    -- 4, 6, 7 and 8 tell no place
-    pub step-heard : StepWhen W s b work (verdicts.Refused k i) → stepHeard (stepped W s b work .answer) ≡ refused k nowhere
-    step-heard h = ap stepHeard (step-refused .1 h) ∙ ap (refused k) (no-place h)
-      where
-        no-place : {l j : ℕ} → StepWhen W s b work (verdicts.Refused l j) → placeOf l j ≡ nowhere
-        no-place (wrong-length n) = refl
-        no-place (not-sound l n) = refl
-        no-place (no-block l S h) = refl
-        no-place (taken-before l S h p) = refl
 
   pub step-leaves : (k i : ℕ) → stepped W s b work .answer ≡ Refused k i → stepped W s b work .work ≡ work
   step-leaves = leaves (step-after (gated W s b work))
