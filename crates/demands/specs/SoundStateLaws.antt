@@ -68,6 +68,14 @@ module _ (W : Width) (s : State) where
   Place : Float → Type 0
   Place = WorkNumber (W .format) (exponentOf (s .n)) (s .sigma)
 
+  places-sound : (xs : List Float) → Each Place xs → badPlace W s xs ≡ length xs
+  unfolding badPlace Place
+  places-sound [] h = refl
+  places-sound (x ∷ xs) h = simp (is-true (finite x) (h .0 .fini), le-leb _ _ most, places-sound xs (h .1)) (add-one (length xs))
+    where
+      most : 2 ^ exponentOf (s .n) * magnitude (W .format) x ≤ magnitude (W .format) (s .sigma)
+      most = omega (arith, h .0 .small)
+
   places-hold : (xs : List Float) → badPlace W s xs ≡ length xs → Each Place xs
   unfolding badPlace Place
   places-hold [] h = tt
@@ -77,13 +85,9 @@ module _ (W : Width) (s : State) where
           → (badPlace W s xs ≡ length xs → Each Place xs) → Place x × Each Place xs
       go true e h more =
           let a = split (finite x) (leb (2 ^ exponentOf (s .n) * magnitude (W .format) x) (magnitude (W .format) (s .sigma))) e in
-          (record { fini = rw (a .0) tt; small = leb-true _ _ (a .1) }, more (omega arith))
+          let l : 2 ^ exponentOf (s .n) * magnitude (W .format) x ≤ magnitude (W .format) (s .sigma) = leb-true _ _ (a .1) in
+          (record { fini = rw (a .0) tt; small = omega arith }, more (omega arith))
       go false e h more = absurd (omega arith)
-
-  places-sound : (xs : List Float) → Each Place xs → badPlace W s xs ≡ length xs
-  unfolding badPlace Place
-  places-sound [] h = refl
-  places-sound (x ∷ xs) h = simp (is-true (finite x) (h .0 .fini), le-leb _ _ (h .0 .small), places-sound xs (h .1)) (add-one (length xs))
 
   -- ---- t and tau
   within-sound : (x : Float) → FiniteWithin (W .format) (unitsAt W (W .carried)) x → atMost W (unitsAt W (W .carried)) x ≡ true
@@ -108,7 +112,7 @@ module _ (W : Width) (s : State) where
     sigma-hold h =
         let S : Sigma W (s .n) (s .sigma) = sigma-holds W (s .n) (s .sigma) h in
         let e = sigma-exponent W top is (s .n) S in
-        record { k = _; fini = S .fini; positive = S .positive; power = S .power; from = e .0; to = omega (arith, e .1, top-is) }
+        record { k = _; fini = S .fini; positive = S .positive; power = S .power; from = omega (arith, e .0); to = omega (arith, e .1, top-is) }
 
     sigma-sound : SigmaIs → soundSigma W (s .n) (s .sigma) ≡ true
     unfolding soundSigma SigmaIs
@@ -119,7 +123,7 @@ module _ (W : Width) (s : State) where
           P .power,
           ceil-power (P .k),
           eq-eqb (2 ^ P .k) _ refl,
-          le-leb (2 ^ exponentOf (s .n)) (2 ^ P .k) (pow-mono (P .from)),
+          le-leb (2 ^ exponentOf (s .n)) (2 ^ P .k) (pow-mono (omega (arith, P .from))),
           is,
           le-leb (2 ^ P .k) (2 ^ exponentOf (s .n) * 2 ^ top) most,
         )
@@ -135,11 +139,11 @@ module _ (W : Width) (s : State) where
           let N : Numbers W s = S .0 in
           let P = pending-holds W s (S .1) in
           record {
-            some = N .some;
-            few = N .few;
-            rounds = N .rounds;
+            some = omega (arith, N .some);
+            few = omega (arith, N .few);
+            rounds = omega (arith, N .rounds);
             pending = member (blocksOf W (s .n)) (s .pending) (P .1) (P .0);
-            inside = none-above (blocksOf W (s .n)) (s .pending) (P .1);
+            inside = λ b h. none-above (blocksOf W (s .n)) (s .pending) (P .1) b (omega arith);
             sigma = sigma-hold (N .sigma);
             t = record { fini = N .t .fini; small = N .t .small };
             tau = record { fini = N .tau .fini; small = N .tau .small };
@@ -150,9 +154,9 @@ module _ (W : Width) (s : State) where
       unfolding soundNumbers SigmaIs
       numbers-sound S =
           simp (
-            le-leb _ _ (S .some),
-            le-leb _ _ (S .few),
-            le-leb _ _ (S .rounds),
+            le-leb 1 (s .n) (omega (arith, S .some)),
+            le-leb (s .n) (W .length) (omega (arith, S .few)),
+            le-leb (s .rounds) (W .rounds) (omega (arith, S .rounds)),
             sigma-sound (S .sigma),
             within-sound (s .t) (S .t),
             within-sound (s .tau) (S .tau),
@@ -163,5 +167,5 @@ module _ (W : Width) (s : State) where
       unfolding sound Place
       sound-state = (
         holds,
-        λ S. simp (numbers-sound S, pending-sound (S .pending) (S .inside), eq-eqb _ _ (places-sound xs (S .work))),
+        λ S. simp (numbers-sound S, pending-sound (S .pending) (λ b h. S .inside b (omega arith)), eq-eqb _ _ (places-sound xs (S .work))),
       )
