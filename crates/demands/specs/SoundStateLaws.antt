@@ -11,7 +11,7 @@ use borrow.Author.Tests.{eq-eqb, ne-eqb, eqb-true, eqb-false, le-leb, leb-true, 
 use lib.Dec.{leb}
 use lib.ListN.{length}
 use lib.Pow.{pow-pos, pow-add, pow-mono}
-use lib.Ieee.{Float}
+use lib.Ieee.{Float, ofBits}
 use lib.Ieee.Bits.{is-true}
 use lib.Ieee.Scale.{finite}
 use Rattle.units.specs.Rounding.{ceil}
@@ -19,11 +19,13 @@ use Rattle.units.specs.Ceiling.{ceil-power}
 use Rattle.ieee.specs.Units.{magnitude}
 use Rattle.lists.specs.Bitset.{has}
 use Rattle.lists.specs.Each.{Each}
-use Rattle.kinds.specs.Limits.{Width, exponentOf, blocksOf}
+use Rattle.kinds.specs.Limits.{Width, doubles, exponentOf, blocksOf}
 use Rattle.kinds.specs.declared.State.{State}
 use Rattle.sound.specs.Sound.{unitsAt, soundSigma, atMost, soundNumbers, soundPending, soundPlace, badPlace, sound}
 use Rattle.sound.specs.SigmaLaws.{split, Sigma, sigma-holds, sigma-exponent}
 use Rattle.sound.specs.SoundLaws.{Numbers, pending-holds, sound-holds}
+use Rattle.sound.specs.DoublesLaws.{magnitude-exponent}
+use Rattle.walk.specs.Instances.{doubles-fit}
 use Rattle.demands.specs.SoundState.{PowerBetween, FiniteWithin, WorkNumber, SoundState, limitExponent}
 
 -- ---- a set with no member from B on is below 2^B, and one that isn't 0 has a member
@@ -169,3 +171,14 @@ module _ (W : Width) (s : State) where
         holds,
         λ S. simp (numbers-sound S, pending-sound (S .pending) (λ b h. S .inside b (omega arith)), eq-eqb _ _ (places-sound xs (S .work))),
       )
+
+-- ---- document 01's numbers: the limit 2^1000 is 2^2074 units, and 2^1012 is 2^2086
+pub sound-doubles : (s : State) (xs : List Float) → (sound doubles s xs ≡ true) ↔ SoundState doubles s xs
+sound-doubles s = sound-state doubles s (doubles-fit .top) (doubles-fit .top-is)
+
+pub limit-doubles : limitExponent doubles ≡ 2074
+limit-doubles = magnitude-exponent
+
+pub carried-doubles : unitsAt doubles (doubles .carried) ≡ 2 ^ 2086
+unfolding magnitude ofBits
+carried-doubles = refl

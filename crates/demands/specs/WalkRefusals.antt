@@ -58,7 +58,14 @@ module _ {v : Verdict} {work : List Float} {w : Walked} (A : After v work w) whe
   leaves : (k i : ℕ) → w .answer ≡ Refused k i → w .work ≡ work
   leaves k i e = A .kept k i (sym (A .from) ∙ back (w .answer) k i .0 e)
 
--- ---- what is accepted answers no refusal
+  -- what the verdict accepts is answered by no refusal
+  accepts : v ≡ verdicts.Good → (k i : ℕ) → w .answer ≡ Refused k i → ⊥
+  accepts g k i e =
+      let r : v ≡ verdicts.Refused k i = sym (A .from) ∙ back (w .answer) k i .0 e in
+      let z : _≡_ {A = ℕ} 0 1 = cc in
+      omega arith
+
+-- ---- the answers of an accepted call
 
 record Accepted (a : Step) : Type 0 where
   good : verdictOf a ≡ verdicts.Good
@@ -101,6 +108,9 @@ module _ (W : Width) (s : State) (b : ℕ) (work : List Float) where
     pub step-refused : (stepped W s b work .answer ≡ Refused k i) ↔ StepWhen W s b work (verdicts.Refused k i)
     step-refused = refusals (step-after (gated W s b work)) (StepWhen W s b work) (step-when W top is s b work) k i
 
+    pub step-accepted : StepWhen W s b work verdicts.Good → stepped W s b work .answer ≡ Refused k i → ⊥
+    step-accepted h = accepts (step-after (gated W s b work)) (step-when W top is s b work verdicts.Good .1 h) k i
+
   pub step-leaves : (k i : ℕ) → stepped W s b work .answer ≡ Refused k i → stepped W s b work .work ≡ work
   step-leaves = leaves (step-after (gated W s b work))
 
@@ -125,6 +135,10 @@ module _ (W : Width) (ps : List ℕ) (work : List Float) where
   pub open-refused : (k i : ℕ) → (opened W ps work .answer ≡ Refused k i) ↔ WalkWhen W ps work (verdicts.Refused k i)
   unfolding verdict
   open-refused = refusals (open-after verdict) (WalkWhen W ps work) rows
+
+  pub open-accepted : WalkWhen W ps work verdicts.Good → (k i : ℕ) → opened W ps work .answer ≡ Refused k i → ⊥
+  unfolding verdict
+  open-accepted h = accepts (open-after verdict) (rows verdicts.Good .1 h)
 
   pub open-leaves : (k i : ℕ) → opened W ps work .answer ≡ Refused k i → opened W ps work .work ≡ work
   unfolding verdict
