@@ -25,6 +25,10 @@ use Rattle.demands.specs.SoundState.{SoundState}
 abbrev pub told : ℕ → ℕ → Place
 told k i = cond (tells k) (at i) nowhere
 
+-- a row for the number k, heard with what it tells
+abbrev pub Row : (ℕ → ℕ → Type 0) → ℕ → Place → Type 0
+Row When k p = (i : ℕ) × When k i × (p ≡ told k i)
+
 -- "On a block step: 4, 8, 6, 7.", each where none before it holds. None tells a place.
 pub data StepWhen (W : Width) (s : State) (b : ℕ) (work : List Float) : Verdict → Type 0 where
   -- "a lent area other than the parts slice has the wrong length": "the work area must have length n"
