@@ -1,0 +1,163 @@
+-- The walk's three calls: each is refused exactly when its row of document 01's table says, and a refused call leaves the work area as it was. An accepted
+-- step answers no refusal, for any state that the gate lets pass; nor does the undivided call, for widths that fit. Assumes nothing.
+use mathlib.Core.Path.{_≡_, refl, sym, ap, subst, _∙_}
+use mathlib.Core.Logic.{_↔_}
+use mathlib.Core.Bool.{Bool, true, false, cond}
+use mathlib.Core.List.{List}
+use Prim.Native.Nat.{ℕ, _+_, _^_}
+use native.Mathlib.Omega.{arith}
+use lib.Dec.{eqb}
+use lib.IntN.{pos}
+use lib.ListN.{length}
+use lib.Ieee.{Float, eq}
+use Rattle.ieee.specs.Units.{nearestFloat}
+use Rattle.kinds.specs.Limits.{Width}
+use Rattle.kinds.specs.declared.State.{State}
+use Rattle.kinds.specs.declared.Step.{Step}
+use Rattle.kinds.specs.declared.Step.the-variants.{More, Done, Refused}
+use Rattle.kinds.specs.declared.Verdict.{Verdict}
+use Rattle.kinds.specs.declared.Verdict.the-variants as verdicts
+use Rattle.judge.specs.Judge.{judged, floats, zeroSign}
+use Rattle.extract.specs.Extract.{plusZero}
+use Rattle.judge.specs.JudgeLaws.{given-when}
+use Rattle.sound.specs.Sound.{unitsAt, gated}
+use Rattle.walk.specs.Round.{turned, allZero, fresh, closed}
+use Rattle.walk.specs.ClosedLaws.{tau1Of, finishes}
+use Rattle.walk.specs.Walk.{Walked, opened, openedAfter, takenState, taken, stepped, steppedAfter, faithfulOf}
+use Rattle.walk.specs.OpeningLaws.{opened-refused}
+use Rattle.walk.specs.Undivided as undivided
+use Rattle.walk.specs.Fitting.{Fitting}
+use Rattle.runs.specs.Faithful.{faithful-promised}
+use Rattle.demands.specs.Tables.{StepWhen, WalkWhen}
+use Rattle.demands.specs.TablesLaws.{step-when}
+
+-- ---- what the three share: the verdict that an answer comes from, and what a refusal leaves
+
+abbrev verdictOf : Step → Verdict
+verdictOf (More s) = verdicts.Good
+verdictOf (Done x r) = verdicts.Good
+verdictOf (Refused k i) = verdicts.Refused k i
+
+-- a call gave the verdict v first
+record After (v : Verdict) (work : List Float) (w : Walked) : Type 0 where
+  from : verdictOf (w .answer) ≡ v
+  kept : (k i : ℕ) → v ≡ verdicts.Refused k i → w .work ≡ work
+
+back : (a : Step) (k i : ℕ) → (a ≡ Refused k i) ↔ (verdictOf a ≡ verdicts.Refused k i)
+back (More s) k i = (λ e. let z : _≡_ {A = ℕ} 0 1 = cc in absurd (omega arith), λ e. let z : _≡_ {A = ℕ} 0 1 = cc in absurd (omega arith))
+back (Done x r) k i = (λ e. let z : _≡_ {A = ℕ} 0 1 = cc in absurd (omega arith), λ e. let z : _≡_ {A = ℕ} 0 1 = cc in absurd (omega arith))
+back (Refused l j) k i = (λ e. cc, λ e. cc)
+
+module _ {v : Verdict} {work : List Float} {w : Walked} (A : After v work w) where
+  refusals : (When : Verdict → Type 0) → ((u : Verdict) → (v ≡ u) ↔ When u) → (k i : ℕ) → (w .answer ≡ Refused k i) ↔ When (verdicts.Refused k i)
+  refusals When when k i = (
+    λ e. when (verdicts.Refused k i) .0 (sym (A .from) ∙ back (w .answer) k i .0 e),
+    λ h. back (w .answer) k i .1 (A .from ∙ when (verdicts.Refused k i) .1 h),
+  )
+
+  leaves : (k i : ℕ) → w .answer ≡ Refused k i → w .work ≡ work
+  leaves k i e = A .kept k i (sym (A .from) ∙ back (w .answer) k i .0 e)
+
+  -- what the verdict accepts is answered by no refusal
+  accepts : v ≡ verdicts.Good → (k i : ℕ) → w .answer ≡ Refused k i → ⊥
+  accepts g k i e =
+      let r : v ≡ verdicts.Refused k i = sym (A .from) ∙ back (w .answer) k i .0 e in
+      let z : _≡_ {A = ℕ} 0 1 = cc in
+      omega arith
+
+-- ---- the answers of an accepted call
+
+record Accepted (a : Step) : Type 0 where
+  good : verdictOf a ≡ verdicts.Good
+
+done : {x : Float} {r : ℕ} → Accepted (Done x r)
+done = record { good = refl }
+
+more : {s : State} → Accepted (More s)
+more = record { good = refl }
+
+either : (t : Bool) {a b : Step} → Accepted a → Accepted b → Accepted (cond t a b)
+either true A B = A
+either false A B = B
+
+fresh-accepted : (W : Width) (zero : Float) (n : ℕ) (xs : List Float) (rounds : ℕ) → Accepted (fresh W zero n xs rounds)
+unfolding fresh
+fresh-accepted W zero n xs rounds = either (allZero (W .format) xs) done more
+
+closed-accepted : (W : Width) (s : State) (xs : List Float) → Accepted (closed W s xs)
+unfolding closed
+closed-accepted W s xs =
+    either (eq (tau1Of W s) (plusZero (W .format))) (fresh-accepted W (plusZero (W .format)) (s .n) xs (s .rounds + 1)) (either (finishes W s) done more)
+
+taken-accepted : (W : Width) (s : State) (b : ℕ) (work : List Float) → Accepted (taken W s b work .answer)
+unfolding taken
+taken-accepted W s b work = either (eqb (takenState W s b work .pending) 0) (closed-accepted W (takenState W s b work) (turned W (s .sigma) b work)) more
+
+-- ---- a block step
+
+module _ (W : Width) (s : State) (b : ℕ) (work : List Float) where
+  step-after : (v : Verdict) → After v work (steppedAfter W v s b work)
+  unfolding steppedAfter
+  step-after verdicts.Good = record {
+    from = taken-accepted W s b work .good;
+    kept = λ k i e. let z : _≡_ {A = ℕ} 0 1 = cc in absurd (omega arith);
+  }
+  step-after (verdicts.Refused l j) = record { from = refl; kept = λ k i e. refl }
+
+  module _ (top : ℕ) (is : unitsAt W (W .magnitude) ≡ 2 ^ top) (k i : ℕ) where
+    pub step-refused : (stepped W s b work .answer ≡ Refused k i) ↔ StepWhen W s b work (verdicts.Refused k i)
+    step-refused = refusals (step-after (gated W s b work)) (StepWhen W s b work) (step-when W top is s b work) k i
+
+    pub step-accepted : StepWhen W s b work verdicts.Good → stepped W s b work .answer ≡ Refused k i → ⊥
+    step-accepted h = accepts (step-after (gated W s b work)) (step-when W top is s b work verdicts.Good .1 h) k i
+
+  pub step-leaves : (k i : ℕ) → stepped W s b work .answer ≡ Refused k i → stepped W s b work .work ≡ work
+  step-leaves = leaves (step-after (gated W s b work))
+
+-- ---- opening, and the undivided call: "Order on a list: 1, 4, .. then the lowest bad place with its own fault (2 or 3)."
+
+module _ (W : Width) (ps : List ℕ) (work : List Float) where
+  verdict : Verdict
+  verdict = judged W (eqb (length work) (length ps)) true ps
+
+  rows : (v : Verdict) → (verdict ≡ v) ↔ WalkWhen W ps work v
+  unfolding verdict
+  rows = given-when W (eqb (length work) (length ps)) true ps
+
+  open-after : (v : Verdict) → After v work (openedAfter W v ps work)
+  unfolding openedAfter
+  open-after verdicts.Good = record {
+    from = fresh-accepted W (nearestFloat (W .format) (zeroSign ps) (pos 0)) (length ps) (floats W ps) 0 .good;
+    kept = λ k i e. let z : _≡_ {A = ℕ} 0 1 = cc in absurd (omega arith);
+  }
+  open-after (verdicts.Refused l j) = record { from = refl; kept = λ k i e. refl }
+
+  pub open-refused : (k i : ℕ) → (opened W ps work .answer ≡ Refused k i) ↔ WalkWhen W ps work (verdicts.Refused k i)
+  unfolding verdict
+  open-refused = refusals (open-after verdict) (WalkWhen W ps work) rows
+
+  pub open-accepted : WalkWhen W ps work verdicts.Good → (k i : ℕ) → opened W ps work .answer ≡ Refused k i → ⊥
+  unfolding verdict
+  open-accepted h = accepts (open-after verdict) (rows verdicts.Good .1 h)
+
+  pub open-leaves : (k i : ℕ) → opened W ps work .answer ≡ Refused k i → opened W ps work .work ≡ work
+  unfolding verdict
+  open-leaves = leaves (open-after verdict)
+
+  module _ (F : Fitting W) where
+    faithful-after : (v : Verdict) → verdict ≡ v → After v work (faithfulOf W ps work)
+    unfolding verdict
+    faithful-after verdicts.Good e = record {
+      from = ap verdictOf (faithful-promised F ps work (rows verdicts.Good .0 e) .answer);
+      kept = λ k i e. let z : _≡_ {A = ℕ} 0 1 = cc in absurd (omega arith);
+    }
+    faithful-after (verdicts.Refused l j) e =
+        subst (After (verdicts.Refused l j) work)
+        (undivided.faithful-refused F ps work (Refused l j) work (opened-refused W verdict l j ps work e) l j refl)
+        (record { from = refl; kept = λ k i e. refl })
+
+    pub faithful-refused : (k i : ℕ) → (faithfulOf W ps work .answer ≡ Refused k i) ↔ WalkWhen W ps work (verdicts.Refused k i)
+    faithful-refused = refusals (faithful-after verdict refl) (WalkWhen W ps work) rows
+
+    pub faithful-leaves : (k i : ℕ) → faithfulOf W ps work .answer ≡ Refused k i → faithfulOf W ps work .work ≡ work
+    faithful-leaves = leaves (faithful-after verdict refl)

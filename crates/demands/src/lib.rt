@@ -1,0 +1,1 @@
+// Document 01's demands as theorems about the definitions that the public contracts cite.
