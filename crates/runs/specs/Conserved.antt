@@ -1,21 +1,20 @@
 -- Conservation in a round, whatever blocks were taken: t plus tau plus the work numbers is S; and at a finish tau1 plus tau2 plus the work numbers.
 -- Assumes nothing.
-use mathlib.Core.Path.{_≡_, refl}
+use mathlib.Core.Path.{refl}
 use mathlib.Core.Bool.{Bool, true, false, cond}
 use mathlib.Core.List.{List, [], _∷_, map}
 use Prim.Native.Nat.{ℕ, suc, _+_, _^_}
 use native.Mathlib.Omega.{arith}
 use lib.Ieee.{Float, Format, prec, add, sub}
 use Rattle.units.specs.Whole.{Whole, _⊕_, _≈_, total}
-use Rattle.units.specs.Walk as units
 use Rattle.units.specs.Closing.{close-conserves}
 use Rattle.ieee.specs.Units.{whole}
 use Rattle.lists.specs.Each.{Each}
 use Rattle.kinds.specs.Limits.{Width, exponentOf}
-use Rattle.extract.specs.Extract.{plusZero, highPart, remainderOf, remainders, gathered}
+use Rattle.extract.specs.Extract.{plusZero, remainderOf, remainders, gathered}
 use Rattle.walk.specs.Fitting.{Fitting}
 use Rattle.walk.specs.InUnits.{Small, wholes, high-units, taken-exact}
-use Rattle.walk.specs.Begun.{Begun, tau-all}
+use Rattle.walk.specs.Begun.{tau-all}
 use Rattle.runs.specs.CloseUnits.{held, tau1-units, tau2-units}
 use Rattle.runs.specs.Taken.{pendingAt, mixed, takenOf}
 use Rattle.runs.specs.Summing.{Summing, closes, two, half, few}

@@ -1,16 +1,16 @@
 -- Demand 3: every run over an accepted list goes on as `Going` says, or has finished as `Finished` says; its accepted steps are bounded. Assumes nothing.
 use mathlib.Core.Path.{_≡_, refl, sym, ap, _∙_, subst}
-use mathlib.Core.Logic.{_⊎_, inl, inr}
-use mathlib.Core.Bool.{Bool, true, false, cond}
+use mathlib.Core.Logic.{inl, inr}
+use mathlib.Core.Bool.{Bool, true, false}
 use mathlib.Core.List.{List, [], _∷_, map, foldl}
 use Prim.Native.Nat.{ℕ, zero, suc, _+_, _-_, _*_, _^_, _≤_, _<_}
 use native.Mathlib.Nat.{le-div-iff-mul-le, mul-le-mul-right, suc-mul}
 use native.Mathlib.Omega.{arith}
-use lib.Dec.{eqb, leb}
+use lib.Dec.{eqb}
 use lib.IntN.{ℤ, _+ℤ_}
 use lib.ListN.{length, drop}
 use lib.Ieee.{Float, Format, prec}
-use Rattle.units.specs.Whole.{Whole, _⊕_, _≈_, int, difference, exactSum, total}
+use Rattle.units.specs.Whole.{_⊕_, int, difference, exactSum, total}
 use Rattle.units.specs.Integers.{int-plus, int-same, int-difference}
 use Rattle.units.specs.ExactSum.{sum-total}
 use Rattle.units.specs.Ceiling.{ceil-ge}
@@ -35,9 +35,9 @@ use Rattle.walk.specs.InUnits.{Small, wholes, Exact, ExactSums, taken-exact, ga
 use Rattle.walk.specs.Begun.{begun-rounds}
 use Rattle.walk.specs.Stepping.{stepping-sound}
 use Rattle.runs.specs.Faithful.{FaithfulSum, faithful-promised}
-use Rattle.runs.specs.Taken.{pendingAt, mixed, takenOf}
+use Rattle.runs.specs.Taken.{pendingAt, mixed}
 use Rattle.runs.specs.OneBlock.{own-numbers, count-then}
-use Rattle.runs.specs.MidRound.{Mid, mid-stepping, count-small}
+use Rattle.runs.specs.MidRound.{mid-stepping, count-small}
 use Rattle.runs.specs.Conserved.{mid-conserves}
 use Rattle.runs.specs.MidStep.{mid-accepted, mid-refused}
 use Rattle.runs.specs.Runs.{Ran, tried, runOf}

@@ -1,6 +1,6 @@
 -- Demand 2 for the faithful sum: for every accepted list the undivided call's answer is a number of the format with no other strictly between it and S, and
 -- is S where S is one; it has as many rounds as a sound state may have closed, and one more, at most. Assumes nothing.
-use mathlib.Core.Path.{_≡_, refl, sym, ap, _∙_, subst}
+use mathlib.Core.Path.{_≡_, refl, sym, ap, subst}
 use mathlib.Core.Bool.{Bool, true, false}
 use mathlib.Core.List.{List}
 use Prim.Native.Nat.{ℕ, suc, _≤_, _<_}

@@ -1,19 +1,19 @@
 -- A round in the middle, whatever blocks were taken in whatever order: the state is a function of the pending set, it is sound, each pending block is
 -- accepted, and after the last the round closes as in rising order. Assumes nothing.
 use mathlib.Core.Path.{_≡_, refl, sym, ap, _∙_}
-use mathlib.Core.Bool.{Bool, true, false, cond}
-use mathlib.Core.List.{List, [], _∷_, _++_, map}
-use Prim.Native.Nat.{ℕ, suc, _+_, _-_, _*_, _/_, _^_, _≤_, _<_}
-use native.Mathlib.Nat.{mul-comm, mul-le-mul-right, div-lt-iff-lt-mul, lt-div-mul-add}
+use mathlib.Core.Bool.{true}
+use mathlib.Core.List.{List, [], _∷_, map}
+use Prim.Native.Nat.{ℕ, _+_, _-_, _*_, _/_, _^_, _≤_, _<_}
+use native.Mathlib.Nat.{mul-le-mul-right, div-lt-iff-lt-mul, lt-div-mul-add}
 use native.Mathlib.Omega.{arith}
 use lib.ListN.{length, drop, length-map}
 use lib.Pow.{pow-add, pow-mono, pow-pos}
 use lib.Ieee.{Float, Format, prec}
-use Rattle.units.specs.Whole.{Whole, nat, _⊕_, _≈_, Within, total}
+use Rattle.units.specs.Whole.{Whole, _⊕_, _≈_, total}
 use Rattle.units.specs.Ceiling.{ceil-ge}
 use Rattle.units.specs.Walk as units
 use Rattle.units.specs.Turns.{turns}
-use Rattle.ieee.specs.Units.{Number, magnitude, negative, whole}
+use Rattle.ieee.specs.Units.{whole}
 use Rattle.ieee.specs.Rounded.{prec-pos}
 use Rattle.ieee.specs.Sum.{whole-mag}
 use Rattle.lists.specs.Bitset.{has, without, full}
@@ -21,7 +21,6 @@ use Rattle.lists.specs.BitsetLaws.{has-full, has-below, without-less}
 use Rattle.lists.specs.Each.{Each, each-take, each-drop}
 use Rattle.kinds.specs.Limits.{Width, exponentOf, blocksOf}
 use Rattle.kinds.specs.States.{stateOf}
-use Rattle.kinds.specs.declared.State.{State}
 use Rattle.extract.specs.Extract.{plusZero, gathered}
 use Rattle.walk.specs.Round.{blockOf}
 use Rattle.walk.specs.Fitting.{Fitting}
@@ -31,7 +30,7 @@ use Rattle.walk.specs.Stepping.{Stepping}
 use Rattle.runs.specs.CloseUnits.{zero-whole}
 use Rattle.runs.specs.Taken.{pendingAt, mixed, takenOf}
 use Rattle.runs.specs.TakenLaws.{taken-nothing, taken-fewer, mixed-each, mixed-length}
-use Rattle.runs.specs.OneBlock.{own-numbers, count-then, total-then}
+use Rattle.runs.specs.OneBlock.{count-then, total-then}
 
 -- the high part of a float, in units
 abbrev pub highUnits : Format → ℕ → Float → Whole

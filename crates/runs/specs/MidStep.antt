@@ -5,17 +5,16 @@ use mathlib.Core.List.{List, map}
 use Prim.Native.Nat.{ℕ, zero, suc, _+_, _^_, _/_, _≤_, _<_}
 use native.Mathlib.Nat.{zero-div}
 use native.Mathlib.Omega.{arith}
-use borrow.Author.Tests.{eq-eqb, ne-eqb}
-use lib.Dec.{eqb, leb}
+use borrow.Author.Tests.{eq-eqb}
+use lib.Dec.{leb}
 use lib.IntN.{natAbs}
 use lib.ListN.{length, length-map}
-use lib.Ieee.{Float, Format, prec}
-use Rattle.units.specs.Whole.{Whole, nat, _≈_, total, int}
+use lib.Ieee.{Float, prec}
+use Rattle.units.specs.Whole.{_≈_, total}
 use Rattle.units.specs.Integers.{int-same}
 use Rattle.units.specs.Ceiling.{ceil-ge}
-use Rattle.units.specs.Walk as units
 use Rattle.units.specs.Turns.{turns, tau-zero}
-use Rattle.ieee.specs.Units.{Number, magnitude, negative, value, whole}
+use Rattle.ieee.specs.Units.{value, whole}
 use Rattle.ieee.specs.Finite.{same-float}
 use Rattle.ieee.specs.Rounded.{prec-pos}
 use Rattle.ieee.specs.Sum.{value-int, value-mag}
@@ -23,14 +22,12 @@ use Rattle.lists.specs.Bitset.{has, without}
 use Rattle.lists.specs.BitsetLaws.{has-below}
 use Rattle.kinds.specs.Limits.{Width, exponentOf, blocksOf}
 use Rattle.kinds.specs.States.{stateOf}
-use Rattle.kinds.specs.declared.State.{State}
 use Rattle.kinds.specs.declared.Step.the-variants.{More}
-use Rattle.kinds.specs.declared.Verdict.{Verdict}
 use Rattle.kinds.specs.declared.Verdict.the-variants.{Good, Refused}
 use Rattle.extract.specs.Extract.{plusZero, remainders, gathered}
 use Rattle.sound.specs.Sound.{gated}
-use Rattle.walk.specs.Round.{blockOf, turned, closed}
-use Rattle.walk.specs.Walk.{Walked, walked, takenState, taken, stepped, steppedAfter}
+use Rattle.walk.specs.Round.{blockOf, closed}
+use Rattle.walk.specs.Walk.{walked, takenState, stepped}
 use Rattle.walk.specs.StepLaws.{stepped-good, taken-closes, taken-goes}
 use Rattle.walk.specs.Fitting.{Fitting}
 use Rattle.walk.specs.InUnits.{Tau, wholes, all-ready, gathers}

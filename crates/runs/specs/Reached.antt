@@ -4,7 +4,7 @@ use mathlib.Core.Path.{_≡_, refl, sym, ap, _∙_, subst}
 use mathlib.Core.Logic.{_⊎_, inl, inr}
 use mathlib.Core.Bool.{Bool, true, false, cond}
 use mathlib.Core.List.{List, [], _∷_, foldl}
-use Prim.Native.Nat.{ℕ, zero, suc, _+_, _-_, _*_, _^_, _≤_, _<_}
+use Prim.Native.Nat.{ℕ, suc, _+_, _-_, _*_, _≤_, _<_}
 use native.Mathlib.Nat.{suc-mul, zero-mul}
 use native.Mathlib.Numerals.{add-one}
 use native.Mathlib.Omega.{arith}
@@ -12,7 +12,7 @@ use borrow.Author.Tests.{eqb-true, eqb-false}
 use lib.Dec.{eqb, leb}
 use lib.ListN.{length}
 use lib.Ieee.{Float, prec}
-use Rattle.units.specs.Whole.{Whole, difference}
+use Rattle.units.specs.Whole.{difference}
 use Rattle.lists.specs.Bitset.{has, without, full}
 use Rattle.lists.specs.BitsetLaws.{has-below, has-full}
 use Rattle.kinds.specs.Limits.{Width, exponentOf, blocksOf}
@@ -31,7 +31,7 @@ use Rattle.walk.specs.Undivided.{faithful-done}
 use Rattle.sound.specs.Sound.{gated}
 use Rattle.walk.specs.StepLaws.{stepped-refused}
 use Rattle.walk.specs.Fitting.{Fitting}
-use Rattle.walk.specs.Begun.{Begun, begun-rounds}
+use Rattle.walk.specs.Begun.{begun-rounds}
 use Rattle.walk.specs.Run.{Running, run-ends, run-goes}
 use Rattle.runs.specs.Taken.{pendingAt, mixed}
 use Rattle.runs.specs.TakenLaws.{mixed-nothing}
@@ -41,7 +41,7 @@ use Rattle.runs.specs.SumRun.{Closed, ends, goes, sums-close}
 use Rattle.runs.specs.MidRound.{Mid, mid-begins, mid-takes, block-below}
 use Rattle.runs.specs.MidStep.{has-positive, mid-goes, mid-closes, mid-refused}
 use Rattle.runs.specs.Runs.{Ran, heeded, tried}
-use Rattle.runs.specs.MembersLaws.{members-none, members-full, members-without, members-most}
+use Rattle.runs.specs.MembersLaws.{members-none, members-full, members-without}
 use Rattle.runs.specs.Runs.{members}
 
 tried-more : (W : Width) (r : Ran) (b : ℕ) (s : State) (xs : List Float) → r .walk ≡ walked (More s) xs → tried W r b ≡ heeded r (stepped W s b xs)

@@ -2,9 +2,8 @@
 use mathlib.Core.Path.{_≡_, sym, ap, _∙_}
 use mathlib.Core.List.{List, map}
 use mathlib.Core.Bool.{true, false}
-use Prim.Native.Nat.{ℕ, _≤_, _<_}
-use lib.IntN.{ℤ, pos, natAbs, _+ℤ_, +ℤ-idl}
-use lib.ListN.{length}
+use Prim.Native.Nat.{ℕ, _<_}
+use lib.IntN.{ℤ, natAbs, _+ℤ_, +ℤ-idl}
 use Rattle.units.specs.Whole.{exactSum}
 use Rattle.ieee.specs.Units.{limit, nearestFloat}
 use Rattle.kinds.specs.Limits.{doubles}
@@ -14,7 +13,6 @@ use Rattle.judge.specs.Table.{GivenWhen}
 use Rattle.judge.specs.JudgeLaws.{given-when}
 use Rattle.words.specs.Words.{wholeOf}
 use Rattle.register.specs.Register.{rounded}
-use Rattle.register.specs.Steps.{Held}
 use Rattle.register.specs.Entries.{Change, changeOf, run, AllEntered, zeros}
 use Rattle.register.specs.RunLaws.{run-whole, zero-whole, zeros-held}
 use Rattle.register.specs.RoundedLaws.{rounded-sum}
