@@ -130,7 +130,9 @@ module _ {W : Width} (F : Fitting W) (ps : List ℕ) (work : List Float) where
         subst (λ (q : State). Going W ps r q) e (subst (λ (q : Ran). Going W ps q at) whole during)
 
     bounded : r .steps ≤ suc (W .rounds) * blocksOf W (length ps)
-    bounded = omega (arith, D .steps, mul-le-mul-right (blocksOf W (length ps)) (begun-rounds (D .summing .begun)), suc-mul (W .rounds) (blocksOf W (length ps)))
+    bounded =
+        let B = blocksOf W (length ps) in
+        omega (arith, D .steps, mul-le-mul-right B (begun-rounds (D .summing .begun)), suc-mul (W .rounds) B)
 
   -- ---- a run that has finished
   module _ (r : Ran) (O : Over W F ps work r) (G : GivenWhen W (eqb (length work) (length ps)) true ps Good) where

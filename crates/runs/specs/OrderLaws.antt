@@ -2,7 +2,8 @@
 use mathlib.Core.Path.{_≡_, refl, sym, ap, _∙_}
 use mathlib.Core.Logic.{∥∥₁-elim}
 use mathlib.Core.Bool.{Bool, true, false, _&&_}
-use mathlib.Core.List.{List, [], _∷_, _++_, append-assoc, append-nil, List·Permᴰ, List·Permᴰ·nil, List·Permᴰ·cons, List·Permᴰ·swap, List·Permᴰ·trans, Perm, Permᴰ·symm}
+use mathlib.Core.List.{List, [], _∷_, _++_, append-assoc, append-nil, Perm, Permᴰ·symm}
+use mathlib.Core.List.{List·Permᴰ, List·Permᴰ·nil, List·Permᴰ·cons, List·Permᴰ·swap, List·Permᴰ·trans}
 use Prim.Native.Nat.{ℕ, zero, suc, _-_, _/_, _%_, _^_, _≤_}
 use native.Mathlib.Nat.{sub-self, one-mul}
 use native.Mathlib.Omega.{arith}
@@ -19,7 +20,8 @@ use Rattle.runs.specs.Runs.{once}
 front : (B j : ℕ) → j ≤ B → (rest : List ℕ) → once (2 ^ B - 2 ^ 0) (rising j ++ rest) ≡ once (2 ^ B - 2 ^ j) rest
 unfolding rising once
 front B zero h rest = refl
-front B (suc j) h rest = ap (once (2 ^ B - 2 ^ 0)) (append-assoc (rising j) (j ∷ []) rest) ∙ front B j (omega arith) (j ∷ rest) ∙ rw (has-from h, without-from h)
+front B (suc j) h rest =
+    ap (once (2 ^ B - 2 ^ 0)) (append-assoc (rising j) (j ∷ []) rest) ∙ front B j (omega arith) (j ∷ rest) ∙ rw (has-from h, without-from h)
 
 pub once-rising : (B : ℕ) → T (once (full B) (rising B))
 unfolding once

@@ -134,12 +134,8 @@ module _ (W : Width) (F : Fitting W) (ps : List ℕ) (work : List Float) where
     fewer = members-without (D .pending) b (blocksOf W (length ps)) h below
 
     -- not the last of the round
-    next : Walked
-    next = walked (More (stateOf (length ps) (D .sigma) (D .t) (gathered (W .format) (D .sigma) (D .tau) (blockOf W b (D .xs))) (without (D .pending) b) (D .rounds)))
-        (mixed (W .format) (D .sigma) (pendingAt W (without (D .pending) b)) 0 (D .xs))
-
     goes-on : (without (D .pending) b ≡ 0 → ⊥) → During (tried W r b)
-    unfolding state area next
+    unfolding state area
     goes-on z = subst During (sym (trying ∙ ap (heeded r) (mid-goes (D .summing .begun) (D .mid) b h z))) (record {
       e = D .e;
       sigma = D .sigma;
@@ -181,6 +177,10 @@ module _ (W : Width) (F : Fitting W) (ps : List ℕ) (work : List Float) where
         q : Step
         q = closed W (stateOf (length ps) (D .sigma) (D .t) (gathered (W .format) (D .sigma) (plusZero (W .format)) (D .xs)) 0 (D .rounds)) left
 
+        again : roundsFrom W (blocksOf W (length ps)) (suc k) (walked (More first) (D .xs))
+            ≡ roundsFrom W (blocksOf W (length ps)) (suc (W .rounds) - D .rounds) (walked (More first) (D .xs))
+        again = ap (λ (j : ℕ). roundsFrom W (blocksOf W (length ps)) j (walked (More first) (D .xs))) (sym fuel)
+
         count : r .steps + 1 ≡ (D .rounds + 1) * blocksOf W (length ps)
         count =
             let m : members (D .pending) (blocksOf W (length ps)) ≡ 1 = omega (arith, fewer, rw z at fewer, members-none (blocksOf W (length ps))) in
@@ -191,7 +191,7 @@ module _ (W : Width) (F : Fitting W) (ps : List ℕ) (work : List Float) where
           sum = x;
           rounds = D .rounds + 1;
           answer = refl;
-          undivided = run-ends running k x (D .rounds + 1) e ∙ ap (λ (j : ℕ). roundsFrom W (blocksOf W (length ps)) j (walked (More first) (D .xs))) (sym fuel) ∙ D .rest;
+          undivided = run-ends running k x (D .rounds + 1) e ∙ again ∙ D .rest;
           steps = count;
           lowered = λ j i. let e : j ≡ D .rounds = omega arith in rw e (omega (arith, D .summing .begun .lowered));
         })
@@ -201,7 +201,7 @@ module _ (W : Width) (F : Fitting W) (ps : List ℕ) (work : List Float) where
             inl (opening A _ refl count
             (ap (λ (j : ℕ). roundsFrom W (blocksOf W (length ps)) j (walked (More next) left)) j
             ∙ sym (run-goes running k next e)
-            ∙ ap (λ (j : ℕ). roundsFrom W (blocksOf W (length ps)) j (walked (More first) (D .xs))) (sym fuel)
+            ∙ again
             ∙ D .rest))
 
     pub reached-accepts : Reached (tried W r b)
