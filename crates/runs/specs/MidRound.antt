@@ -4,10 +4,10 @@ use mathlib.Core.Path.{_≡_, refl, sym, ap, _∙_}
 use mathlib.Core.Bool.{true}
 use mathlib.Core.List.{List, [], _∷_, map}
 use Prim.Native.Nat.{ℕ, _+_, _-_, _*_, _/_, _^_, _≤_, _<_}
-use native.Mathlib.Nat.{mul-le-mul-right, div-lt-iff-lt-mul, lt-div-mul-add}
+use native.Mathlib.Nat.{div-lt-iff-lt-mul, lt-div-mul-add}
 use native.Mathlib.Omega.{arith}
 use lib.ListN.{length, drop, length-map}
-use lib.Pow.{pow-add, pow-mono, pow-pos}
+use lib.Pow.{pow-pos}
 use lib.Ieee.{Float, Format, prec}
 use Rattle.units.specs.Whole.{Whole, _⊕_, _≈_, total}
 use Rattle.units.specs.Ceiling.{ceil-ge}
@@ -15,7 +15,6 @@ use Rattle.units.specs.Walk as units
 use Rattle.units.specs.Turns.{turns}
 use Rattle.ieee.specs.Units.{whole}
 use Rattle.ieee.specs.Rounded.{prec-pos}
-use Rattle.ieee.specs.Sum.{whole-mag}
 use Rattle.lists.specs.Bitset.{has, without, full}
 use Rattle.lists.specs.BitsetLaws.{has-full, has-below, without-less}
 use Rattle.lists.specs.Each.{Each, each-take, each-drop}
@@ -25,7 +24,7 @@ use Rattle.extract.specs.Extract.{plusZero, gathered}
 use Rattle.walk.specs.Round.{blockOf}
 use Rattle.walk.specs.Fitting.{Fitting}
 use Rattle.walk.specs.InUnits.{Small, Tau, wholes, all-ready, gathers, left-small}
-use Rattle.walk.specs.Begun.{Begun, begun-rounds, first-tau}
+use Rattle.walk.specs.Begun.{Begun, begun-rounds, first-tau, tau-bound}
 use Rattle.walk.specs.Stepping.{Stepping}
 use Rattle.runs.specs.CloseUnits.{zero-whole}
 use Rattle.runs.specs.Taken.{pendingAt, mixed, takenOf}
@@ -105,17 +104,6 @@ module _ {W : Width} {F : Fitting W} {e n : ℕ} {sigma t : Float} {rounds : ℕ
           (T .tau-is .units) (all-ready (B .scale) block small) (ap (λ (l : ℕ). c + l) (sym (length-map block (whole f)))) most .1)
 
   -- ---- the state is sound
-  tau-small : {P : ℕ} {tau : Float} → Mid P tau → Small (W .format) (2 ^ F .bound) tau
-  tau-small {P} {tau} T =
-      let f = W .format in
-      let M = exponentOf n in
-      let c : length (takenOf (pendingAt W P) 0 xs) ≤ 2 ^ M = omega (arith, count-small P, ceil-ge (n + 2)) in
-      let most : 2 ^ (M + e) ≤ 2 ^ F .bound = pow-mono (omega (arith, F .most-is n (B .few), B .lowered, F .tau-room)) in
-      record {
-        number = T .tau-is .number;
-        within = omega (arith, T .tau-is .units .small, whole-mag f tau, mul-le-mul-right (2 ^ e) c, pow-add 2 M e, most);
-      }
-
   pub mid-stepping : {P : ℕ} {tau : Float} → Mid P tau → 0 < P
       → Stepping W F e (stateOf n sigma t tau P rounds) (mixed (W .format) sigma (pendingAt W P) 0 xs)
   mid-stepping {P} T l = record {
@@ -126,7 +114,7 @@ module _ {W : Width} {F : Fitting W} {e n : ℕ} {sigma t : Float} {rounds : ℕ
     low = omega (arith, B .lowered);
     scale = B .scale;
     t = B .kept;
-    tau = tau-small T;
+    tau = tau-bound B (T .tau-is) (omega (arith, count-small P, ceil-ge (n + 2)));
     work = mixed-each (pendingAt W P) (W .format) sigma (Small (W .format) (2 ^ e)) (λ x X. left-small (B .scale) X) 0 xs (B .work);
     left = l;
     inside = T .inside;

@@ -59,16 +59,18 @@ module _ {W : Width} {F : Fitting W} {e n : ℕ} {sigma t : Float} {rounds : ℕ
       let z : 0 + length (take k xs) ≡ length (take k xs) = omega arith in
       rw z at (gathers (B .scale) (take k xs) first-tau (each-take (Small (W .format) (2 ^ e)) k xs (B .work)) (omega (arith, fewer k)) .0)
 
-  tau-small : (k : ℕ) → Small (W .format) (2 ^ F .bound) (gathered (W .format) sigma (plusZero (W .format)) (take k xs))
-  tau-small k =
-      let f = W .format in
+  -- tau stays within what a sound state may have
+  pub tau-bound : {c : ℕ} {tau : Float} → Tau (B .scale) c tau → c ≤ 2 ^ exponentOf n → Small (W .format) (2 ^ F .bound) tau
+  tau-bound {c} {tau} T l =
       let M = exponentOf n in
-      let tau = gathered f sigma (plusZero f) (take k xs) in
       let most : 2 ^ (M + e) ≤ 2 ^ F .bound = pow-mono (omega (arith, F .most-is n (B .few), B .lowered, F .tau-room)) in
       record {
-        number = tau-taken k .number;
-        within = omega (arith, tau-taken k .units .small, whole-mag f tau, mul-le-mul-right (2 ^ e) (fewer k), pow-add 2 M e, most);
+        number = T .number;
+        within = omega (arith, T .units .small, whole-mag (W .format) tau, mul-le-mul-right (2 ^ e) l, pow-add 2 M e, most);
       }
+
+  tau-small : (k : ℕ) → Small (W .format) (2 ^ F .bound) (gathered (W .format) sigma (plusZero (W .format)) (take k xs))
+  tau-small k = tau-bound (tau-taken k) (fewer k)
 
   pub tau-all : Small (W .format) (2 ^ F .bound) (gathered (W .format) sigma (plusZero (W .format)) xs)
   tau-all = rw (take-all n xs (omega (arith, B .count))) at (tau-small n)
