@@ -2,14 +2,14 @@
 -- step answers no refusal, for any state that the gate lets pass; nor does the undivided call, for widths that fit. Assumes nothing.
 use mathlib.Core.Path.{_≡_, refl, sym, ap, subst, _∙_}
 use mathlib.Core.Logic.{_↔_}
-use mathlib.Core.Bool.{Bool, true, false, cond}
+use mathlib.Core.Bool.{true}
 use mathlib.Core.List.{List}
-use Prim.Native.Nat.{ℕ, _+_, _^_}
+use Prim.Native.Nat.{ℕ, _^_}
 use native.Mathlib.Omega.{arith}
 use lib.Dec.{eqb}
 use lib.IntN.{pos}
 use lib.ListN.{length}
-use lib.Ieee.{Float, eq}
+use lib.Ieee.{Float}
 use Rattle.ieee.specs.Units.{nearestFloat}
 use Rattle.kinds.specs.Limits.{Width}
 use Rattle.kinds.specs.declared.State.{State}
@@ -18,12 +18,10 @@ use Rattle.kinds.specs.declared.Step.the-variants.{More, Done, Refused}
 use Rattle.kinds.specs.declared.Verdict.{Verdict}
 use Rattle.kinds.specs.declared.Verdict.the-variants as verdicts
 use Rattle.judge.specs.Judge.{judged, floats, zeroSign}
-use Rattle.extract.specs.Extract.{plusZero}
 use Rattle.judge.specs.JudgeLaws.{given-when}
 use Rattle.sound.specs.Sound.{unitsAt, gated}
-use Rattle.walk.specs.Round.{turned, allZero, fresh, closed}
-use Rattle.walk.specs.ClosedLaws.{tau1Of, finishes}
-use Rattle.walk.specs.Walk.{Walked, opened, openedAfter, takenState, taken, stepped, steppedAfter, faithfulOf}
+use Rattle.walk.specs.NoRefusal.{verdictOf, fresh-accepted, taken-accepted}
+use Rattle.walk.specs.Walk.{Walked, opened, openedAfter, stepped, steppedAfter, faithfulOf}
 use Rattle.walk.specs.OpeningLaws.{opened-refused}
 use Rattle.walk.specs.Undivided as undivided
 use Rattle.walk.specs.Fitting.{Fitting}
@@ -32,11 +30,6 @@ use Rattle.demands.specs.Tables.{StepWhen, WalkWhen}
 use Rattle.demands.specs.TablesLaws.{step-when}
 
 -- ---- what the three share: the verdict that an answer comes from, and what a refusal leaves
-
-abbrev verdictOf : Step → Verdict
-verdictOf (More s) = verdicts.Good
-verdictOf (Done x r) = verdicts.Good
-verdictOf (Refused k i) = verdicts.Refused k i
 
 -- a call gave the verdict v first
 record After (v : Verdict) (work : List Float) (w : Walked) : Type 0 where
@@ -64,34 +57,6 @@ module _ {v : Verdict} {work : List Float} {w : Walked} (A : After v work w) whe
       let r : v ≡ verdicts.Refused k i = sym (A .from) ∙ back (w .answer) k i .0 e in
       let z : _≡_ {A = ℕ} 0 1 = cc in
       omega arith
-
--- ---- the answers of an accepted call
-
-record Accepted (a : Step) : Type 0 where
-  good : verdictOf a ≡ verdicts.Good
-
-done : {x : Float} {r : ℕ} → Accepted (Done x r)
-done = record { good = refl }
-
-more : {s : State} → Accepted (More s)
-more = record { good = refl }
-
-either : (t : Bool) {a b : Step} → Accepted a → Accepted b → Accepted (cond t a b)
-either true A B = A
-either false A B = B
-
-fresh-accepted : (W : Width) (zero : Float) (n : ℕ) (xs : List Float) (rounds : ℕ) → Accepted (fresh W zero n xs rounds)
-unfolding fresh
-fresh-accepted W zero n xs rounds = either (allZero (W .format) xs) done more
-
-closed-accepted : (W : Width) (s : State) (xs : List Float) → Accepted (closed W s xs)
-unfolding closed
-closed-accepted W s xs =
-    either (eq (tau1Of W s) (plusZero (W .format))) (fresh-accepted W (plusZero (W .format)) (s .n) xs (s .rounds + 1)) (either (finishes W s) done more)
-
-taken-accepted : (W : Width) (s : State) (b : ℕ) (work : List Float) → Accepted (taken W s b work .answer)
-unfolding taken
-taken-accepted W s b work = either (eqb (takenState W s b work .pending) 0) (closed-accepted W (takenState W s b work) (turned W (s .sigma) b work)) more
 
 -- ---- a block step
 

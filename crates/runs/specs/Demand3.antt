@@ -4,24 +4,33 @@ use mathlib.Core.Bool.{true, false, cond}
 use mathlib.Core.List.{List, map}
 use Prim.Native.Nat.{ℕ, suc, _+_, _-_, _*_, _≤_}
 use lib.Dec.{leb}
-use lib.IntN.{_+ℤ_}
+use lib.IntN.{pos, _+ℤ_}
 use lib.ListN.{length}
-use lib.Ieee.{Float, prec}
+use lib.Ieee.{Float, prec, add, sub, eq}
 use Rattle.units.specs.Whole.{exactSum}
 use Rattle.units.specs.Walk.{roundedUp}
 use Rattle.ieee.specs.Units.{value, magnitude, negative}
 use Rattle.ieee.specs.Accuracy.{FaithfulTo}
-use Rattle.lists.specs.Bitset.{has}
+use Rattle.lists.specs.Bitset.{has, without}
 use Rattle.lists.specs.Each.{Each}
 use Rattle.kinds.specs.Limits.{Width, exponentOf, blocksOf}
 use Rattle.kinds.specs.declared.State.{State}
 use Rattle.kinds.specs.declared.Verdict.the-variants.{Good, Refused}
 use Rattle.sums.specs.Sums.{sumOf}
+use Rattle.extract.specs.Extract.{plusZero, gathered}
 use Rattle.sound.specs.Sound.{sound, gated}
-use Rattle.walk.specs.Round.{blockOf}
+use Rattle.walk.specs.Round.{allZero, blockOf, turned}
 use Rattle.walk.specs.Walk.{faithfulOf}
 use Rattle.walk.specs.InUnits.{Exact, ExactSums}
 use Rattle.runs.specs.Runs.{Ran, tried, members}
+
+-- as a round closes, with tau and the area that all its blocks have left: tau1 is t', tau2 is tau - (tau1 - t)
+pub record Closing (W : Width) (ps : List ℕ) (t tau : Float) (left : List Float) : Type 0 where
+  -- "at a finish by rule 3, tau1 plus tau2 plus the work numbers is S"
+  pub conserves : let f = W .format in let tau1 = add f t tau in let tau2 = sub f tau (sub f tau1 t) in
+      value f tau1 +ℤ value f tau2 +ℤ exactSum (map (value f) left) ≡ sumOf f ps
+  -- "at a finish by rule 1, S is zero"
+  pub nothing : eq (add (W .format) t tau) (plusZero (W .format)) ≡ true → allZero (W .format) left ≡ true → sumOf (W .format) ps ≡ pos 0
 
 -- a run over the list ps that goes on with the state s
 pub record Going (W : Width) (ps : List ℕ) (r : Ran) (s : State) : Type 0 where
@@ -31,12 +40,16 @@ pub record Going (W : Width) (ps : List ℕ) (r : Ran) (s : State) : Type 0 wher
   pub accepts : (b : ℕ) → has (s .pending) b ≡ true → gated W s b (r .walk .work) ≡ Good
   pub refuses : (b : ℕ) → has (s .pending) b ≡ false → gated W s b (r .walk .work) ≡ Refused (cond (leb (blocksOf W (s .n)) b) 6 7) 0
   pub unchanged : (b : ℕ) → has (s .pending) b ≡ false → tried W r b ≡ r
+  -- "An accepted step turns exactly its own block's numbers into their remainders": `Places` says it of each place
+  pub turns : (b : ℕ) → has (s .pending) b ≡ true → tried W r b .walk .work ≡ turned W (s .sigma) b (r .walk .work)
   -- "For each place both subtractions are exact .. The additions to tau are exact and tau is never -0."
   pub exact : Each (Exact (W .format) (s .sigma)) (r .walk .work)
   pub gathers : (b : ℕ) → has (s .pending) b ≡ true → ExactSums (W .format) (s .sigma) (s .tau) (blockOf W b (r .walk .work))
   pub plus : magnitude (W .format) (s .tau) ≡ 0 → negative (s .tau) ≡ false
   -- "t plus tau plus the work numbers is S"
   pub conserves : value (W .format) (s .t) +ℤ value (W .format) (s .tau) +ℤ exactSum (map (value (W .format)) (r .walk .work)) ≡ sumOf (W .format) ps
+  pub closes : (b : ℕ) → has (s .pending) b ≡ true → without (s .pending) b ≡ 0
+      → Closing W ps (s .t) (gathered (W .format) (s .sigma) (s .tau) (blockOf W b (r .walk .work))) (tried W r b .walk .work)
   -- the accepted steps are those of the rounds closed, and the blocks taken since
   pub steps : r .steps + members (s .pending) (blocksOf W (s .n)) ≡ s .rounds * blocksOf W (s .n) + blocksOf W (s .n)
   pub rounds : s .rounds ≤ W .rounds

@@ -1,139 +1,32 @@
 -- Demand 3: every run over an accepted list goes on as `Going` says, or has finished as `Finished` says; its accepted steps are bounded. Assumes nothing.
-use mathlib.Core.Path.{_≡_, refl, sym, ap, _∙_, subst}
+use mathlib.Core.Path.{_≡_, refl, sym, ap, _∙_}
 use mathlib.Core.Logic.{inl, inr}
 use mathlib.Core.Bool.{Bool, true, false}
-use mathlib.Core.List.{List, [], _∷_, map, foldl}
-use Prim.Native.Nat.{ℕ, zero, suc, _+_, _-_, _*_, _^_, _≤_, _<_}
-use native.Mathlib.Nat.{le-div-iff-mul-le, mul-le-mul-right, suc-mul}
+use mathlib.Core.List.{List, [], _∷_, foldl}
+use Prim.Native.Nat.{ℕ, zero, suc, _+_, _-_, _*_, _≤_, _<_}
+use native.Mathlib.Nat.{le-div-iff-mul-le, mul-le-mul-right}
 use native.Mathlib.Omega.{arith}
 use lib.Dec.{eqb}
-use lib.IntN.{ℤ, _+ℤ_}
-use lib.ListN.{length, drop}
-use lib.Ieee.{Float, Format, prec}
-use Rattle.units.specs.Whole.{_⊕_, int, difference, exactSum, total}
-use Rattle.units.specs.Integers.{int-plus, int-same, int-difference}
-use Rattle.units.specs.ExactSum.{sum-total}
-use Rattle.units.specs.Ceiling.{ceil-ge}
+use lib.ListN.{length}
+use lib.Ieee.{Float, prec}
 use Rattle.units.specs.Walk.{roundedUp}
-use Rattle.ieee.specs.Units.{value, whole}
-use Rattle.ieee.specs.Sum.{value-int}
-use Rattle.lists.specs.Bitset.{has, without}
-use Rattle.lists.specs.BitsetLaws.{has-below}
-use Rattle.lists.specs.Each.{Each, each-weaker, each-take, each-drop}
 use Rattle.kinds.specs.Limits.{Width, exponentOf, blocksOf}
-use Rattle.kinds.specs.States.{stateOf}
 use Rattle.kinds.specs.declared.State.{State}
 use Rattle.kinds.specs.declared.Step.the-variants.{More, Done, Refused}
 use Rattle.kinds.specs.declared.Verdict.the-variants.{Good}
 use Rattle.judge.specs.Table.{GivenWhen}
-use Rattle.sums.specs.Sums.{sumOf}
 use Rattle.judge.specs.Judge.{floats}
-use Rattle.walk.specs.Round.{allZero, blockOf}
-use Rattle.walk.specs.Walk.{Walked, walked, opened, faithfulOf}
+use Rattle.walk.specs.Round.{allZero}
+use Rattle.walk.specs.Walk.{Walked, opened, faithfulOf}
 use Rattle.walk.specs.Fitting.{Fitting}
-use Rattle.walk.specs.InUnits.{Small, wholes, Exact, ExactSums, taken-exact, gathers-exact}
-use Rattle.walk.specs.Begun.{begun-rounds}
-use Rattle.walk.specs.Stepping.{stepping-sound}
 use Rattle.runs.specs.Faithful.{FaithfulSum, faithful-promised}
-use Rattle.runs.specs.Taken.{pendingAt, mixed}
-use Rattle.runs.specs.OneBlock.{own-numbers, count-then}
-use Rattle.runs.specs.MidRound.{mid-stepping, count-small}
-use Rattle.runs.specs.Conserved.{mid-conserves}
-use Rattle.runs.specs.MidStep.{mid-accepted, mid-refused}
 use Rattle.runs.specs.Runs.{Ran, tried, runOf}
 use Rattle.runs.specs.OpenedSum.{zeroOf, opened-zero, opened-round}
-use Rattle.runs.specs.Reached.{During, Over, Reached, reached-opens, reached-run, reached-refuses}
+use Rattle.runs.specs.Reached.{Over, Reached, reached-opens, reached-run}
 use Rattle.runs.specs.Demand3.{Going, Finished}
-
--- the values of floats, summed, are their units summed
-sum-values : (f : Format) (xs : List Float) → exactSum (map (value f) xs) ≡ int (total (wholes f xs))
-sum-values f xs = same xs ∙ sum-total (wholes f xs)
-  where
-    same : (xs : List Float) → exactSum (map (value f) xs) ≡ exactSum (map int (wholes f xs))
-    same [] = refl
-    same (x ∷ xs) = λ i. value-int f x i +ℤ same xs i
+use Rattle.runs.specs.GoingLaws.{goes-on, bounded}
 
 module _ {W : Width} (F : Fitting W) (ps : List ℕ) (work : List Float) where
-  -- ---- a run that goes on
-  module _ (r : Ran) (D : During W F ps work r) where
-    at : State
-    at = stateOf (length ps) (D .sigma) (D .t) (D .tau) (D .pending) (D .rounds)
-
-    area : List Float
-    area = mixed (W .format) (D .sigma) (pendingAt W (D .pending)) 0 (D .xs)
-
-    small : Each (Small (W .format) (2 ^ D .e)) area
-    unfolding area
-    small = mid-stepping (D .summing .begun) (D .mid) (D .some) .work
-
-    sums : (b : ℕ) → has (D .pending) b ≡ true → ExactSums (W .format) (D .sigma) (D .tau) (blockOf W b area)
-    unfolding area
-    sums b h =
-        let B = D .summing .begun in
-        let A = Small (W .format) (2 ^ D .e) in
-        let there = has-below (D .pending) b h (blocksOf W (length ps)) (D .mid .inside) in
-        let inside : b < blocksOf W (length (D .xs)) = rw (B .count) there in
-        let c = count-then W (F .block) (D .xs) b inside (D .pending) h in
-        rw (own-numbers W (F .block) (D .xs) b inside (D .pending) h (D .sigma))
-        (gathers-exact (B .scale) (blockOf W b (D .xs)) (D .mid .tau-is)
-        (each-take A (W .block) (drop (W .block * b) (D .xs)) (each-drop A (W .block * b) (D .xs) (B .work)))
-        (omega (arith, c, count-small B (without (D .pending) b), ceil-ge (length ps + 2))))
-
-    kept : value (W .format) (D .t) +ℤ value (W .format) (D .tau) +ℤ exactSum (map (value (W .format)) area) ≡ sumOf (W .format) ps
-    unfolding area
-    kept =
-        let f = W .format in
-        let a = whole f (D .t) in
-        let b = whole f (D .tau) in
-        let c = total (wholes f area) in
-        (λ i. value-int f (D .t) i +ℤ value-int f (D .tau) i +ℤ sum-values f area i)
-        ∙ ap (λ (z : ℤ). z +ℤ int c) (sym (int-plus a b))
-        ∙ sym (int-plus (a ⊕ b) c)
-        ∙ int-same (a ⊕ b ⊕ c) (difference (sumOf f ps)) (mid-conserves (D .summing) (D .mid))
-        ∙ int-difference (sumOf f ps)
-
-    during : Going W ps (record { walk = walked (More at) area; steps = r .steps }) at
-    unfolding at area
-    during = record {
-      sound = stepping-sound (mid-stepping (D .summing .begun) (D .mid) (D .some));
-      accepts = λ b h. mid-accepted (D .summing .begun) (D .mid) b h;
-      refuses = λ b h. mid-refused (D .summing .begun) (D .mid) (D .some) b h;
-      unchanged = λ b h. reached-refuses W F ps work _ (record {
-        e = D .e;
-        sigma = D .sigma;
-        t = D .t;
-        rounds = D .rounds;
-        xs = D .xs;
-        summing = D .summing;
-        pending = D .pending;
-        tau = D .tau;
-        mid = D .mid;
-        some = D .some;
-        walk = refl;
-        steps = D .steps;
-        rest = D .rest;
-      }) b h;
-      exact = each-weaker (Small (W .format) (2 ^ D .e)) (Exact (W .format) (D .sigma)) (λ x X. taken-exact (D .summing .begun .scale) X) area small;
-      gathers = sums;
-      plus = D .mid .tau-is .plus;
-      conserves = kept;
-      steps = D .steps;
-      rounds = begun-rounds (D .summing .begun);
-    }
-
-    goes-on : (s : State) → r .walk .answer ≡ More s → Going W ps r s
-    unfolding at area
-    goes-on s h =
-        let m : More at ≡ More s = sym (ap (λ (w : Walked). w .answer) (D .walk)) ∙ h in
-        let e : at ≡ s = cc in
-        let whole : record { walk = walked (More at) area; steps = r .steps } ≡ r = λ i. record { walk = sym (D .walk) i; steps = r .steps } in
-        subst (λ (q : State). Going W ps r q) e (subst (λ (q : Ran). Going W ps q at) whole during)
-
-    bounded : r .steps ≤ suc (W .rounds) * blocksOf W (length ps)
-    bounded =
-        let B = blocksOf W (length ps) in
-        omega (arith, D .steps, mul-le-mul-right B (begun-rounds (D .summing .begun)), suc-mul (W .rounds) B)
-
   -- ---- a run that has finished
   module _ (r : Ran) (O : Over W F ps work r) (G : GivenWhen W (eqb (length work) (length ps)) true ps Good) where
     finishes : (x : Float) (k : ℕ) → r .walk .answer ≡ Done x k → Finished W (F .top) ps work r x k
@@ -183,7 +76,7 @@ module _ {W : Width} (F : Fitting W) (ps : List ℕ) (work : List Float) where
     run-goes s h = go reached
       where
         go : Reached W F ps work (runOf W ps work bs) → Going W ps (runOf W ps work bs) s
-        go (inl D) = goes-on _ D s h
+        go (inl D) = goes-on F ps work _ D s h
         go (inr O) = let m : Done (O .sum) (O .rounds) ≡ More s = sym (O .answer) ∙ h in let z : _≡_ {A = ℕ} 0 1 = cc in absurd (omega arith)
 
     pub run-finishes : (x : Float) (k : ℕ) → runOf W ps work bs .walk .answer ≡ Done x k → Finished W (F .top) ps work (runOf W ps work bs) x k
@@ -207,7 +100,7 @@ module _ {W : Width} (F : Fitting W) (ps : List ℕ) (work : List Float) where
     run-bounded = go reached
       where
         go : Reached W F ps work (runOf W ps work bs) → runOf W ps work bs .steps ≤ suc (W .rounds) * blocksOf W (length ps)
-        go (inl D) = bounded _ D
+        go (inl D) = bounded F ps work _ D
         go (inr O) =
             let most = finishes _ O G (O .sum) (O .rounds) (O .answer) .most in
             omega (arith, O .steps, mul-le-mul-right (blocksOf W (length ps)) most)

@@ -7,6 +7,7 @@ pub mod Faithful
 pub mod Taken
 pub mod TakenLaws
 pub mod OneBlock
+pub mod Places
 pub mod MidRound
 pub mod Conserved
 pub mod MidStep
@@ -16,5 +17,6 @@ pub mod Reached
 pub mod OrderLaws
 pub mod AnyOrder
 pub mod Demand3
+pub mod GoingLaws
 pub mod Demand3Laws
 pub mod Instances

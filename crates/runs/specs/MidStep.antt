@@ -52,7 +52,7 @@ module _ {W : Width} {F : Fitting W} {e n : ℕ} {sigma t : Float} {rounds : ℕ
   all-of : takenOf (pendingAt W 0) 0 xs ≡ xs
   all-of = taken-all (pendingAt W 0) 0 xs (λ j l h. empty-has (j / W .block))
 
-  all-left : mixed (W .format) sigma (pendingAt W 0) 0 xs ≡ remainders (W .format) sigma xs
+  pub all-left : mixed (W .format) sigma (pendingAt W 0) 0 xs ≡ remainders (W .format) sigma xs
   all-left = mixed-all (pendingAt W 0) (W .format) sigma 0 xs (λ j l h. empty-has (j / W .block))
 
   risen : Tau (B .scale) (length xs) (gathered (W .format) sigma (plusZero (W .format)) xs)
@@ -75,7 +75,7 @@ module _ {W : Width} {F : Fitting W} {e n : ℕ} {sigma t : Float} {rounds : ℕ
       same-float (X .number) (Y .number) v
       (λ z. X .plus (sym (value-mag f x) ∙ ap natAbs z) ∙ sym (Y .plus (sym (value-mag f y) ∙ ap natAbs (sym v ∙ z))))
 
-  last-tau : {tau : Float} → Mid B 0 tau → tau ≡ gathered (W .format) sigma (plusZero (W .format)) xs
+  pub last-tau : {tau : Float} → Mid B 0 tau → tau ≡ gathered (W .format) sigma (plusZero (W .format)) xs
   last-tau T = same (T .tau-is) (risen .0) (omega (arith, rw all-of at (T .sum), risen .1))
 
   -- ---- one block

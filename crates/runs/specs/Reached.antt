@@ -44,7 +44,7 @@ use Rattle.runs.specs.Runs.{Ran, heeded, tried}
 use Rattle.runs.specs.MembersLaws.{members-none, members-full, members-without}
 use Rattle.runs.specs.Runs.{members}
 
-tried-more : (W : Width) (r : Ran) (b : ℕ) (s : State) (xs : List Float) → r .walk ≡ walked (More s) xs → tried W r b ≡ heeded r (stepped W s b xs)
+pub tried-more : (W : Width) (r : Ran) (b : ℕ) (s : State) (xs : List Float) → r .walk ≡ walked (More s) xs → tried W r b ≡ heeded r (stepped W s b xs)
 tried-more W r b s xs e = rw e
 
 module _ (W : Width) (F : Fitting W) (ps : List ℕ) (work : List Float) where

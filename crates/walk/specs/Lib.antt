@@ -18,3 +18,4 @@ pub mod Instances
 pub mod CutLaws
 pub mod SigmaLaws
 pub mod ClosedLaws
+pub mod NoRefusal

@@ -1,0 +1,193 @@
+-- A run in a round of the walk goes on as `Going` says, and has no more accepted steps than the rounds allow. Assumes nothing.
+use mathlib.Core.Path.{_≡_, refl, sym, ap, _∙_, subst}
+use mathlib.Core.Bool.{true}
+use mathlib.Core.List.{List, [], _∷_, map}
+use Prim.Native.Nat.{ℕ, suc, _+_, _*_, _^_, _≤_, _<_}
+use native.Mathlib.Nat.{mul-le-mul-right, suc-mul}
+use native.Mathlib.Omega.{arith}
+use lib.IntN.{ℤ, pos, _+ℤ_}
+use lib.ListN.{length, drop}
+use lib.Ieee.{Float, Format, sub, eq}
+use Rattle.units.specs.Whole.{_⊕_, _≈_, nat, int, difference, exactSum, total}
+use Rattle.units.specs.Integers.{int-plus, int-same, int-difference}
+use Rattle.units.specs.ExactSum.{sum-total}
+use Rattle.units.specs.Ceiling.{ceil-ge}
+use Rattle.ieee.specs.Units.{value, whole}
+use Rattle.ieee.specs.Sum.{value-int}
+use Rattle.lists.specs.Bitset.{has, without}
+use Rattle.lists.specs.BitsetLaws.{has-below}
+use Rattle.lists.specs.Each.{Each, each-weaker, each-take, each-drop}
+use Rattle.kinds.specs.Limits.{Width, blocksOf}
+use Rattle.kinds.specs.States.{stateOf}
+use Rattle.kinds.specs.declared.State.{State}
+use Rattle.kinds.specs.declared.Step.{Step}
+use Rattle.kinds.specs.declared.Step.the-variants.{More, Done, Refused}
+use Rattle.kinds.specs.declared.Verdict.the-variants.{Good}
+use Rattle.sums.specs.Sums.{sumOf}
+use Rattle.extract.specs.Extract.{plusZero, remainders, gathered}
+use Rattle.sound.specs.Sound.{gated}
+use Rattle.walk.specs.Closes.{carried}
+use Rattle.walk.specs.Round.{allZero, blockOf, turned}
+use Rattle.walk.specs.Walk.{Walked, walked, taken}
+use Rattle.walk.specs.StepLaws.{stepped-good}
+use Rattle.walk.specs.NoRefusal.{verdictOf, taken-accepted}
+use Rattle.walk.specs.Fitting.{Fitting}
+use Rattle.walk.specs.InUnits.{Small, wholes, Exact, ExactSums, taken-exact, gathers-exact}
+use Rattle.walk.specs.Begun.{begun-rounds}
+use Rattle.walk.specs.Stepping.{stepping-sound}
+use Rattle.runs.specs.Summing.{sums-nothing}
+use Rattle.runs.specs.Taken.{pendingAt, mixed}
+use Rattle.runs.specs.OneBlock.{own-numbers, own-block, count-then}
+use Rattle.runs.specs.MidRound.{mid-takes, mid-stepping, count-small}
+use Rattle.runs.specs.Conserved.{mid-conserves, finish-conserves}
+use Rattle.runs.specs.MidStep.{last-tau, all-left, mid-accepted, mid-refused}
+use Rattle.runs.specs.Runs.{Ran, heeded, tried}
+use Rattle.runs.specs.Reached.{tried-more, During, reached-refuses}
+use Rattle.runs.specs.Demand3.{Closing, Going}
+
+-- the values of floats, summed, are their units summed
+sum-values : (f : Format) (xs : List Float) → exactSum (map (value f) xs) ≡ int (total (wholes f xs))
+sum-values f xs = same xs ∙ sum-total (wholes f xs)
+  where
+    same : (xs : List Float) → exactSum (map (value f) xs) ≡ exactSum (map int (wholes f xs))
+    same [] = refl
+    same (x ∷ xs) = λ i. value-int f x i +ℤ same xs i
+
+-- two numbers and a list, as integers, from their units
+sums-to : (f : Format) (x y : Float) (xs : List Float) (S : ℤ) → whole f x ⊕ whole f y ⊕ total (wholes f xs) ≈ difference S
+    → value f x +ℤ value f y +ℤ exactSum (map (value f) xs) ≡ S
+sums-to f x y xs S h =
+    let a = whole f x in
+    let b = whole f y in
+    let c = total (wholes f xs) in
+    (λ i. value-int f x i +ℤ value-int f y i +ℤ sum-values f xs i)
+    ∙ ap (λ (z : ℤ). z +ℤ int c) (sym (int-plus a b))
+    ∙ sym (int-plus (a ⊕ b) c)
+    ∙ int-same (a ⊕ b ⊕ c) (difference S) h
+    ∙ int-difference S
+
+-- a step that the gate lets pass turns its block
+accepted-turns : (W : Width) (r : Ran) (s : State) (xs : List Float) (b : ℕ) → r .walk ≡ walked (More s) xs → gated W s b xs ≡ Good
+    → tried W r b .walk .work ≡ turned W (s .sigma) b xs
+unfolding taken
+accepted-turns W r s xs b e g = ap (λ (q : Ran). q .walk .work) (tried-more W r b s xs e ∙ ap (heeded r) (sym (stepped-good W s b xs (gated W s b xs) g)))
+    ∙ kept (taken W s b xs) refl (taken-accepted W s b xs .good)
+  where
+    kept : (w : Walked) → w .work ≡ turned W (s .sigma) b xs → verdictOf (w .answer) ≡ Good → heeded r w .walk .work ≡ turned W (s .sigma) b xs
+    kept w h v = go (w .answer) refl v
+      where
+        go : (a : Step) → w .answer ≡ a → verdictOf a ≡ Good → heeded r w .walk .work ≡ turned W (s .sigma) b xs
+        go (More q) i v = rw i h
+        go (Done x k) i v = rw i h
+        go (Refused k p) i v = let z : _≡_ {A = ℕ} 0 1 = cc in absurd (omega arith)
+
+module _ {W : Width} (F : Fitting W) (ps : List ℕ) (work : List Float) where
+  -- ---- a run that goes on
+  module _ (r : Ran) (D : During W F ps work r) where
+    at : State
+    at = stateOf (length ps) (D .sigma) (D .t) (D .tau) (D .pending) (D .rounds)
+
+    area : List Float
+    area = mixed (W .format) (D .sigma) (pendingAt W (D .pending)) 0 (D .xs)
+
+    small : Each (Small (W .format) (2 ^ D .e)) area
+    unfolding area
+    small = mid-stepping (D .summing .begun) (D .mid) (D .some) .work
+
+    there : (b : ℕ) → has (D .pending) b ≡ true → b < blocksOf W (length (D .xs))
+    there b h = rw (D .summing .begun .count) (has-below (D .pending) b h (blocksOf W (length ps)) (D .mid .inside))
+
+    sums : (b : ℕ) → has (D .pending) b ≡ true → ExactSums (W .format) (D .sigma) (D .tau) (blockOf W b area)
+    unfolding area
+    sums b h =
+        let B = D .summing .begun in
+        let A = Small (W .format) (2 ^ D .e) in
+        let inside = there b h in
+        let c = count-then W (F .block) (D .xs) b inside (D .pending) h in
+        rw (own-numbers W (F .block) (D .xs) b inside (D .pending) h (D .sigma))
+        (gathers-exact (B .scale) (blockOf W b (D .xs)) (D .mid .tau-is)
+        (each-take A (W .block) (drop (W .block * b) (D .xs)) (each-drop A (W .block * b) (D .xs) (B .work)))
+        (omega (arith, c, count-small B (without (D .pending) b), ceil-ge (length ps + 2))))
+
+    kept : value (W .format) (D .t) +ℤ value (W .format) (D .tau) +ℤ exactSum (map (value (W .format)) area) ≡ sumOf (W .format) ps
+    unfolding area
+    kept = sums-to (W .format) (D .t) (D .tau) area (sumOf (W .format) ps) (mid-conserves (D .summing) (D .mid))
+
+    -- the round that its last block closes, whatever tau and the area are written as
+    closing : (tau : Float) (left : List Float) → tau ≡ gathered (W .format) (D .sigma) (plusZero (W .format)) (D .xs)
+        → left ≡ remainders (W .format) (D .sigma) (D .xs) → Closing W ps (D .t) tau left
+    closing tau left e i =
+        let f = W .format in
+        let tau1 = carried W (D .sigma) (D .t) (D .xs) in
+        let tau2 = sub f (gathered f (D .sigma) (plusZero f) (D .xs)) (sub f tau1 (D .t)) in
+        rw (e, i) (record {
+          conserves = sums-to f tau1 tau2 (remainders f (D .sigma) (D .xs)) S (finish-conserves (D .summing));
+          nothing = none;
+        })
+      where
+        S : ℤ
+        S = sumOf (W .format) ps
+
+        none : eq (carried W (D .sigma) (D .t) (D .xs)) (plusZero (W .format)) ≡ true
+            → allZero (W .format) (remainders (W .format) (D .sigma) (D .xs)) ≡ true → S ≡ pos 0
+        none z a = sym (int-difference S) ∙ int-same (difference S) (nat 0) (sums-nothing (D .summing) z a) ∙ int-difference (pos 0)
+
+    last-tau-of : (b : ℕ) → has (D .pending) b ≡ true → without (D .pending) b ≡ 0
+        → gathered (W .format) (D .sigma) (D .tau) (blockOf W b area) ≡ gathered (W .format) (D .sigma) (plusZero (W .format)) (D .xs)
+    unfolding area
+    last-tau-of b h z =
+        ap (gathered (W .format) (D .sigma) (D .tau)) (own-numbers W (F .block) (D .xs) b (there b h) (D .pending) h (D .sigma))
+        ∙ last-tau (D .summing .begun) (rw z at (mid-takes (D .summing .begun) (D .mid) b h))
+
+    last-area : (b : ℕ) → has (D .pending) b ≡ true → without (D .pending) b ≡ 0
+        → turned W (D .sigma) b area ≡ remainders (W .format) (D .sigma) (D .xs)
+    unfolding area
+    last-area b h z =
+        own-block W (F .block) (D .xs) b (there b h) (D .pending) h (D .sigma)
+        ∙ ap (λ (P : ℕ). mixed (W .format) (D .sigma) (pendingAt W P) 0 (D .xs)) z
+        ∙ all-left (D .summing .begun)
+
+    during : Going W ps (record { walk = walked (More at) area; steps = r .steps }) at
+    unfolding at area
+    during = record {
+      sound = stepping-sound (mid-stepping (D .summing .begun) (D .mid) (D .some));
+      accepts = λ b h. mid-accepted (D .summing .begun) (D .mid) b h;
+      refuses = λ b h. mid-refused (D .summing .begun) (D .mid) (D .some) b h;
+      turns = λ b h. accepted-turns W _ at area b refl (mid-accepted (D .summing .begun) (D .mid) b h);
+      unchanged = λ b h. reached-refuses W F ps work _ (record {
+        e = D .e;
+        sigma = D .sigma;
+        t = D .t;
+        rounds = D .rounds;
+        xs = D .xs;
+        summing = D .summing;
+        pending = D .pending;
+        tau = D .tau;
+        mid = D .mid;
+        some = D .some;
+        walk = refl;
+        steps = D .steps;
+        rest = D .rest;
+      }) b h;
+      exact = each-weaker (Small (W .format) (2 ^ D .e)) (Exact (W .format) (D .sigma)) (λ x X. taken-exact (D .summing .begun .scale) X) area small;
+      gathers = sums;
+      plus = D .mid .tau-is .plus;
+      conserves = kept;
+      closes = λ b h z. closing _ _ (last-tau-of b h z)
+          (accepted-turns W _ at area b refl (mid-accepted (D .summing .begun) (D .mid) b h) ∙ last-area b h z);
+      steps = D .steps;
+      rounds = begun-rounds (D .summing .begun);
+    }
+
+    pub goes-on : (s : State) → r .walk .answer ≡ More s → Going W ps r s
+    unfolding at area
+    goes-on s h =
+        let m : More at ≡ More s = sym (ap (λ (w : Walked). w .answer) (D .walk)) ∙ h in
+        let e : at ≡ s = cc in
+        let whole : record { walk = walked (More at) area; steps = r .steps } ≡ r = λ i. record { walk = sym (D .walk) i; steps = r .steps } in
+        subst (λ (q : State). Going W ps r q) e (subst (λ (q : Ran). Going W ps q at) whole during)
+
+    pub bounded : r .steps ≤ suc (W .rounds) * blocksOf W (length ps)
+    bounded =
+        let B = blocksOf W (length ps) in
+        omega (arith, D .steps, mul-le-mul-right B (begun-rounds (D .summing .begun)), suc-mul (W .rounds) B)

@@ -1,0 +1,49 @@
+-- The answers of an accepted call are no refusals: a fresh start, a close and a taken block. Assumes nothing.
+use mathlib.Core.Path.{_≡_, refl}
+use mathlib.Core.Bool.{Bool, true, false, cond}
+use mathlib.Core.List.{List}
+use Prim.Native.Nat.{ℕ, _+_}
+use lib.Dec.{eqb}
+use lib.Ieee.{Float, eq}
+use Rattle.kinds.specs.Limits.{Width}
+use Rattle.kinds.specs.declared.State.{State}
+use Rattle.kinds.specs.declared.Step.{Step}
+use Rattle.kinds.specs.declared.Step.the-variants.{More, Done, Refused}
+use Rattle.kinds.specs.declared.Verdict.{Verdict}
+use Rattle.kinds.specs.declared.Verdict.the-variants as verdicts
+use Rattle.extract.specs.Extract.{plusZero}
+use Rattle.walk.specs.Round.{turned, allZero, fresh, closed}
+use Rattle.walk.specs.Walk.{takenState, taken}
+use Rattle.walk.specs.ClosedLaws.{tau1Of, finishes}
+
+-- the verdict that an answer comes from
+abbrev pub verdictOf : Step → Verdict
+verdictOf (More s) = verdicts.Good
+verdictOf (Done x r) = verdicts.Good
+verdictOf (Refused k i) = verdicts.Refused k i
+
+pub record Accepted (a : Step) : Type 0 where
+  pub good : verdictOf a ≡ verdicts.Good
+
+done : {x : Float} {r : ℕ} → Accepted (Done x r)
+done = record { good = refl }
+
+more : {s : State} → Accepted (More s)
+more = record { good = refl }
+
+either : (t : Bool) {a b : Step} → Accepted a → Accepted b → Accepted (cond t a b)
+either true A B = A
+either false A B = B
+
+pub fresh-accepted : (W : Width) (zero : Float) (n : ℕ) (xs : List Float) (rounds : ℕ) → Accepted (fresh W zero n xs rounds)
+unfolding fresh
+fresh-accepted W zero n xs rounds = either (allZero (W .format) xs) done more
+
+closed-accepted : (W : Width) (s : State) (xs : List Float) → Accepted (closed W s xs)
+unfolding closed
+closed-accepted W s xs =
+    either (eq (tau1Of W s) (plusZero (W .format))) (fresh-accepted W (plusZero (W .format)) (s .n) xs (s .rounds + 1)) (either (finishes W s) done more)
+
+pub taken-accepted : (W : Width) (s : State) (b : ℕ) (work : List Float) → Accepted (taken W s b work .answer)
+unfolding taken
+taken-accepted W s b work = either (eqb (takenState W s b work .pending) 0) (closed-accepted W (takenState W s b work) (turned W (s .sigma) b work)) more
