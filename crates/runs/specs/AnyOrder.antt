@@ -31,8 +31,8 @@ use Rattle.runs.specs.Taken.{pendingAt, mixed}
 use Rattle.runs.specs.TakenLaws.{mixed-nothing}
 use Rattle.runs.specs.MidRound.{Mid, mid-begins, mid-takes, block-below}
 use Rattle.runs.specs.MidStep.{empty-has, has-positive, mid-goes, mid-closes}
-use Rattle.runs.specs.Runs.{once, ordered}
-use Rattle.runs.specs.OrderLaws.{once-permuted}
+use Rattle.runs.specs.Runs.{ordered}
+use Rattle.runs.specs.OrderLaws.{once, once-permuted}
 use Rattle.runs.specs.OpenedSum.{opened-zero, opened-round, opened-summing}
 
 -- ---- one round
@@ -117,7 +117,7 @@ module _ (W : Width) (F : Fitting W) (n : ℕ) (π : ℕ → List ℕ) (each : (
       agree (Refused j p) e h = absurd (run-accepted R j p e)
       agree (More s') e h = h s' e
 
--- ---- "for every sequence of permutations of the blocks, one per round, that run exists and finishes", with the undivided call's answer, rounds and remainders
+-- ---- with any order of blocks in each round, from the opening of an accepted list
 module _ {W : Width} (F : Fitting W) (ps : List ℕ) (work : List Float) (G : GivenWhen W (eqb (length work) (length ps)) true ps Good) where
   pub any-order : (π : ℕ → List ℕ) → ((i : ℕ) → Perm (π i) (rising (blocksOf W (length ps))))
       → ordered W π (suc (W .rounds)) 0 (opened W ps work) ≡ faithfulOf W ps work

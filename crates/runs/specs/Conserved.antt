@@ -13,7 +13,7 @@ use Rattle.lists.specs.Each.{Each}
 use Rattle.kinds.specs.Limits.{Width, exponentOf}
 use Rattle.extract.specs.Extract.{plusZero, remainderOf, remainders, gathered}
 use Rattle.walk.specs.Fitting.{Fitting}
-use Rattle.walk.specs.InUnits.{Small, wholes, high-units, taken-exact}
+use Rattle.walk.specs.InUnits.{Small, wholes, high-units, remainder-exact}
 use Rattle.walk.specs.Begun.{tau-all}
 use Rattle.runs.specs.CloseUnits.{held, tau1-units, tau2-units}
 use Rattle.runs.specs.Taken.{pendingAt, mixed, takenOf}
@@ -42,7 +42,7 @@ module _ {W : Width} {F : Fitting W} {S : Whole} {e n : ℕ} {sigma t : Float} {
           ≈ whole f y ⊕ total (wholes f ys)
       go true r = omega arith
       go false r =
-          let E = taken-exact (A .begun .scale) (h .0) .remainder in
+          let E = remainder-exact (A .begun .scale) (h .0) in
           omega (arith, rw (high-units (A .begun .scale) (h .0)) at E)
 
   -- "t plus tau plus all work numbers is S exactly"

@@ -21,7 +21,7 @@ use Rattle.extract.specs.Extract.{plusZero, gathered}
 use Rattle.sound.specs.Sound.{sound, gated}
 use Rattle.walk.specs.Round.{allZero, blockOf, turned}
 use Rattle.walk.specs.Walk.{faithfulOf}
-use Rattle.walk.specs.InUnits.{Exact, ExactSums}
+use Rattle.walk.specs.Exactness.{Exact, ExactSums}
 use Rattle.runs.specs.Runs.{Ran, tried, members}
 
 -- as a round closes, with tau and the area that all its blocks have left: tau1 is t', tau2 is tau - (tau1 - t)
@@ -34,6 +34,7 @@ pub record Closing (W : Width) (ps : List ℕ) (t tau : Float) (left : List Floa
 
 -- a run over the list ps that goes on with the state s
 pub record Going (W : Width) (ps : List ℕ) (r : Ran) (s : State) : Type 0 where
+  pub count : s .n ≡ length ps
   -- "Every state of a run is sound."
   pub sound : sound W s (r .walk .work) ≡ true
   -- "A pending block is never refused; any other block number is refused with 6 or 7 .., and a refusal changes nothing."

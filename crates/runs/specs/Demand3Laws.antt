@@ -2,9 +2,9 @@
 use mathlib.Core.Path.{_≡_, refl, sym, ap, _∙_}
 use mathlib.Core.Logic.{inl, inr}
 use mathlib.Core.Bool.{Bool, true, false}
-use mathlib.Core.List.{List, [], _∷_, foldl}
+use mathlib.Core.List.{List, [], _∷_, _++_, foldl}
 use Prim.Native.Nat.{ℕ, zero, suc, _+_, _-_, _*_, _≤_, _<_}
-use native.Mathlib.Nat.{le-div-iff-mul-le, mul-le-mul-right}
+use native.Mathlib.Nat.{le-div-iff-mul-le, mul-le-mul-right, add-mul, suc-mul}
 use native.Mathlib.Omega.{arith}
 use lib.Dec.{eqb}
 use lib.ListN.{length}
@@ -12,7 +12,7 @@ use lib.Ieee.{Float, prec}
 use Rattle.units.specs.Walk.{roundedUp}
 use Rattle.kinds.specs.Limits.{Width, exponentOf, blocksOf}
 use Rattle.kinds.specs.declared.State.{State}
-use Rattle.kinds.specs.declared.Step.the-variants.{More, Done, Refused}
+use Rattle.kinds.specs.declared.Step.the-variants.{More, Done}
 use Rattle.kinds.specs.declared.Verdict.the-variants.{Good}
 use Rattle.judge.specs.Table.{GivenWhen}
 use Rattle.judge.specs.Judge.{floats}
@@ -20,7 +20,7 @@ use Rattle.walk.specs.Round.{allZero}
 use Rattle.walk.specs.Walk.{Walked, opened, faithfulOf}
 use Rattle.walk.specs.Fitting.{Fitting}
 use Rattle.runs.specs.Faithful.{FaithfulSum, faithful-promised}
-use Rattle.runs.specs.Runs.{Ran, tried, runOf}
+use Rattle.runs.specs.Runs.{Ran, tried, runOf, members}
 use Rattle.runs.specs.OpenedSum.{zeroOf, opened-zero, opened-round}
 use Rattle.runs.specs.Reached.{Over, Reached, reached-opens, reached-run}
 use Rattle.runs.specs.Demand3.{Going, Finished}
@@ -87,15 +87,7 @@ module _ {W : Width} (F : Fitting W) (ps : List ℕ) (work : List Float) where
             let m = sym (ap (λ (w : Walked). w .answer) (D .walk)) ∙ h in let z : _≡_ {A = ℕ} 0 1 = cc in absurd (omega arith)
         go (inr O) = finishes _ O G x k h
 
-    -- a run is never refused as a whole: it goes on or has finished
-    pub run-never-refused : (k p : ℕ) → runOf W ps work bs .walk .answer ≡ Refused k p → ⊥
-    run-never-refused k p h = go reached
-      where
-        go : Reached W F ps work (runOf W ps work bs) → ⊥
-        go (inl D) = let m = sym (ap (λ (w : Walked). w .answer) (D .walk)) ∙ h in let z : _≡_ {A = ℕ} 0 1 = cc in omega arith
-        go (inr O) = let m = sym (O .answer) ∙ h in let z : _≡_ {A = ℕ} 0 1 = cc in omega arith
-
-    -- "from each state of a run the steps left are bounded": no run has more accepted steps than this
+    -- no run has more accepted steps than this
     pub run-bounded : runOf W ps work bs .steps ≤ suc (W .rounds) * blocksOf W (length ps)
     run-bounded = go reached
       where
@@ -123,3 +115,16 @@ module _ {W : Width} (F : Fitting W) (ps : List ℕ) (work : List Float) where
         stays : (bs : List ℕ) → foldl (tried W) start bs ≡ start
         stays [] = refl
         stays (b ∷ bs) = ap (λ (r : Ran). foldl (tried W) r bs) (still b) ∙ stays bs
+
+module _ {W : Width} (F : Fitting W) (ps : List ℕ) (work : List Float) (G : GivenWhen W (eqb (length work) (length ps)) true ps Good) (bs : List ℕ) where
+  -- "from each state of a run the steps left are bounded": those of the rounds that it may still open, and of its pending blocks
+  pub run-left : (s : State) → runOf W ps work bs .walk .answer ≡ More s → (cs : List ℕ)
+      → runOf W ps work (bs ++ cs) .steps
+      ≤ runOf W ps work bs .steps + ((W .rounds - s .rounds) * blocksOf W (length ps) + members (s .pending) (blocksOf W (length ps)))
+  run-left s h cs =
+      let B = blocksOf W (length ps) in
+      let g = run-goes F ps work G bs s h in
+      let k = W .rounds - s .rounds in
+      let r : suc (W .rounds) ≡ suc (s .rounds) + k = omega (arith, g .rounds) in
+      let m : suc (W .rounds) * B ≡ suc (s .rounds) * B + k * B = rw r (add-mul (suc (s .rounds)) k B) in
+      omega (arith, run-bounded F ps work G (bs ++ cs), rw (g .count) at (g .steps), m, suc-mul (s .rounds) B)

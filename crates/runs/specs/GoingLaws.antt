@@ -32,7 +32,8 @@ use Rattle.walk.specs.Walk.{Walked, walked, taken}
 use Rattle.walk.specs.StepLaws.{stepped-good}
 use Rattle.walk.specs.NoRefusal.{verdictOf, taken-accepted}
 use Rattle.walk.specs.Fitting.{Fitting}
-use Rattle.walk.specs.InUnits.{Small, wholes, Exact, ExactSums, taken-exact, gathers-exact}
+use Rattle.walk.specs.InUnits.{Small, wholes, taken-exact, gathers-exact}
+use Rattle.walk.specs.Exactness.{Exact, ExactSums}
 use Rattle.walk.specs.Begun.{begun-rounds}
 use Rattle.walk.specs.Stepping.{stepping-sound}
 use Rattle.runs.specs.Summing.{sums-nothing}
@@ -150,6 +151,7 @@ module _ {W : Width} (F : Fitting W) (ps : List ℕ) (work : List Float) where
     during : Going W ps (record { walk = walked (More at) area; steps = r .steps }) at
     unfolding at area
     during = record {
+      count = refl;
       sound = stepping-sound (mid-stepping (D .summing .begun) (D .mid) (D .some));
       accepts = λ b h. mid-accepted (D .summing .begun) (D .mid) b h;
       refuses = λ b h. mid-refused (D .summing .begun) (D .mid) (D .some) b h;

@@ -1,8 +1,8 @@
 -- The theorems about runs at document 01's width, and at the numbers for binary32 (2,046 numbers, 2^100, 2^111, 20 rounds), a line each. Assumes nothing.
 use mathlib.Core.Path.{_≡_}
 use mathlib.Core.Bool.{true}
-use mathlib.Core.List.{List, Perm}
-use Prim.Native.Nat.{ℕ, _*_, _≤_}
+use mathlib.Core.List.{List, _++_, Perm}
+use Prim.Native.Nat.{ℕ, _+_, _-_, _*_, _≤_}
 use lib.Dec.{eqb}
 use lib.ListN.{length}
 use lib.Ieee.{Float}
@@ -14,10 +14,10 @@ use Rattle.judge.specs.Table.{GivenWhen}
 use Rattle.walk.specs.Walk.{opened, rising, faithfulOf}
 use Rattle.walk.specs.Instances.{doubles-fit, singles, singles-fit}
 use Rattle.runs.specs.Faithful.{FaithfulSum, faithful-promised}
-use Rattle.runs.specs.Runs.{runOf, ordered}
-use Rattle.runs.specs.AnyOrder.{any-order}
+use Rattle.runs.specs.Runs.{runOf, joined, members}
+use Rattle.runs.specs.AnyRun.{any-run}
 use Rattle.runs.specs.Demand3.{Going, Finished}
-use Rattle.runs.specs.Demand3Laws.{run-goes, run-finishes, run-bounded}
+use Rattle.runs.specs.Demand3Laws.{run-goes, run-finishes, run-bounded, run-at-once, run-left}
 
 -- an accepted list of either width
 abbrev pub Accepted : Width → List ℕ → List Float → Type 0
@@ -31,13 +31,13 @@ pub faithful-32 : (ps : List ℕ) (work : List Float) → Accepted singles ps wo
 faithful-32 = faithful-promised singles-fit
 
 -- ---- demand 3
-pub any-order-64 : (ps : List ℕ) (work : List Float) → Accepted doubles ps work → (π : ℕ → List ℕ)
-    → ((i : ℕ) → Perm (π i) (rising (blocksOf doubles (length ps)))) → ordered doubles π 51 0 (opened doubles ps work) ≡ faithfulOf doubles ps work
-any-order-64 = any-order doubles-fit
+pub any-run-64 : (ps : List ℕ) (work : List Float) → Accepted doubles ps work → (π : ℕ → List ℕ)
+    → ((i : ℕ) → Perm (π i) (rising (blocksOf doubles (length ps)))) → runOf doubles ps work (joined π 51 0) .walk ≡ faithfulOf doubles ps work
+any-run-64 = any-run doubles-fit
 
-pub any-order-32 : (ps : List ℕ) (work : List Float) → Accepted singles ps work → (π : ℕ → List ℕ)
-    → ((i : ℕ) → Perm (π i) (rising (blocksOf singles (length ps)))) → ordered singles π 20 0 (opened singles ps work) ≡ faithfulOf singles ps work
-any-order-32 = any-order singles-fit
+pub any-run-32 : (ps : List ℕ) (work : List Float) → Accepted singles ps work → (π : ℕ → List ℕ)
+    → ((i : ℕ) → Perm (π i) (rising (blocksOf singles (length ps)))) → runOf singles ps work (joined π 20 0) .walk ≡ faithfulOf singles ps work
+any-run-32 = any-run singles-fit
 
 module _ (ps : List ℕ) (work : List Float) (bs : List ℕ) where
   pub goes-64 : Accepted doubles ps work → (s : State) → runOf doubles ps work bs .walk .answer ≡ More s → Going doubles ps (runOf doubles ps work bs) s
@@ -61,3 +61,19 @@ module _ (ps : List ℕ) (work : List Float) (bs : List ℕ) where
 
   pub bounded-32 : Accepted singles ps work → runOf singles ps work bs .steps ≤ 20 * blocksOf singles (length ps)
   bounded-32 G = run-bounded singles-fit ps work G bs
+
+  pub at-once-64 : Accepted doubles ps work → (x : Float) (k : ℕ) → opened doubles ps work .answer ≡ Done x k → (k ≡ 0) × (runOf doubles ps work bs .steps ≡ 0)
+  at-once-64 G = run-at-once doubles-fit ps work G bs
+
+  pub at-once-32 : Accepted singles ps work → (x : Float) (k : ℕ) → opened singles ps work .answer ≡ Done x k → (k ≡ 0) × (runOf singles ps work bs .steps ≡ 0)
+  at-once-32 G = run-at-once singles-fit ps work G bs
+
+  pub left-64 : Accepted doubles ps work → (s : State) → runOf doubles ps work bs .walk .answer ≡ More s → (cs : List ℕ)
+      → runOf doubles ps work (bs ++ cs) .steps
+      ≤ runOf doubles ps work bs .steps + ((50 - s .rounds) * blocksOf doubles (length ps) + members (s .pending) (blocksOf doubles (length ps)))
+  left-64 G = run-left doubles-fit ps work G bs
+
+  pub left-32 : Accepted singles ps work → (s : State) → runOf singles ps work bs .walk .answer ≡ More s → (cs : List ℕ)
+      → runOf singles ps work (bs ++ cs) .steps
+      ≤ runOf singles ps work bs .steps + ((19 - s .rounds) * blocksOf singles (length ps) + members (s .pending) (blocksOf singles (length ps)))
+  left-32 G = run-left singles-fit ps work G bs

@@ -19,4 +19,5 @@ pub mod AnyOrder
 pub mod Demand3
 pub mod GoingLaws
 pub mod Demand3Laws
+pub mod AnyRun
 pub mod Instances

@@ -1,7 +1,7 @@
 -- How many members a set has: none of the empty set, each of the full one, and one less without a member. Assumes nothing.
 use mathlib.Core.Path.{_≡_, refl}
 use mathlib.Core.Logic.{_⊎_, inl, inr}
-use mathlib.Core.Bool.{Bool, true, false, cond}
+use mathlib.Core.Bool.{true, cond}
 use Prim.Native.Nat.{ℕ, zero, suc, _+_, _≤_, _<_}
 use native.Mathlib.Nat.{eq-or-lt-of-le, le-of-suc-le-suc}
 use native.Mathlib.Omega.{arith}
@@ -38,12 +38,3 @@ members-without P b (suc B) h l = go (eq-or-lt-of-le (le-of-suc-le-suc l)) (memb
         → cond (has (without P b) B) 1 0 + members (without P b) B + 1 ≡ cond (has P B) 1 0 + members P B
     go (inl e) k = rw (← e, has-without P b, h) (omega (arith, others P b b (omega arith)))
     go (inr m) k = rw (has-other P b B (omega arith)) (omega (arith, k m))
-
-pub members-most : (P B : ℕ) → members P B ≤ B
-unfolding members
-members-most P zero = omega arith
-members-most P (suc B) = go (has P B) (members-most P B)
-  where
-    go : (c : Bool) {m : ℕ} → m ≤ B → cond c 1 0 + m ≤ suc B
-    go true h = omega arith
-    go false h = omega arith

@@ -8,13 +8,17 @@ use Prim.Native.Nat.{ℕ, zero, suc, _-_, _/_, _%_, _^_, _≤_}
 use native.Mathlib.Nat.{sub-self, one-mul}
 use native.Mathlib.Omega.{arith}
 use borrow.Author.Tests.{eq-eqb, eqb-true}
-use lib.Dec.{T, T-prop}
+use lib.Dec.{T, T-prop, eqb}
 use lib.Ieee.Fits.{and-i, and-l, and-r}
 use lib.Ieee.Bits.{is-true}
 use Rattle.lists.specs.Bitset.{has, without, full}
 use Rattle.lists.specs.BitsetLaws.{has-from, without-from, has-without, has-other}
 use Rattle.walk.specs.Walk.{rising}
-use Rattle.runs.specs.Runs.{once}
+
+-- bs are the members of P, each once
+unfoldable pub once : ℕ → List ℕ → Bool
+once P [] = eqb P 0
+once P (b ∷ bs) = has P b && once (without P b) bs
 
 -- ---- the rising order
 front : (B j : ℕ) → j ≤ B → (rest : List ℕ) → once (2 ^ B - 2 ^ 0) (rising j ++ rest) ≡ once (2 ^ B - 2 ^ j) rest

@@ -218,7 +218,8 @@ module _ (W : Width) (F : Fitting W) (ps : List ℕ) (work : List Float) where
       let area = mixed (W .format) (D .sigma) (pendingAt W (D .pending)) 0 (D .xs) in
       let e : stepped W s b area ≡ walked (Refused (cond (leb (blocksOf W (length ps)) b) 6 7) 0) area =
       sym (stepped-refused W s b area (gated W s b area) _ _ (mid-refused (D .summing .begun) (D .mid) (D .some) b h)) in
-      tried-more W r b s area (D .walk) ∙ ap (heeded r) e
+      let same : area ≡ r .walk .work = sym (ap (λ (w : Walked). w .work) (D .walk)) in
+      tried-more W r b s area (D .walk) ∙ ap (heeded r) e ∙ (λ i. record { walk = walked (r .walk .answer) (same i); steps = r .steps })
 
   pub reached-step : (r : Ran) → Reached r → (b : ℕ) → Reached (tried W r b)
   reached-step r (inl D) b = go (has (D .pending) b) refl

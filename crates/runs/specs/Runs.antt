@@ -1,15 +1,14 @@
 -- A run: an opening, then steps at blocks in any order, each with the state and the work area that the opening or the last accepted step left; refused steps
 -- may stand between. Definitions only.
-use mathlib.Core.Bool.{Bool, cond, _&&_}
-use mathlib.Core.List.{List, [], _∷_, foldl}
+use mathlib.Core.Bool.{cond}
+use mathlib.Core.List.{List, [], _++_, foldl}
 use Prim.Native.Nat.{ℕ, zero, suc, _+_}
-use lib.Dec.{eqb}
 use lib.Ieee.{Float}
-use Rattle.lists.specs.Bitset.{has, without}
+use Rattle.lists.specs.Bitset.{has}
 use Rattle.kinds.specs.Limits.{Width}
 use Rattle.kinds.specs.declared.Step.{Step}
 use Rattle.kinds.specs.declared.Step.the-variants.{More, Done, Refused}
-use Rattle.walk.specs.Walk.{Walked, opened, stepped, onward}
+use Rattle.walk.specs.Walk.{Walked, walked, opened, stepped, onward}
 
 -- what the opening or the last accepted step left, and how many steps were accepted
 pub record Ran : Type 0 where
@@ -23,7 +22,7 @@ heeded r w = by (w .answer)
     by : Step → Ran
     by (More s) = record { walk = w; steps = r .steps + 1 }
     by (Done x k) = record { walk = w; steps = r .steps + 1 }
-    by (Refused k p) = r
+    by (Refused k p) = record { walk = walked (r .walk .answer) (w .work); steps = r .steps }
 
 abbrev pub tried : Width → Ran → ℕ → Ran
 tried W r b = by (r .walk .answer)
@@ -41,10 +40,10 @@ unfoldable pub members : ℕ → ℕ → ℕ
 members P zero = 0
 members P (suc count) = cond (has P count) 1 0 + members P count
 
--- bs are the members of P, each once
-unfoldable pub once : ℕ → List ℕ → Bool
-once P [] = eqb P 0
-once P (b ∷ bs) = has P b && once (without P b) bs
+-- the first k orders of a sequence from i on, one after another
+unfoldable pub joined : (ℕ → List ℕ) → ℕ → ℕ → List ℕ
+joined π zero i = []
+joined π (suc k) i = π i ++ joined π k (suc i)
 
 -- that many rounds from round i on, each with its blocks in the order that π gives for it
 unfoldable pub ordered : Width → (ℕ → List ℕ) → ℕ → ℕ → Walked → Walked

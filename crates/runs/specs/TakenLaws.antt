@@ -43,15 +43,6 @@ module _ (pend : ℕ → Bool) where
       go true us h = omega arith
       go false us h = omega arith
 
-  pub taken-each : (P : Float → Type 0) (i : ℕ) (xs : List Float) → Each P xs → Each P (takenOf pend i xs)
-  unfolding takenOf
-  taken-each P i [] h = tt
-  taken-each P i (x ∷ xs) h = go (pend i) (takenOf pend (suc i) xs) (taken-each P (suc i) xs (h .1))
-    where
-      go : (b : Bool) (us : List Float) → Each P us → Each P (cond b us (x ∷ us))
-      go true us k = k
-      go false us k = (h .0, k)
-
   module _ (f : Format) (sigma : Float) where
     pub mixed-join : (i : ℕ) (xs ys : List Float) → mixed f sigma pend i (xs ++ ys) ≡ mixed f sigma pend i xs ++ mixed f sigma pend (i + length xs) ys
     unfolding mixed

@@ -5,25 +5,26 @@ use mathlib.Core.Bool.{Bool, true, false, not, _&&_}
 use mathlib.Core.List.{List, [], _∷_, map}
 use Prim.Native.Nat.{ℕ, suc, _+_, _-_, _*_, _^_, _≤_, _<_}
 use native.Mathlib.Omega.{arith}
-use lib.IntN.{pos}
+use lib.IntN.{pos, _+ℤ_, _-ℤ_}
 use lib.ListN.{length}
 use lib.Pow.{pow-add, pow-mono}
 use lib.Ieee.{Float, Format, prec, emax, low, add}
 use Rattle.units.specs.Whole.{Whole, nat, _⊕_, _⊖_, _≈_, mag, Within, int, All}
 use Rattle.units.specs.Rounding.{fl}
 use Rattle.units.specs.SignedRounding.{fl-zero}
-use Rattle.units.specs.Integers.{int-same, int-difference}
+use Rattle.units.specs.Integers.{int-same, int-difference, int-plus, int-minus}
 use Rattle.units.specs.Walk as units
 use Rattle.units.specs.Extraction.{extract}
 use Rattle.units.specs.Turns.{tau-under, turn-left, turn-exact, turn-tau}
-use Rattle.ieee.specs.Units.{Number, Rounds, magnitude, negative, whole, signOf}
+use Rattle.ieee.specs.Units.{Number, Rounds, magnitude, negative, value, whole, signOf}
 use Rattle.ieee.specs.Rounded.{prec-pos}
-use Rattle.ieee.specs.Sum.{whole-mag}
+use Rattle.ieee.specs.Sum.{value-int, whole-mag}
 use Rattle.ieee.specs.Nearest.{number-rep}
 use Rattle.ieee.specs.InRange.{add-rounds, high-rounds, remainder-rounds}
 use Rattle.lists.specs.Each.{Each, each-map}
 use Rattle.extract.specs.Extract.{highPart, remainderOf, remainders, gathered}
 use Rattle.extract.specs.LargestLaws.{Positive}
+use Rattle.walk.specs.Exactness.{Exact, ExactSums}
 
 -- a number of at most so many units
 pub record Small (f : Format) (most : ℕ) (x : Float) : Type 0 where
@@ -32,18 +33,6 @@ pub record Small (f : Format) (most : ℕ) (x : Float) : Type 0 where
 
 abbrev pub wholes : Format → List Float → List Whole
 wholes f xs = map (whole f) xs
-
--- "For each place both subtractions are exact: in units q is (sigma + p rounded) less sigma, and the remainder is p less q."
-pub record Exact (f : Format) (sigma x : Float) : Type 0 where
-  pub raised : whole f (add f sigma x) ≡ fl (prec f) (whole f sigma ⊕ whole f x)
-  pub high : whole f (highPart f sigma x) ≈ whole f (add f sigma x) ⊖ whole f sigma
-  pub remainder : whole f (remainderOf f sigma x) ≈ whole f x ⊖ whole f (highPart f sigma x)
-
--- "The additions to tau are exact": each of them, in rising order
-abbrev pub ExactSums : Format → Float → Float → List Float → Type 0
-ExactSums f sigma tau [] = Unit {0}
-ExactSums f sigma tau (x ∷ xs) =
-    (whole f (add f tau (highPart f sigma x)) ≈ whole f tau ⊕ whole f (highPart f sigma x)) × ExactSums f sigma (add f tau (highPart f sigma x)) xs
 
 -- a sum is -0 only where both operands are, so not where the first never is
 sum-plus : {f : Format} (x y : Float) {r : Float} → (magnitude f x ≡ 0 → negative x ≡ false) → Rounds f (negative x && negative y) (whole f x ⊕ whole f y) r
@@ -133,15 +122,29 @@ module _ {f : Format} {M e : ℕ} {sigma : Float} (σ : Scale f M e sigma) where
   remainders-units (x ∷ xs) h = λ i. remainder-is (h .0) .units i ∷ remainders-units xs (h .1) i
 
   -- ---- exactness
+  high-exact : {x : Float} → Small f (2 ^ e) x → whole f (highPart f sigma x) ≈ whole f (add f sigma x) ⊖ whole f sigma
+  high-exact X =
+      rw (high-is X .units, raised-rounds X .units, sigma-whole)
+      (extract (prec f) (prec-pos f) M e (σ .some) (σ .few) (ready X .rep) (ready X .small) .high-is)
+
+  pub remainder-exact : {x : Float} → Small f (2 ^ e) x → whole f (remainderOf f sigma x) ≈ whole f x ⊖ whole f (highPart f sigma x)
+  remainder-exact X =
+      rw (remainder-is X .units, high-is X .units)
+      (extract (prec f) (prec-pos f) M e (σ .some) (σ .few) (ready X .rep) (ready X .small) .remainder-is)
+
   pub taken-exact : {x : Float} → Small f (2 ^ e) x → Exact f sigma x
-  taken-exact {x} X =
-      let E = extract (prec f) (prec-pos f) M e (σ .some) (σ .few) (ready X .rep) (ready X .small) in
-      let r = raised-rounds X in
-      record {
-        raised = r .units;
-        high = rw (high-is X .units, r .units, sigma-whole) (E .high-is);
-        remainder = rw (remainder-is X .units, high-is X .units) (E .remainder-is);
-      }
+  taken-exact {x} X = record {
+    raised-number = raised-rounds X .number;
+    high-number = high-is X .number;
+    remainder-number = remainder-is X .number;
+    high = less (highPart f sigma x) (add f sigma x) sigma (high-exact X);
+    remainder = less (remainderOf f sigma x) x (highPart f sigma x) (remainder-exact X);
+  }
+    where
+      less : (a b c : Float) → whole f a ≈ whole f b ⊖ whole f c → value f a ≡ value f b -ℤ value f c
+      less a b c h =
+          value-int f a ∙ int-same (whole f a) (whole f b ⊖ whole f c) h ∙ int-minus (whole f b) (whole f c)
+          ∙ (λ i. sym (value-int f b) i -ℤ sym (value-int f c) i)
 
   -- ---- tau after c numbers were taken: a number, in units what `units/Turns` has, and never -0
   pub record Tau (c : ℕ) (tau : Float) : Type 0 where
@@ -170,13 +173,20 @@ module _ {f : Format} {M e : ℕ} {sigma : Float} (σ : Scale f M e sigma) where
 
   -- "The additions to tau are exact"
   tau-exact : {c : ℕ} {tau x : Float} → Tau c tau → Small f (2 ^ e) x → c < 2 ^ M
-      → whole f (add f tau (highPart f sigma x)) ≈ whole f tau ⊕ whole f (highPart f sigma x)
-  tau-exact T X l = rw (next-units T X l, high-is X .units) (turn-exact (prec f) (prec-pos f) M e (σ .some) (σ .few) (T .units) (ready X) l)
+      → value f (add f tau (highPart f sigma x)) ≡ value f tau +ℤ value f (highPart f sigma x)
+  tau-exact {tau = tau} {x} T X l =
+      let q = highPart f sigma x in
+      let h : whole f (add f tau q) ≈ whole f tau ⊕ whole f q =
+      rw (next-units T X l, high-is X .units) (turn-exact (prec f) (prec-pos f) M e (σ .some) (σ .few) (T .units) (ready X) l) in
+      value-int f (add f tau q) ∙ int-same (whole f (add f tau q)) (whole f tau ⊕ whole f q) h ∙ int-plus (whole f tau) (whole f q)
+      ∙ (λ i. sym (value-int f tau) i +ℤ sym (value-int f q) i)
 
   pub gathers-exact : (xs : List Float) {c : ℕ} {tau : Float} → Tau c tau → Each (Small f (2 ^ e)) xs → c + length xs ≤ 2 ^ M → ExactSums f sigma tau xs
   gathers-exact [] T h l = tt
   gathers-exact (x ∷ xs) {c} T h l =
-      let m : c < 2 ^ M = omega arith in (tau-exact T (h .0) m, gathers-exact xs (next-tau T (h .0) m) (h .1) (omega arith))
+      let m : c < 2 ^ M = omega arith in
+      let N = next-tau T (h .0) m in
+      (N .number, N .plus, tau-exact T (h .0) m, gathers-exact xs N (h .1) (omega arith))
 
   pub gathers : (xs : List Float) {c : ℕ} {tau : Float} → Tau c tau → Each (Small f (2 ^ e)) xs → c + length xs ≤ 2 ^ M
       → Tau (c + length xs) (gathered f sigma tau xs)

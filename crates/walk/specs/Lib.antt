@@ -1,6 +1,7 @@
 -- The faithful walk.
 pub mod Round
 pub mod Walk
+pub mod Exactness
 pub mod StepLaws
 pub mod InUnits
 pub mod Closing
