@@ -408,6 +408,7 @@ def walked_lists():
     yield cancelling(4094, 7, r[15], r[15] >> 20, r[15])
     yield [ONE, SIGN | ONE - 128]
     yield [ONE, SIGN | ONE - 124]
+    yield [ONE, SIGN | ONE - 512, (0x3CC << 52) + 65]
 
 
 def step_told(answer):
@@ -442,13 +443,29 @@ def order_told(numbers, work, answer, order):
 def walk_lines():
     for k, numbers in enumerate(walked_lists()):
         work = [HELD] * len(numbers)
+        line = f"walk {k} n {len(numbers)} opened" + step_told(walk.opening(numbers, work)) + work_told(work)
+        work = [HELD] * len(numbers)
         answer = walk.faithful(numbers, work)
-        line = f"walk {k} n {len(numbers)}" + step_told(answer) + work_told(work)
+        line += " undivided" + step_told(answer) + work_told(work)
         yield line + "".join(order_told(numbers, work, answer, order) for order in (walk.rising, walk.falling, walk.seeded))
 
 
+# how many numbers a list has, its second number (the others are 1), and how many places the work area has
+LENGTHS = [
+    (2, ONE, 1), (2, ONE, 3), (2, INFINITY, 1), (2, INFINITY, 2), (2, MAGNITUDE + 1, 3), (2, MAGNITUDE + 1, 2), (0, 0, 1), (LENGTH, INFINITY, LENGTH + 1),
+    (LENGTH + 1, ONE, 2), (LENGTH + 1, INFINITY, LENGTH),
+]  # fmt: skip
+
+
+def length_lines():
+    """Each is refused: by 1, else by 4, else by 2 or 3 at place 1."""
+    for k, (n, second, places) in enumerate(LENGTHS):
+        numbers, work = ([ONE, second] + [ONE] * n)[:n], [HELD] * places
+        yield f"lengths {k} n {n} area {places}" + "".join(step_told(call(numbers, work)) + work_told(work) for call in (walk.opening, walk.faithful))
+
+
 # ---- steps of states that no call gave out
-SIGMA, SMALL, CARRIED = 0x407 << 52, 0x3C3 << 52, 0x7F3 << 52
+SIGMA, SMALL, CARRIED, HALF = 0x407 << 52, 0x3C3 << 52, 0x7F3 << 52, 0x7BE << 52
 STEPS = 5
 # lengths, each with its M and the set of all its blocks
 SIZES = [(1, 2, 1), (2, 2, 1), (3, 3, 1), (30, 5, 1), (64, 7, 1), (65, 7, 3), (130, 8, 7), (200, 8, 15)]
@@ -498,6 +515,7 @@ WITNESSES = [
     witness(129, SIGMA, 0, 0, 3, 0, 0, 128, SMALL),  # a restart by a block not taken
     witness(65, 128, SIGN, SIGN, 2, 0, 1, 0, 1),  # the least sigma
     witness(65, 64, SIGN, SIGN, 2, 0, 0, 0, 0),  # half of it
+    witness(65, 0x7EE << 52, 0, CARRIED, 3, 0, HALF, 63, HALF + 2**51),  # a tau that depends on the order inside a block
 ]
 
 
@@ -543,7 +561,7 @@ def refusal_lines():
         yield f"refusal of n {n}" + several_told(walk.State(SIGMA, 0, 0, n, 1, 0), [SIGN] * n, walk.rising, endless(0))
 
 
-GROUPS = [list_lines, run_lines, round_lines, last_lines, walk_lines, state_lines, refusal_lines]
+GROUPS = [list_lines, run_lines, round_lines, last_lines, walk_lines, length_lines, state_lines, refusal_lines]
 
 
 def main():

@@ -381,12 +381,19 @@ def check_witnesses(chance):
         ([1 << 51, SIGN | (1 << 51) - 1], 1, 2, [0, 0]),  # sigma is 2^-1021 and t' one unit: another round
         ([ONE, SIGN | ONE - 128], bits(2.0**-46), 1, [0, 0]),  # t' is just 2^(2M+1) eps sigma: finished
         ([ONE, SIGN | ONE - 124], bits(2.0**-46 - 2.0**-51), 2, [0, 0]),  # less: another round
+        ([ONE, 0xBFEFFFFFFFFFFE00, 0x3CC0000000000041], 0x3D30200000000001, 2, [0, 0, bits(2.0**-103)]),  # tau2 and T, added first
     ], 1):
         expect("case", answer_of(patterns) == (("done", pattern, rounds), area), k)
         check_list(patterns, chance)
     expect("case 9", answer_of([MAGNITUDE + 1]) == (("refused", 3, 0), [bits(1.5)]))
     expect("too many", opening([INFINITY] * 4095, [0]) == ("refused", 1, 0))
-    expect("lengths", opening([INFINITY], []) == ("refused", 4, 0))
+    for n, second, places, refused in [
+        (2, ONE, 1, (4, 0)), (2, ONE, 3, (4, 0)), (2, INFINITY, 1, (4, 0)), (2, MAGNITUDE + 1, 3, (4, 0)), (2, INFINITY, 2, (2, 1)), (0, 0, 1, (4, 0)),
+        (4094, INFINITY, 4095, (4, 0)), (4095, ONE, 2, (1, 0)), (4095, INFINITY, 4094, (1, 0)), (4095, ONE, 4095, (1, 0)),
+    ]:
+        for call in (opening, faithful):
+            patterns, area = ([ONE, second] + [ONE] * n)[:n], [0] * places
+            expect("lengths", call(patterns, area) == ("refused", *refused) and area == [0] * places, n, places, call)
     expect("lowest", opening([ONE, MAGNITUDE + 1, INFINITY], [0, 0, 0]) == ("refused", 3, 1))
     by_blocks = [ONE, tiny] + [0] * 62 + [bits(2.0**-107)] * 64
     expect("T", answer_of(by_blocks)[0] == ("done", ONE, 1))
@@ -451,6 +458,11 @@ def check_foreign_witnesses():
     answer = both_steps(s, area, 0)
     expect("tau", answer == ("more", s._replace(tau=bits(2.0**1012 + 2.0**1006), pending=2)), answer)
     expect("tau, next", both_steps(answer[1], area, 1) == ("refused", 8, 0))
+    # tau is added to in the order of places: 2^959 is half of its last place, and the tie is to the even
+    s, half = State(bits(2.0**1007), 0, CARRIED, 65, 3, 0), bits(2.0**959)
+    for numbers, last in (((half, half + 2**51), 1), ((half + 2**51, half), 2)):
+        answer = both_steps(s, [*numbers] + [0] * 63, 0)
+        expect("tau's order", answer == ("more", s._replace(tau=CARRIED + last, pending=2)), answer)
     # rule 4 with a block that was not taken: too large for the next sigma
     s, area = State(sigma, bits(2.0**-43), 0, 65, 1, 0), [0] * 64 + [ONE]
     answer = both_steps(s, area, 0)

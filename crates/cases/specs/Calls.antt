@@ -7,16 +7,29 @@ use lib.Ieee.{binary64, ofBits, toBits}
 use Rattle.kinds.specs.Limits.{doubles}
 use Rattle.kinds.specs.Heard.{Heard, stepHeard, nearestHeard, partedHeard, entryHeard}
 use Rattle.register.specs.Register.{added, withdrawn, rounded}
-use Rattle.walk.specs.Walk.{faithfulOf}
+use Rattle.kinds.specs.States.{stateOf}
+use Rattle.walk.specs.Walk.{Walked, opened, stepped, faithfulOf}
 use Rattle.sums.specs.Sums.{nearestOf, partsOf}
 
 -- what a work area holds before the call, at each place: 1.5, a number that is in no list and no answer of the table
 abbrev pub held : ℕ
 held = 0x3FF8000000000000
 
+-- a state by the patterns of its sigma, t and tau; n, the pending set and the rounds closed
+pub record Given : Type 0 where
+  pub sigma : ℕ
+  pub t : ℕ
+  pub tau : ℕ
+  pub n : ℕ
+  pub pending : ℕ
+  pub rounds : ℕ
+
 pub data Call : Type 0 where
   -- the faithful sum of a list by the undivided call
   faithfulSum : List ℕ → Call
+  -- the opening of a list's walk; a step at a block, of a state with its work area
+  opening : List ℕ → Call
+  step : Given → List ℕ → ℕ → Call
   -- the nearest sum of a list; its sum in k parts, from an area of zeros
   nearestSum : List ℕ → Call
   sumInParts : List ℕ → ℕ → Call
@@ -29,10 +42,15 @@ pub record Told : Type 0 where
   pub heard : Heard
   pub area : List ℕ
 
+abbrev walkTold : Walked → Told
+walkTold w = record { heard = stepHeard (w .answer); area = map (toBits binary64) (w .work) }
+
 unfoldable pub told : Call → Told
-told (faithfulSum ps) =
-    let w = faithfulOf doubles ps (replicate (length ps) (ofBits binary64 held)) in
-    record { heard = stepHeard (w .answer); area = map (toBits binary64) (w .work) }
+told (faithfulSum ps) = walkTold (faithfulOf doubles ps (replicate (length ps) (ofBits binary64 held)))
+told (opening ps) = walkTold (opened doubles ps (replicate (length ps) (ofBits binary64 held)))
+told (step s ps b) =
+    let given = stateOf (s .n) (ofBits binary64 (s .sigma)) (ofBits binary64 (s .t)) (ofBits binary64 (s .tau)) (s .pending) (s .rounds) in
+    walkTold (stepped doubles given b (map (ofBits binary64) ps))
 told (nearestSum ps) = record { heard = nearestHeard (nearestOf ps); area = [] }
 told (sumInParts ps k) =
     let s = partsOf ps (replicate k (ofBits binary64 0)) in

@@ -1,4 +1,4 @@
--- Every row of the table holds: one test that is computed over the whole table, and one law from the test to each row. Assumes nothing.
+-- Every row of the two tables holds: one test that is computed over a whole table, and one law from the test to each row. Assumes nothing.
 use mathlib.Core.Path.{_≡_, refl, sym, ap, _∙_}
 use mathlib.Core.Bool.{Bool, true, false, cond, _&&_}
 use mathlib.Core.List.{List, [], _∷_}
@@ -22,6 +22,7 @@ use Rattle.sums.specs.Sums as S
 use Rattle.kinds.specs.Heard.{nowhere, at, Heard, refused, more, done, nearest, parts, accepted, count}
 use Rattle.cases.specs.Calls.{Told, Row, told}
 use Rattle.cases.specs.Table.{table}
+use Rattle.cases.specs.Bounds.{bounds}
 
 -- ---- what is heard, as numbers, and back
 code : Heard → List ℕ
@@ -117,5 +118,16 @@ unfolding
     ofBits toBits add sub mul le eq
 computed = refl
 
+computed-bounds : every bounds ≡ true
+unfolding
+    every bounds judged firstFault faultOf W.openedAfter W.steppedAfter W.taken R.turned R.roundOf R.fresh R.scaled R.finished R.closed
+    N.soundSigma N.atMost N.soundNumbers N.soundPending N.badPlace N.sound N.gated remainders gathered lastSum largest powerOf ceil
+    S.partsAfter S.parts signed residue nearestFloat value
+    ofBits toBits add sub mul le eq
+computed-bounds = refl
+
 pub table-holds : (k : ℕ) (d : Row) → k < length table → told (getD table k d .call) ≡ getD table k d .expected
 table-holds k d h = rows-hold table (rw computed tt) k d h
+
+pub bounds-hold : (k : ℕ) (d : Row) → k < length bounds → told (getD bounds k d .call) ≡ getD bounds k d .expected
+bounds-hold k d h = rows-hold bounds (rw computed-bounds tt) k d h

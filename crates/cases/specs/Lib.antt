@@ -1,4 +1,5 @@
--- Document 01's twelve sums and registers.
+-- Document 01's twelve sums and registers, and calls at its bounds.
 pub mod Calls
 pub mod Table
+pub mod Bounds
 pub mod Holds

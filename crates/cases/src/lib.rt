@@ -1,1 +1,1 @@
-// Document 01's twelve sums and registers as one checked table: definitions and theorems in specs/, no code.
+// Document 01's twelve sums and registers as one checked table, and calls at its bounds as another: definitions and theorems in specs/, no code.

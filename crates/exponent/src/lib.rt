@@ -10,18 +10,21 @@ ghost use Rattle.units.specs.Rounding.{ceil};
 ghost use Rattle.ieee.specs.Units.{magnitude, negative, patternUnits};
 ghost use Rattle.exponent.specs.Power.{powers, powerOf};
 
-// The weight of a pattern's field, which is the leading digit that a pattern does not store.
-const LEADING: u64 = 0x0010_0000_0000_0000;
+// How many digits of a significand a pattern stores; its field stands above them.
+const DIGITS: u32 = 52;
+
+// The pattern of 2^-1022, the least normal number: a field of 1 over no digit. So it is the weight of a field, too.
+pub const LEAST_NORMAL: u64 = 1 << DIGITS;
 
 // The float that is 2^k units, 2^(k - 1074). From 2^2098 units on there is none.
 pub fn power(k: u32) -> f64
     requires { ⌜ k < powers binary64 ⌝ }
     ensures { λ r. ⌜ r ≡ powerOf binary64 k ⌝ }
 {
-    if k < 52 {
+    if k < DIGITS {
         return f64::from_bits(1 << k);
     }
-    f64::from_bits(((k - 51) as u64) << 52)
+    f64::from_bits(((k + 1 - DIGITS) as u64) << DIGITS)
 }
 
 // The least whole number e with a pattern's magnitude at most 2^e units. The pattern has no sign, and stands for a number.
@@ -32,14 +35,14 @@ fn exponent(p: u64) -> u32
     if p == 0 {
         return 0;
     }
-    if p < LEADING {
+    if p < LEAST_NORMAL {
         return 64 - u64::leading_zeros(p - 1);
     }
-    let field = (p / LEADING) as u32;
-    if p % LEADING == 0 {
-        return field + 51;
+    let field = (p / LEAST_NORMAL) as u32;
+    if p % LEAST_NORMAL == 0 {
+        return field + DIGITS - 1;
     }
-    field + 52
+    field + DIGITS
 }
 
 // Document 01's e for the largest magnitude mu, counted in units: "the least whole number with mu at most 2^e".

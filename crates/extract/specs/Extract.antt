@@ -26,9 +26,10 @@ gathered f sigma tau xs = foldl (λ t p. add f t (highPart f sigma p)) tau xs
 unfoldable pub lastSum : Format → List Float → Float
 lastSum f xs = foldl (add f) (plusZero f) xs
 
--- ---- "mu is the largest magnitude", in units
+-- ---- rule 3's "magnitude of t'"
 abbrev pub absolute : Format → Float → Float
 absolute f x = cond (lt x (plusZero f)) (neg x) x
 
+-- ---- "mu is the largest magnitude", in units
 unfoldable pub largest : Format → List Float → ℕ
 largest f xs = foldr (λ x m. max (magnitude f x) m) 0 xs

@@ -7,7 +7,7 @@ use crate::shapes;
 use crate::shapes::Few;
 
 // How many there are.
-pub const CASES: u64 = 18;
+pub const CASES: u64 = 19;
 
 // The kind of numbers that are zeros, of both signs.
 const ZEROS: u64 = 3;
@@ -56,7 +56,7 @@ fn ladder(list: &mut [u64], places: usize, distance: u64) {
     generator::put(list, places, UNIT);
 }
 
-fn repeat(list: &mut [u64], p: u64) {
+pub fn repeat(list: &mut [u64], p: u64) {
     let mut i = 0;
     while i < list.len() {
         list[i] = p;
@@ -74,14 +74,16 @@ fn two_blocks(list: &mut [u64]) {
     }
 }
 
-// -0 beside a number; sigma of 2^-1022, and of 2^-1021, where t' is one unit; t' of just 2^(2M+1) eps sigma, and of less.
+// -0 beside a number; sigma of 2^-1022, and of 2^-1021, where t' is one unit; t' of just 2^(2M+1) eps sigma, and of less; a tau2 that decides with T, and
+// neither alone.
 fn few(k: u64) -> Few {
     match k {
         10 => Few(3, SIGN, ONE, SIGN),
         11 => Few(2, 0x0004_0000_0000_0000, SIGN | 0x0003_FFFF_FFFF_FFFF, 0),
         12 => Few(2, 0x0008_0000_0000_0000, SIGN | 0x0007_FFFF_FFFF_FFFF, 0),
         16 => Few(2, ONE, SIGN | 0x3FEF_FFFF_FFFF_FF80, 0),
-        _ => Few(2, ONE, SIGN | 0x3FEF_FFFF_FFFF_FF84, 0),
+        17 => Few(2, ONE, SIGN | 0x3FEF_FFFF_FFFF_FF84, 0),
+        _ => Few(3, ONE, SIGN | 0x3FEF_FFFF_FFFF_FE00, 0x3CC0_0000_0000_0041),
     }
 }
 

@@ -3,6 +3,7 @@ mod areas;
 mod contents;
 mod generator;
 mod ladders;
+mod lengths;
 mod lists;
 mod refusals;
 mod registers;
@@ -23,6 +24,7 @@ fn main() {
     let mut work = [HELD; Doubles::LENGTH + 1];
     let mut other = [HELD; Doubles::LENGTH + 1];
     walks::all(&mut list, &mut work, &mut other);
+    lengths::all(&mut list, &mut work);
     states::all(&mut work);
     refusals::all(&mut work);
 }

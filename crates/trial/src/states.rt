@@ -12,7 +12,7 @@ use kinds::Step;
 // How many of each there are.
 const SEEDED: u64 = 120;
 
-const CASES: u64 = SEEDED + 8;
+const CASES: u64 = SEEDED + 9;
 
 // How many steps a state is given at most.
 const STEPS: u64 = 5;
@@ -23,6 +23,9 @@ pub const SIGMA: u64 = 0x4070_0000_0000_0000;
 const SMALL: u64 = 0x3C30_0000_0000_0000;
 
 pub const CARRIED: u64 = 0x7F30_0000_0000_0000;
+
+// Half of the last place of 2^1012.
+const HALF: u64 = 0x7BE0_0000_0000_0000;
 
 // A state by its patterns.
 pub fn of(n: usize, sigma: u64, t: u64, tau: u64, pending: u64, closed: u32) -> State {
@@ -164,12 +167,14 @@ fn content_of(k: u64) -> Content {
         4 => Content(65, 0, 64, SIGN | ONE),
         5 => Content(129, 0, 128, SMALL),
         6 => Content(65, 1, 0, 1),
-        _ => Content(65, 0, 0, 0),
+        7 => Content(65, 0, 0, 0),
+        _ => Content(65, HALF, 63, HALF + (1 << 51)),
     }
 }
 
 // A 51st round that goes on, and one that finishes; tau above 2^1012; a block not taken that is too large after rule 4, that is +0 with t' by rule 3, that
-// makes a restart; the least sigma, and half of it.
+// makes a restart; the least sigma, and half of it; a block whose high parts are halves of tau's last place but for its last, which is one and a half: tau
+// is another where they are added in another order.
 fn witness(n: usize, k: u64) -> State {
     match k {
         0 | 1 => of(n, SIGMA, 0, 0, 1, 50),
@@ -178,7 +183,8 @@ fn witness(n: usize, k: u64) -> State {
         4 => of(n, SIGMA, ONE, 0, 1, 0),
         5 => of(n, SIGMA, 0, 0, 3, 0),
         6 => of(n, 128, SIGN, SIGN, 2, 0),
-        _ => of(n, 64, SIGN, SIGN, 2, 0),
+        7 => of(n, 64, SIGN, SIGN, 2, 0),
+        _ => of(n, 0x7EE0_0000_0000_0000, 0, CARRIED, 3, 0),
     }
 }
 

@@ -1,4 +1,4 @@
-// The faithful sum of each list: by the undivided call, and block by block in three orders.
+// The faithful sum of each list: its opening, the undivided call, and block by block in three orders.
 use crate::areas;
 use crate::areas::HELD;
 use crate::generator;
@@ -141,6 +141,16 @@ fn against(list: &[u64], work: &[f64], other: &mut [f64], answer: Step, order: u
     areas::show(other);
 }
 
+// The first state, and the copy.
+fn opened(list: &[u64], work: &mut [f64], k: u64) {
+    text::named(b"walk ", k);
+    text::named(b" n ", list.len() as u64);
+    text::put(b" opened");
+    areas::fill(work, HELD);
+    told(walk::open(list, work));
+    areas::show(work);
+}
+
 fn undivided(list: &[u64], work: &mut [f64]) -> Step {
     areas::fill(work, HELD);
     let answer = walk::faithful(list, work);
@@ -149,9 +159,8 @@ fn undivided(list: &[u64], work: &mut [f64]) -> Step {
     answer
 }
 
-fn line(list: &[u64], work: &mut [f64], other: &mut [f64], k: u64) {
-    text::named(b"walk ", k);
-    text::named(b" n ", list.len() as u64);
+fn ways(list: &[u64], work: &mut [f64], other: &mut [f64]) {
+    text::put(b" undivided");
     let answer = undivided(list, work);
     text::put(b" rising");
     against(list, work, other, answer, RISING);
@@ -180,7 +189,8 @@ fn length(k: u64) -> usize {
 
 fn made(list: &mut [u64], work: &mut [f64], other: &mut [f64], k: u64) {
     make(list, k);
-    line(list, work, other, k);
+    opened(list, work, k);
+    ways(list, work, other);
 }
 
 fn case(list: &mut [u64], work: &mut [f64], other: &mut [f64], k: u64) {

@@ -1,6 +1,7 @@
 // The close of a round: document 01's rules 1 to 4, in its order.
 use crate::opening;
 use crate::round;
+use exponent::LEAST_NORMAL;
 use kinds::Doubles;
 use kinds::State;
 use kinds::Step;
@@ -9,9 +10,6 @@ ghost use Prim.Native.Nat.{_≤_};
 ghost use Rattle.kinds.specs.Limits.{doubles};
 ghost use Rattle.walk.specs.Round.{scaled, finished, closed};
 ghost use Rattle.walk.specs.Closing.{Closing};
-
-// The pattern of 2^-1022, the least normal number.
-const LEAST_NORMAL: u64 = 0x0010_0000_0000_0000;
 
 // 2^-53 is this power of two in units of 2^-1074.
 const EPS: u32 = 1021;

@@ -15,7 +15,8 @@ ghost use Rattle.walk.specs.InUnits.{Small};
 ghost use Rattle.walk.specs.Round.{fresh};
 ghost use Rattle.walk.specs.Walk.{walked, openedAfter};
 
-// The zero of a sign.
+// The zero of a sign. `judge::zero_sign` is the one definition of which zero a list with exact sum zero answers, here and in the nearest sum; document 01
+// asks for +0 of every list.
 fn zero(negative: bool) -> f64
     ensures { λ r. ⌜ r ≡ nearestFloat (doubles .format) negative (pos 0) ⌝ }
 {

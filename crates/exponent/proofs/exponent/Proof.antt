@@ -32,11 +32,14 @@ cast-field c = search needs
 add-result : tie.Need-add-result
 add-result c = search needs
 
+sub-result-3 : tie.Need-sub-result-3
+sub-result-3 c = search needs
+
 returns-3 : tie.Need-returns-3
 returns-3 c =
     let p = c .before .before .before .args .p in
     let e : p / hid binary64 ≡ suc (p / hid binary64 - 1) = omega arith in
-    let s : p / hid binary64 + 51 ≡ 52 + (p / hid binary64 - 1) = omega arith in
+    let s : p / hid binary64 + 52 - 1 ≡ 52 + (p / hid binary64 - 1) = omega arith in
     s ∙ sym (exponent-power binary64 p (p / hid binary64 - 1) e (omega arith))
 
 add-result-2 : tie.Need-add-result-2
@@ -59,6 +62,7 @@ exponent-spec =
     returns-2
     cast-field
     add-result
+    sub-result-3
     returns-3
     add-result-2
     returns-4)

@@ -2,7 +2,7 @@
 -- nothing.
 use borrow.Author.Needs.{needs}
 use mathlib.Core.Path.{_≡_}
-use Prim.Native.Nat.{ℕ, suc, _-_, _*_, _%_, _^_, _≤_, _<_}
+use Prim.Native.Nat.{ℕ, suc, _+_, _-_, _*_, _%_, _^_, _≤_, _<_}
 use native.Mathlib.Omega.{arith}
 use lib.Pow.{pow-lt}
 use lib.Ieee.{binary64}
@@ -14,7 +14,7 @@ use Rattle.exponent.proofs.power.Tie as tie
 one : {k : ℕ} → k < 52 → 1 * 2 ^ k % 2 ^ 64 ≡ 2 ^ k
 one {k} h = let l : 2 ^ k < 2 ^ 52 = pow-lt h in omega arith
 
-field : {k : ℕ} → 52 ≤ k → k < 2098 → (k - 51) * 2 ^ 52 % 2 ^ 64 ≡ suc (k - 52) * 2 ^ 52
+field : {k : ℕ} → 52 ≤ k → k < 2098 → (k + 1 - 52) * 2 ^ 52 % 2 ^ 64 ≡ suc (k - 52) * 2 ^ 52
 field {k} l h = omega arith
 
 shl-result : tie.Need-shl-result
@@ -28,11 +28,20 @@ float-from-bits-result c =
 returns : tie.Need-returns
 returns c = rw (one {k = c .before .args .k} (omega arith)) (low-power binary64 (c .before .pre) (omega arith))
 
+add-result : tie.Need-add-result
+add-result c = search needs
+
 sub-result : tie.Need-sub-result
 sub-result c = search needs
 
 cast-result : tie.Need-cast-result
 cast-result c = search needs
+
+cast-result-2 : tie.Need-cast-result-2
+cast-result-2 c = search needs
+
+shl-result-2 : tie.Need-shl-result-2
+shl-result-2 c = search needs
 
 float-from-bits-result-2 : tie.Need-float-from-bits-result-2
 float-from-bits-result-2 c = rw (field {k = c .before .args .k} (omega arith) (c .before .pre)) (pattern-no-nan binary64 (omega (arith, c .before .pre)))
@@ -49,7 +58,10 @@ power-spec =
     shl-result
     float-from-bits-result
     returns
+    add-result
     sub-result
     cast-result
+    cast-result-2
+    shl-result-2
     float-from-bits-result-2
     returns-2)
