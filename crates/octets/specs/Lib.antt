@@ -1,0 +1,2 @@
+-- A number in bytes.
+pub mod Octets

@@ -1,0 +1,2 @@
+-- The contribution sheet.
+pub mod Sheet
