@@ -1,2 +1,3 @@
 -- The contribution sheet.
 pub mod Sheet
+pub mod SheetLaws
