@@ -66,8 +66,13 @@ module _ (W : Width) (bytes area : List ℕ) where
       unfolding readOf
       read-long s =
           let k : 5 + 8 * countOf bytes ≤ length bytes = omega arith in
-          rw (le-ltb (length bytes) 5 h, eq-eqb (versionOf bytes) 1 v, le-ltb (W .length) (countOf bytes) few, le-ltb (length bytes) (5 + 8 * countOf bytes) k,
-          lt-ltb (5 + 8 * countOf bytes) (length bytes) s)
+          rw (
+            le-ltb (length bytes) 5 h,
+            eq-eqb (versionOf bytes) 1 v,
+            le-ltb (W .length) (countOf bytes) few,
+            le-ltb (length bytes) (5 + 8 * countOf bytes) k,
+            lt-ltb (5 + 8 * countOf bytes) (length bytes) s,
+          )
 
       module _ (exact : length bytes ≡ 5 + 8 * countOf bytes) where
         pub read-no-room : length area < countOf bytes → readOf W bytes area ≡ reading (Refused 4 0) area
@@ -75,8 +80,14 @@ module _ (W : Width) (bytes area : List ℕ) where
         read-no-room s =
             let k : 5 + 8 * countOf bytes ≤ length bytes = omega arith in
             let l : length bytes ≤ 5 + 8 * countOf bytes = omega arith in
-            rw (le-ltb (length bytes) 5 h, eq-eqb (versionOf bytes) 1 v, le-ltb (W .length) (countOf bytes) few, le-ltb (length bytes) (5 + 8 * countOf bytes) k,
-            le-ltb (5 + 8 * countOf bytes) (length bytes) l, lt-ltb (length area) (countOf bytes) s)
+            rw (
+              le-ltb (length bytes) 5 h,
+              eq-eqb (versionOf bytes) 1 v,
+              le-ltb (W .length) (countOf bytes) few,
+              le-ltb (length bytes) (5 + 8 * countOf bytes) k,
+              le-ltb (5 + 8 * countOf bytes) (length bytes) l,
+              lt-ltb (length area) (countOf bytes) s,
+            )
 
         pub read-all : countOf bytes ≤ length area
             → readOf W bytes area ≡ reading (Read (countOf bytes)) (patternsOf (countOf bytes) (drop 5 bytes) ++ drop (countOf bytes) area)
@@ -84,5 +95,11 @@ module _ (W : Width) (bytes area : List ℕ) where
         read-all s =
             let k : 5 + 8 * countOf bytes ≤ length bytes = omega arith in
             let l : length bytes ≤ 5 + 8 * countOf bytes = omega arith in
-            rw (le-ltb (length bytes) 5 h, eq-eqb (versionOf bytes) 1 v, le-ltb (W .length) (countOf bytes) few, le-ltb (length bytes) (5 + 8 * countOf bytes) k,
-            le-ltb (5 + 8 * countOf bytes) (length bytes) l, le-ltb (length area) (countOf bytes) s)
+            rw (
+              le-ltb (length bytes) 5 h,
+              eq-eqb (versionOf bytes) 1 v,
+              le-ltb (W .length) (countOf bytes) few,
+              le-ltb (length bytes) (5 + 8 * countOf bytes) k,
+              le-ltb (5 + 8 * countOf bytes) (length bytes) l,
+              le-ltb (length area) (countOf bytes) s,
+            )

@@ -49,7 +49,7 @@ loop-again c =
       search needs,
       omega arith,
       rw (c .big-endian .ensures, l .loop .inv .2, patterns-next (l .loop .i) 5 (a .sheet .now))
-      (store-front 0 (patternsOf (l .loop .i) (drop 5 (a .sheet .now))) (a .area .now) (l .loop .i) (patterns-length _ _) h _),
+          (store-front 0 (patternsOf (l .loop .i) (drop 5 (a .sheet .now))) (a .area .now) (l .loop .i) (patterns-length _ _) h _),
     )
 
 same-length : tie.Need-same-length Inv-loop μ-loop

@@ -1,58 +1,83 @@
+-- `sheet::read` meets its contract: each return is a case of the definition, and a count above the limit is never multiplied. Assumes nothing.
+use mathlib.Core.Path.{_≡_, sym, ap, _∙_}
+use mathlib.Core.List.{_++_}
+use native.Mathlib.Omega.{arith}
+use lib.ListN.{drop}
+use Rattle.kinds.specs.Limits.{doubles}
+use Rattle.kinds.specs.declared.Sheet.the-variants.{Read}
+use Rattle.sheet.specs.Sheet.{countOf, patternsOf, reading}
+use Rattle.sheet.specs.SheetLaws.{read-no-header, read-version, read-many, read-short, read-long, read-no-room, read-all}
 use borrow.Author.Needs.{needs}
 use Rattle.sheet.proofs.read.Statement.{statement}
 use Rattle.sheet.proofs.read.Tie as tie
-use Rattle.sheet.proofs.read.Reads as reads
-use Rattle.sheet.proofs.read.Lts as lts
-use Rattle.sheet.proofs.copy.Reads as copy-reads
-use Rattle.sheet.proofs.read_header.Reads as read-header-reads
 
--- src/lib.rt:54:9
 returns : tie.Need-returns
-returns c = ?
+returns c =
+    let a = c .before .before .before .args in
+    sym (read-no-header doubles (a .sheet .now) (a .area .now) (omega arith))
 
--- src/lib.rt:56:9
 read-header-requires : tie.Need-read-header-requires
 read-header-requires c κs = search needs
 
--- src/lib.rt:58:9
 returns-2 : tie.Need-returns-2
-returns-2 c = ?
+returns-2 c =
+    let r = c .before .before in
+    let a = r .before .before .before .before .args in
+    sym (read-version doubles (a .sheet .now) (a .area .now) (omega arith) (λ e. c .if2 .taken (r .read-header .ensures .0 ∙ e)))
 
--- src/lib.rt:62:9
 returns-3 : tie.Need-returns-3
-returns-3 c = ?
+returns-3 c =
+    let k = c .before in
+    let r = k .before .before in
+    let a = r .before .before .before .before .args in
+    let n : r .read-header .result .count ≡ countOf (a .sheet .now) = r .read-header .ensures .1 in
+    sym (read-many doubles (a .sheet .now) (a .area .now) (omega arith) (sym (r .read-header .ensures .0) ∙ k .if2 .left) (omega arith))
 
--- src/lib.rt:64:25
 mul-size : tie.Need-mul-size
 mul-size c = search needs
 
--- src/lib.rt:64:16
 add-size : tie.Need-add-size
 add-size c = search needs
 
--- src/lib.rt:66:9
 returns-4 : tie.Need-returns-4
-returns-4 c = ?
+returns-4 c =
+    let k = c .before .before in
+    let r = k .before .before in
+    let a = r .before .before .before .before .args in
+    let n : r .read-header .result .count ≡ countOf (a .sheet .now) = r .read-header .ensures .1 in
+    sym (read-short doubles (a .sheet .now) (a .area .now) (omega arith) (sym (r .read-header .ensures .0) ∙ k .if2 .left) (omega arith) (omega arith))
 
--- src/lib.rt:69:9
 returns-5 : tie.Need-returns-5
-returns-5 c = ?
+returns-5 c =
+    let k = c .before .before .before in
+    let r = k .before .before in
+    let a = r .before .before .before .before .args in
+    let n : r .read-header .result .count ≡ countOf (a .sheet .now) = r .read-header .ensures .1 in
+    sym (read-long doubles (a .sheet .now) (a .area .now) (omega arith) (sym (r .read-header .ensures .0) ∙ k .if2 .left) (omega arith) (omega arith))
 
--- src/lib.rt:72:9
 returns-6 : tie.Need-returns-6
-returns-6 c = ?
+returns-6 c =
+    let k = c .before .before .before .before in
+    let r = k .before .before in
+    let a = r .before .before .before .before .args in
+    let n : r .read-header .result .count ≡ countOf (a .sheet .now) = r .read-header .ensures .1 in
+    sym (read-no-room doubles (a .sheet .now) (a .area .now) (omega arith) (sym (r .read-header .ensures .0) ∙ k .if2 .left) (omega arith) (omega arith) (omega arith))
 
--- src/lib.rt:74:5
 copy-requires : tie.Need-copy-requires
 copy-requires c κs = search needs
 
--- src/lib.rt:50:1
 same-length : tie.Need-same-length
 same-length c = search needs
 
--- src/lib.rt:50:1
 returns-7 : tie.Need-returns-7
-returns-7 c = ?
+returns-7 c =
+    let k = c .before .before .before .before .before .before .before .before in
+    let r = k .before .before in
+    let a = r .before .before .before .before .args in
+    let n : r .read-header .result .count ≡ countOf (a .sheet .now) = r .read-header .ensures .1 in
+    ap (reading (Read (r .read-header .result .count))) (c .before .before .copy .ensures)
+    ∙ (λ i. reading (Read (n i)) (patternsOf (n i) (drop 5 (a .sheet .now)) ++ drop (n i) (a .area .now)))
+    ∙ sym (read-all doubles (a .sheet .now) (a .area .now) (omega arith) (sym (r .read-header .ensures .0) ∙ k .if2 .left) (omega arith) (omega arith) (omega arith))
 
 pub read-spec : {M : Type 1} → statement M
 read-spec =
