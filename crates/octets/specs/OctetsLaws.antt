@@ -1,15 +1,16 @@
 -- Numbers in bytes: one byte more, the bound, and that bytes and number determine each other, most significant byte first and least. Assumes nothing.
-use mathlib.Core.Path.{_≡_, refl, sym, ap, _∙_}
+use mathlib.Core.Path.{_≡_, ap, _∙_}
 use mathlib.Core.List.{List, [], _∷_, _++_, reverse, reverseAux, reverse-append, reverse-reverse}
-use Prim.Native.Nat.{ℕ, zero, suc, _+_, _*_, _%_, _^_, _≤_, _<_}
+use Prim.Native.Nat.{ℕ, _+_, _*_, _^_, _≤_, _<_}
 use native.Mathlib.Nat.{mod-eq-of-lt}
 use native.Mathlib.Numerals.{add-one}
 use native.Mathlib.Omega.{arith}
 use lib.Pow.{pow-pos, pow-mono}
 use lib.ListN.{length, getD, take, drop, length-drop, length-reverse}
-use lib.Seq.{take-suc, getD-drop, length-take-le}
+use lib.Seq.{take-suc, getD-drop}
 use Rattle.lists.specs.Digits.{number, digits, Digits}
-use Rattle.lists.specs.DigitLaws.{weight-next, number-nil, number-cons, number-lt, digits-head, digits-tail, digits-more, digits-number, number-digits, digits-length, digits-below}
+use Rattle.lists.specs.DigitLaws.{weight-next, number-nil, number-cons, number-lt, digits-number, number-digits}
+use Rattle.lists.specs.DigitLaws.{digits-head, digits-tail, digits-more, digits-length, digits-below}
 use Rattle.octets.specs.Octets.{littleEndian, bigEndian, little, big, bytesAt}
 
 -- ---- one byte more
@@ -52,11 +53,11 @@ big-length k v = length-reverse (digits 8 k v) ∙ digits-length 8 k v
 pub big-bytes : (k v : ℕ) → Digits 8 (bigEndian k v)
 big-bytes k v = bytes-reverse (digits 8 k v) (digits-below 8 k v)
 
-pub little-big : (k v : ℕ) → v < 2 ^ (8 * k) → little (littleEndian k v) ≡ v
-little-big k v h = number-digits 8 k v ∙ mod-eq-of-lt h
+pub little-back : (k v : ℕ) → v < 2 ^ (8 * k) → little (littleEndian k v) ≡ v
+little-back k v h = number-digits 8 k v ∙ mod-eq-of-lt h
 
 pub big-back : (k v : ℕ) → v < 2 ^ (8 * k) → big (bigEndian k v) ≡ v
-big-back k v h = ap (number 8) (reverse-reverse (digits 8 k v)) ∙ little-big k v h
+big-back k v h = ap (number 8) (reverse-reverse (digits 8 k v)) ∙ little-back k v h
 
 pub little-bytes-back : (bs : List ℕ) → Digits 8 bs → littleEndian (length bs) (little bs) ≡ bs
 little-bytes-back bs B = digits-number 8 bs B

@@ -10,13 +10,11 @@ use borrow.Author.Tests.{lt-ltb, le-ltb, eq-eqb, ne-eqb}
 use lib.Dec.{T, ltb, eqb, eqb→eq, nltb→le}
 use lib.ListN.{length, take, drop, getD, take-append-drop, length-append, length-drop}
 use lib.Seq.{length-take-le, take-at, drop-at, drop-drop, getD-drop}
-use lib.Ieee.Bits.{is-true, is-false}
 use Rattle.lists.specs.Digits.{Digits}
 use Rattle.lists.specs.DigitLaws.{digits-head, digits-tail, digits-more}
 use Rattle.octets.specs.Octets.{bigEndian, big, bytesAt}
 use Rattle.octets.specs.OctetsLaws.{big-length, big-back, big-bytes-back}
 use Rattle.kinds.specs.Limits.{Width}
-use Rattle.kinds.specs.declared.Sheet.{Sheet}
 use Rattle.kinds.specs.declared.Sheet.the-variants.{Read, Refused}
 use Rattle.sheet.specs.Sheet.{body, sheetOf, versionOf, countOf, patternsOf, Reading, reading, readOf}
 
@@ -182,7 +180,7 @@ header-back (b ∷ bs) B h v =
     let k : 4 ≤ length bs = omega arith in
     rw (front-back 4 bs (digits-tail 8 B) k, take-append-drop 4 bs, v)
 
--- "Version byte 1, then a count in 4 bytes, then that many 8-byte patterns": where n patterns are read, the bytes are the sheet of what the area then begins with
+-- "Version byte 1, then a count in 4 bytes, then that many 8-byte patterns": where n are read, the bytes are the sheet of the first n of the area afterwards
 pub read-is-sheet : (W : Width) (bytes area : List ℕ) {n : ℕ} {after : List ℕ}
     → Digits 8 bytes → readOf W bytes area ≡ reading (Read n) after → (bytes ≡ sheetOf (take n after)) × (n ≡ length (take n after))
 unfolding sheetOf

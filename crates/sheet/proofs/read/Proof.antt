@@ -5,7 +5,7 @@ use native.Mathlib.Omega.{arith}
 use lib.ListN.{drop}
 use Rattle.kinds.specs.Limits.{doubles}
 use Rattle.kinds.specs.declared.Sheet.the-variants.{Read}
-use Rattle.sheet.specs.Sheet.{countOf, patternsOf, reading}
+use Rattle.sheet.specs.Sheet.{versionOf, countOf, patternsOf, reading}
 use Rattle.sheet.specs.SheetLaws.{read-no-header, read-version, read-many, read-short, read-long, read-no-room, read-all}
 use borrow.Author.Needs.{needs}
 use Rattle.sheet.proofs.read.Statement.{statement}
@@ -31,7 +31,8 @@ returns-3 c =
     let r = k .before .before in
     let a = r .before .before .before .before .args in
     let n : r .read-header .result .count ≡ countOf (a .sheet .now) = r .read-header .ensures .1 in
-    sym (read-many doubles (a .sheet .now) (a .area .now) (omega arith) (sym (r .read-header .ensures .0) ∙ k .if2 .left) (omega arith))
+    let v : versionOf (a .sheet .now) ≡ 1 = sym (r .read-header .ensures .0) ∙ k .if2 .left in
+    sym (read-many doubles (a .sheet .now) (a .area .now) (omega arith) v (omega arith))
 
 mul-size : tie.Need-mul-size
 mul-size c = search needs
@@ -45,7 +46,8 @@ returns-4 c =
     let r = k .before .before in
     let a = r .before .before .before .before .args in
     let n : r .read-header .result .count ≡ countOf (a .sheet .now) = r .read-header .ensures .1 in
-    sym (read-short doubles (a .sheet .now) (a .area .now) (omega arith) (sym (r .read-header .ensures .0) ∙ k .if2 .left) (omega arith) (omega arith))
+    let v : versionOf (a .sheet .now) ≡ 1 = sym (r .read-header .ensures .0) ∙ k .if2 .left in
+    sym (read-short doubles (a .sheet .now) (a .area .now) (omega arith) v (omega arith) (omega arith))
 
 returns-5 : tie.Need-returns-5
 returns-5 c =
@@ -53,7 +55,8 @@ returns-5 c =
     let r = k .before .before in
     let a = r .before .before .before .before .args in
     let n : r .read-header .result .count ≡ countOf (a .sheet .now) = r .read-header .ensures .1 in
-    sym (read-long doubles (a .sheet .now) (a .area .now) (omega arith) (sym (r .read-header .ensures .0) ∙ k .if2 .left) (omega arith) (omega arith))
+    let v : versionOf (a .sheet .now) ≡ 1 = sym (r .read-header .ensures .0) ∙ k .if2 .left in
+    sym (read-long doubles (a .sheet .now) (a .area .now) (omega arith) v (omega arith) (omega arith))
 
 returns-6 : tie.Need-returns-6
 returns-6 c =
@@ -61,7 +64,8 @@ returns-6 c =
     let r = k .before .before in
     let a = r .before .before .before .before .args in
     let n : r .read-header .result .count ≡ countOf (a .sheet .now) = r .read-header .ensures .1 in
-    sym (read-no-room doubles (a .sheet .now) (a .area .now) (omega arith) (sym (r .read-header .ensures .0) ∙ k .if2 .left) (omega arith) (omega arith) (omega arith))
+    let v : versionOf (a .sheet .now) ≡ 1 = sym (r .read-header .ensures .0) ∙ k .if2 .left in
+    sym (read-no-room doubles (a .sheet .now) (a .area .now) (omega arith) v (omega arith) (omega arith) (omega arith))
 
 copy-requires : tie.Need-copy-requires
 copy-requires c κs = search needs
@@ -75,9 +79,10 @@ returns-7 c =
     let r = k .before .before in
     let a = r .before .before .before .before .args in
     let n : r .read-header .result .count ≡ countOf (a .sheet .now) = r .read-header .ensures .1 in
+    let v : versionOf (a .sheet .now) ≡ 1 = sym (r .read-header .ensures .0) ∙ k .if2 .left in
     ap (reading (Read (r .read-header .result .count))) (c .before .before .copy .ensures)
     ∙ (λ i. reading (Read (n i)) (patternsOf (n i) (drop 5 (a .sheet .now)) ++ drop (n i) (a .area .now)))
-    ∙ sym (read-all doubles (a .sheet .now) (a .area .now) (omega arith) (sym (r .read-header .ensures .0) ∙ k .if2 .left) (omega arith) (omega arith) (omega arith))
+    ∙ sym (read-all doubles (a .sheet .now) (a .area .now) (omega arith) v (omega arith) (omega arith) (omega arith))
 
 pub read-spec : {M : Type 1} → statement M
 read-spec =
