@@ -1,3 +1,5 @@
 -- The contribution sheet.
 pub mod Sheet
+pub mod Table
 pub mod SheetLaws
+pub mod TableLaws
