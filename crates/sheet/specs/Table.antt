@@ -9,7 +9,7 @@ use Rattle.kinds.specs.declared.Sheet.{Sheet}
 use Rattle.kinds.specs.declared.Sheet.the-variants.{Read, Refused}
 use Rattle.sheet.specs.Sheet.{versionOf, countOf}
 
--- what a sheet of at least 5 bytes and version 1 has to be
+-- a sheet with its header, of version 1
 pub record Begun (bytes : List ℕ) : Type 0 where
   pub header : 5 ≤ length bytes
   pub version : versionOf bytes ≡ 1
@@ -19,7 +19,7 @@ pub data SheetWhen (W : Width) (bytes area : List ℕ) : Sheet → Type 0 where
   no-header : length bytes < 5 → SheetWhen W bytes area (Refused 11 0)
   -- "sheet version isn't 1"
   other-version : 5 ≤ length bytes → (versionOf bytes ≡ 1 → ⊥) → SheetWhen W bytes area (Refused 12 0)
-  -- the row of 1: more numbers than a list has
+  -- "more than 4,094 numbers"
   too-many : Begun bytes → W .length < countOf bytes → SheetWhen W bytes area (Refused 1 0)
   -- "sheet shorter than its .. count says"
   too-short : Begun bytes → countOf bytes ≤ W .length → length bytes < 5 + 8 * countOf bytes → SheetWhen W bytes area (Refused 11 0)

@@ -1,6 +1,6 @@
--- The reader gives each answer exactly when its row of document 01's table says, a refusal leaves the area as it was, and two results that meet the reader's
--- contract are equal. Assumes nothing.
-use mathlib.Core.Path.{_≡_, sym, ap, subst, _∙_}
+-- The reader gives each answer exactly when its row of document 01's table says, and so it is heard, with no place; a refusal leaves the area as it was; and
+-- two results that meet the reader's contract are equal. Assumes nothing.
+use mathlib.Core.Path.{_≡_, refl, sym, ap, subst, _∙_}
 use mathlib.Core.Logic.{_↔_, inl, inr}
 use mathlib.Core.List.{List}
 use Prim.Native.Nat.{ℕ, _+_, _*_, _≤_}
@@ -8,6 +8,7 @@ use native.Mathlib.Decide.{ℕ-discrete}
 use native.Mathlib.Omega.{arith}
 use lib.ListN.{length}
 use Rattle.units.specs.Powers.{le-or-lt}
+use Rattle.kinds.specs.Heard.{Place, nowhere, refused, placeOf, sheetHeard}
 use Rattle.kinds.specs.Limits.{Width}
 use Rattle.kinds.specs.declared.Sheet.{Sheet}
 use Rattle.kinds.specs.declared.Sheet.the-variants.{Read, Refused}
@@ -72,3 +73,19 @@ module _ (W : Width) (bytes area : List ℕ) where
 
   pub read-determined : {r q : Sheet} {xs ys : List ℕ} → reading r xs ≡ readOf W bytes area → reading q ys ≡ readOf W bytes area → (r ≡ q) × (xs ≡ ys)
   read-determined p q = (ap answerOf (p ∙ sym q), ap (λ (x : Reading). x .area) (p ∙ sym q))
+
+  -- what is heard of a refusal: its number and no place
+  told : {r : Sheet} {k : ℕ} {p : Place} → SheetWhen W bytes area r → sheetHeard r ≡ refused k p → (p ≡ nowhere) × SheetWhen W bytes area (Refused k 0)
+  told {k = k} (no-header h) e = let n : 11 ≡ k = cc in (cc, rw (← n) (no-header h))
+  told {k = k} (other-version h v) e = let n : 12 ≡ k = cc in (cc, rw (← n) (other-version h v))
+  told {k = k} (too-many B m) e = let n : 1 ≡ k = cc in (cc, rw (← n) (too-many B m))
+  told {k = k} (too-short B f s) e = let n : 11 ≡ k = cc in (cc, rw (← n) (too-short B f s))
+  told {k = k} (too-long B f l) e = let n : 13 ≡ k = cc in (cc, rw (← n) (too-long B f l))
+  told {k = k} (no-room B f x s) e = let n : 4 ≡ k = cc in (cc, rw (← n) (no-room B f x s))
+  told (all-read B f x s) e = let z : _≡_ {A = ℕ} 0 1 = cc in absurd (omega arith)
+
+  pub sheet-told : (k : ℕ) (p : Place) → (sheetHeard (readOf W bytes area .answer) ≡ refused k p) ↔ ((p ≡ nowhere) × SheetWhen W bytes area (Refused k 0))
+  sheet-told k p = (
+    λ e. told (sheet-when (readOf W bytes area .answer) .0 refl) e,
+    λ G. ap sheetHeard (row (G .1)) ∙ ap (refused k) (told {k = k} {p = placeOf k 0} (G .1) refl .0 ∙ sym (G .0)),
+  )
