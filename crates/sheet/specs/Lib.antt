@@ -3,3 +3,4 @@ pub mod Sheet
 pub mod Table
 pub mod SheetLaws
 pub mod TableLaws
+pub mod Instances
