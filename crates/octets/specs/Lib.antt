@@ -1,0 +1,3 @@
+-- A number in bytes.
+pub mod Octets
+pub mod OctetsLaws

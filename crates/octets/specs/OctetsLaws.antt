@@ -1,0 +1,68 @@
+-- Numbers in bytes: one byte more, the bound, and that bytes and number determine each other, most significant byte first and least. Assumes nothing.
+use mathlib.Core.Path.{_≡_, ap, _∙_}
+use mathlib.Core.List.{List, [], _∷_, _++_, reverse, reverseAux, reverse-append, reverse-reverse}
+use Prim.Native.Nat.{ℕ, _+_, _*_, _^_, _≤_, _<_}
+use native.Mathlib.Nat.{mod-eq-of-lt}
+use native.Mathlib.Numerals.{add-one}
+use native.Mathlib.Omega.{arith}
+use lib.Pow.{pow-pos, pow-mono}
+use lib.ListN.{length, getD, take, drop, length-drop, length-reverse}
+use lib.Seq.{take-suc, getD-drop}
+use Rattle.lists.specs.Digits.{number, digits, Digits}
+use Rattle.lists.specs.DigitLaws.{weight-next, number-nil, number-cons, number-lt, digits-number, number-digits}
+use Rattle.lists.specs.DigitLaws.{digits-head, digits-tail, digits-more, digits-length, digits-below}
+use Rattle.octets.specs.Octets.{littleEndian, bigEndian, little, big, bytesAt}
+
+-- ---- one byte more
+pub big-none : (bs : List ℕ) (at : ℕ) → big (bytesAt bs at 0) ≡ 0
+big-none bs at = number-nil 8
+
+pub big-more : (bs : List ℕ) (b : ℕ) → big (bs ++ (b ∷ [])) ≡ big bs * 256 + b
+big-more bs b = rw (reverse-append bs (b ∷ []), number-cons 8 b (reverse bs)) (omega arith)
+
+pub big-next : (bs : List ℕ) (at i : ℕ) → at + i < length bs → big (bytesAt bs at (i + 1)) ≡ big (bytesAt bs at i) * 256 + getD bs (at + i) 0
+big-next bs at i h =
+    let k : i < length (drop at bs) = rw (length-drop at bs) (omega arith) in
+    rw (add-one, take-suc (drop at bs) i 0 k, big-more (take i (drop at bs)) (getD (drop at bs) i 0), getD-drop at bs i 0)
+
+-- a number of i bytes, i below 8, has room for a byte more
+pub room : {v i b : ℕ} → v < 2 ^ (8 * i) → i < 8 → b < 256 → v * 256 + b < 2 ^ 64
+room {v} {i} {b} h k c =
+    let m : 2 ^ (8 * i) ≤ 2 ^ 56 = pow-mono {i = 8 * i} {j = 56} (omega arith) in
+    let n : v < 2 ^ 56 = omega arith in
+    omega arith
+
+pub bound-next : {v b : ℕ} (i : ℕ) → v < 2 ^ (8 * i) → b < 256 → v * 256 + b < 2 ^ (8 * (i + 1))
+bound-next i h c = rw (add-one, weight-next 8 i) (omega arith)
+
+-- ---- bytes below 256
+reversed : (l r : List ℕ) → Digits 8 l → Digits 8 r → Digits 8 (reverseAux l r)
+reversed [] r L R = R
+reversed (b ∷ l) r L R = reversed l (b ∷ r) (digits-tail 8 L) (digits-more 8 (digits-head 8 L) R)
+
+pub bytes-reverse : (bs : List ℕ) → Digits 8 bs → Digits 8 (reverse bs)
+bytes-reverse bs B = reversed bs [] B (record { below = λ i. pow-pos 8 })
+
+pub big-lt : (bs : List ℕ) → Digits 8 bs → big bs < 2 ^ (8 * length bs)
+big-lt bs B = rw (length-reverse bs) at (number-lt 8 (reverse bs) (bytes-reverse bs B))
+
+-- ---- there and back
+pub big-length : (k v : ℕ) → length (bigEndian k v) ≡ k
+big-length k v = length-reverse (digits 8 k v) ∙ digits-length 8 k v
+
+pub big-bytes : (k v : ℕ) → Digits 8 (bigEndian k v)
+big-bytes k v = bytes-reverse (digits 8 k v) (digits-below 8 k v)
+
+pub little-back : (k v : ℕ) → v < 2 ^ (8 * k) → little (littleEndian k v) ≡ v
+little-back k v h = number-digits 8 k v ∙ mod-eq-of-lt h
+
+pub big-back : (k v : ℕ) → v < 2 ^ (8 * k) → big (bigEndian k v) ≡ v
+big-back k v h = ap (number 8) (reverse-reverse (digits 8 k v)) ∙ little-back k v h
+
+pub little-bytes-back : (bs : List ℕ) → Digits 8 bs → littleEndian (length bs) (little bs) ≡ bs
+little-bytes-back bs B = digits-number 8 bs B
+
+pub big-bytes-back : (bs : List ℕ) → Digits 8 bs → bigEndian (length bs) (big bs) ≡ bs
+big-bytes-back bs B =
+    let e : digits 8 (length bs) (big bs) ≡ reverse bs = rw (length-reverse bs) at (digits-number 8 (reverse bs) (bytes-reverse bs B)) in
+    ap reverse e ∙ reverse-reverse bs

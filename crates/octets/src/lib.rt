@@ -1,0 +1,26 @@
+// Numbers in bytes.
+ghost use mathlib.Core.Path.{_≡_};
+ghost use Prim.Native.Nat.{_+_, _≤_, _<_};
+ghost use lib.ListN.{length};
+ghost use Rattle.octets.specs.Octets.{big, bytesAt};
+
+// A byte as a wide number. That it is below 256 is said so that callers know their sums fit.
+pub fn wide(b: u8) -> u64
+    ensures { λ r. ⌜ (r ≡ b) × (r < 256) ⌝ }
+{
+    b as u64
+}
+
+// The number that so many bytes from a place on stand for, "all big-endian". Eight bytes at most, since nine need not fit.
+pub fn big_endian(bytes: &[u8], at: usize, count: usize) -> u64
+    requires { ⌜ (count ≤ 8) × (at + count ≤ length (now bytes)) ⌝ }
+    ensures { λ r. ⌜ r ≡ big (bytesAt (now (bytes .entry)) at count) ⌝ }
+{
+    let mut v: u64 = 0;
+    let mut i = 0;
+    while i < count {
+        v = v * 256 + wide(bytes[at + i]);
+        i += 1;
+    }
+    v
+}

@@ -1,0 +1,61 @@
+-- The sheet at document 01's width: every list of at most 4,094 patterns is read back; and sheets of its text and of 1, 4, 5 and 6 bytes, computed.
+-- Assumes nothing.
+use mathlib.Core.Path.{_≡_, refl}
+use mathlib.Core.List.{List, [], _∷_, _++_}
+use Prim.Native.Nat.{ℕ, _≤_}
+use lib.Dec.{lit≤}
+use lib.ListN.{length, drop}
+use Rattle.lists.specs.Digits.{Digits, number, digits}
+use Rattle.kinds.specs.Limits.{doubles}
+use Rattle.kinds.specs.declared.Sheet.the-variants.{Read, Refused}
+use Rattle.sheet.specs.Sheet.{body, sheetOf, patternsOf, reading, readOf}
+use Rattle.sheet.specs.SheetLaws.{sheet-read}
+
+pub doubles-read : (ps area : List ℕ) → length ps ≤ 4094 → Digits 64 ps → length ps ≤ length area
+    → readOf doubles (sheetOf ps) area ≡ reading (Read (length ps)) (ps ++ drop (length ps) area)
+doubles-read ps area = sheet-read doubles ps area (lit≤ tt)
+
+-- `01 00000003 4630000000000000 3FF0000000000000 C630000000000000`
+abbrev pub printed : List ℕ
+printed =
+    1 ∷ 0 ∷ 0 ∷ 0 ∷ 3 ∷ 0x46 ∷ 0x30 ∷ 0 ∷ 0 ∷ 0 ∷ 0 ∷ 0 ∷ 0 ∷ 0x3F ∷ 0xF0 ∷ 0 ∷ 0 ∷ 0 ∷ 0 ∷ 0 ∷ 0 ∷ 0xC6 ∷ 0x30 ∷ 0 ∷ 0 ∷ 0 ∷ 0 ∷ 0 ∷ 0 ∷ []
+
+abbrev three : List ℕ
+three = 0x4630000000000000 ∷ 0x3FF0000000000000 ∷ 0xC630000000000000 ∷ []
+
+pub printed-is : sheetOf three ≡ printed
+unfolding sheetOf body digits
+printed-is = refl
+
+pub printed-read : readOf doubles printed (7 ∷ 7 ∷ 7 ∷ 7 ∷ []) ≡ reading (Read 3) (three ++ (7 ∷ []))
+unfolding readOf patternsOf number
+printed-read = refl
+
+-- the first of several refusals that hold is told
+pub one-byte : readOf doubles (2 ∷ []) [] ≡ reading (Refused 11 0) []
+unfolding readOf patternsOf number
+one-byte = refl
+
+pub four-bytes : readOf doubles (2 ∷ 0 ∷ 0 ∷ 0 ∷ []) [] ≡ reading (Refused 11 0) []
+unfolding readOf patternsOf number
+four-bytes = refl
+
+pub five-bytes : readOf doubles (1 ∷ 0 ∷ 0 ∷ 0 ∷ 0 ∷ []) (7 ∷ []) ≡ reading (Read 0) (7 ∷ [])
+unfolding readOf patternsOf number
+five-bytes = refl
+
+pub six-bytes : readOf doubles (1 ∷ 0 ∷ 0 ∷ 0 ∷ 0 ∷ 0 ∷ []) [] ≡ reading (Refused 13 0) []
+unfolding readOf patternsOf number
+six-bytes = refl
+
+pub version-first : readOf doubles (2 ∷ 0xFF ∷ 0xFF ∷ 0xFF ∷ 0xFF ∷ []) [] ≡ reading (Refused 12 0) []
+unfolding readOf patternsOf number
+version-first = refl
+
+pub limit-before-length : readOf doubles (1 ∷ 0 ∷ 0 ∷ 0x10 ∷ 0 ∷ []) [] ≡ reading (Refused 1 0) []
+unfolding readOf patternsOf number
+limit-before-length = refl
+
+pub count-before-area : readOf doubles (1 ∷ 0 ∷ 0 ∷ 0 ∷ 1 ∷ []) [] ≡ reading (Refused 11 0) []
+unfolding readOf patternsOf number
+count-before-area = refl

@@ -1,0 +1,6 @@
+-- The contribution sheet.
+pub mod Sheet
+pub mod Table
+pub mod SheetLaws
+pub mod TableLaws
+pub mod Instances

@@ -1,0 +1,49 @@
+-- The contribution sheet: its format from patterns to bytes, and what the reader answers. Definitions only.
+use mathlib.Core.Bool.{cond, not}
+use mathlib.Core.List.{List, [], _∷_, _++_}
+use Prim.Native.Nat.{ℕ, zero, suc, _+_, _*_}
+use lib.Dec.{ltb, eqb}
+use lib.ListN.{length, drop, getD}
+use Rattle.octets.specs.Octets.{bigEndian, big, bytesAt}
+use Rattle.kinds.specs.Limits.{Width}
+use Rattle.kinds.specs.declared.Sheet.{Sheet}
+use Rattle.kinds.specs.declared.Sheet.the-variants.{Read, Refused}
+
+-- ---- "Version byte 1, then a count in 4 bytes, then that many 8-byte patterns; all big-endian."
+unfoldable pub body : List ℕ → List ℕ
+body [] = []
+body (p ∷ ps) = bigEndian 8 p ++ body ps
+
+unfoldable pub sheetOf : List ℕ → List ℕ
+sheetOf ps = 1 ∷ (bigEndian 4 (length ps) ++ body ps)
+
+-- ---- what bytes say: the version, the count, and n patterns
+abbrev pub versionOf : List ℕ → ℕ
+versionOf bytes = getD bytes 0 0
+
+abbrev pub countOf : List ℕ → ℕ
+countOf bytes = big (bytesAt bytes 1 4)
+
+unfoldable pub patternsOf : ℕ → List ℕ → List ℕ
+patternsOf zero bytes = []
+patternsOf (suc n) bytes = big (bytesAt bytes 0 8) ∷ patternsOf n (drop 8 bytes)
+
+-- the answer, and the area afterwards
+pub record Reading : Type 0 where
+  pub answer : Sheet
+  pub area : List ℕ
+
+abbrev pub reading : Sheet → List ℕ → Reading
+reading r area = record { answer = r; area = area }
+
+-- ---- "On a sheet: 11 for fewer than 5 bytes, 12, 1, 11, 13, 4." "the reader's output area at least n, the rest of it untouched"
+unfoldable pub readOf : Width → List ℕ → List ℕ → Reading
+readOf W bytes area =
+    let n = countOf bytes in
+    cond (ltb (length bytes) 5) (reading (Refused 11 0) area)
+    (cond (not (eqb (versionOf bytes) 1)) (reading (Refused 12 0) area)
+    (cond (ltb (W .length) n) (reading (Refused 1 0) area)
+    (cond (ltb (length bytes) (5 + 8 * n)) (reading (Refused 11 0) area)
+    (cond (ltb (5 + 8 * n) (length bytes)) (reading (Refused 13 0) area)
+    (cond (ltb (length area) n) (reading (Refused 4 0) area)
+    (reading (Read n) (patternsOf n (drop 5 bytes) ++ drop n area)))))))

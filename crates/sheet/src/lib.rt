@@ -1,0 +1,76 @@
+// The contribution sheet's reader. "The reader copies patterns and doesn't judge them."
+use kinds::Doubles;
+use kinds::Sheet;
+use octets::big_endian;
+ghost use mathlib.Core.Path.{_≡_};
+ghost use mathlib.Core.List.{_++_};
+ghost use Prim.Native.Nat.{_+_, _*_, _≤_};
+ghost use lib.ListN.{length, drop};
+ghost use Rattle.kinds.specs.Limits.{doubles};
+ghost use Rattle.sheet.specs.Sheet.{versionOf, countOf, patternsOf, reading, readOf};
+
+// "Version byte 1"
+pub const VERSION: u8 = 1;
+
+// the version and "a count in 4 bytes"
+pub const HEADER: usize = 5;
+
+// "8-byte patterns"
+pub const PATTERN: usize = 8;
+
+// What stands before the patterns.
+pub struct Header {
+    pub version: u8,
+    pub count: usize,
+}
+
+// The count is what the bytes say, up to 2^32 - 1: nothing is refused here.
+fn read_header(sheet: &[u8]) -> Header
+    requires { ⌜ 5 ≤ length (now sheet) ⌝ }
+    ensures { λ r. ⌜ (r .version ≡ versionOf (now (sheet .entry))) × (r .count ≡ countOf (now (sheet .entry))) ⌝ }
+{
+    let version = sheet[0];
+    let count = big_endian(sheet, 1, 4) as usize;
+    Header { version, count }
+}
+
+// The first n patterns of a sheet to the first n places of the area, "the rest of it untouched".
+fn copy(sheet: &[u8], area: &mut [u64], n: usize)
+    requires { ⌜ (5 + 8 * n ≤ length (now sheet)) × (n ≤ length (now area)) ⌝ }
+    ensures { λ _. ⌜ now (area .exit) ≡ patternsOf n (drop 5 (now (sheet .entry))) ++ drop n (now (area .entry)) ⌝ }
+{
+    let mut i = 0;
+    while i < n {
+        area[i] = big_endian(sheet, HEADER + PATTERN * i, PATTERN);
+        i += 1;
+    }
+}
+
+// "On a sheet: 11 for fewer than 5 bytes, 12, 1, 11, 13, 4." A count above the limit is refused before it is multiplied.
+pub fn read(sheet: &[u8], area: &mut [u64]) -> Sheet
+    ensures { λ r. ⌜ reading r (now (area .exit)) ≡ readOf doubles (now (sheet .entry)) (now (area .entry)) ⌝ }
+{
+    if sheet.len() < HEADER {
+        return Sheet::Refused(11, 0);
+    }
+    let h = read_header(sheet);
+    if h.version != VERSION {
+        return Sheet::Refused(12, 0);
+    }
+    let n = h.count;
+    if Doubles::LENGTH < n {
+        return Sheet::Refused(1, 0);
+    }
+    let size = HEADER + PATTERN * n;
+    if sheet.len() < size {
+        return Sheet::Refused(11, 0);
+    }
+    if size < sheet.len() {
+        return Sheet::Refused(13, 0);
+    }
+    if area.len() < n {
+        return Sheet::Refused(4, 0);
+    }
+    copy(sheet, area, n);
+    Sheet::Read(n)
+}
