@@ -45,7 +45,13 @@ gone [] ys zs p =
     leaves [] = +ℤ-comm (negℤ (unitsOf p)) (exactSum (map changeOf zs))
     leaves (y ∷ ys) = ap (λ (z : ℤ). changeOf y +ℤ z) (leaves ys) ∙ sym (+ℤ-assoc (changeOf y) (exactSum (map changeOf (ys ++ zs))) (negℤ (unitsOf p)))
 
--- all words are those of the same history without p
+-- after it the words are those of what stayed
+pub farewell-words : (ws : List ℕ) (xs ys zs : List Change) (p : ℕ) → Held ws → AllEntered ws (history xs ys zs p)
+    → run ws (history xs ys zs p) ≡ wordsOf (wholeOf ws +ℤ exactSum (map changeOf (stayed xs ys zs)))
+farewell-words ws xs ys zs p H A = run-words ws H (history xs ys zs p) A ∙ ap (λ (z : ℤ). wordsOf (wholeOf ws +ℤ z)) (gone xs ys zs p)
+
+-- and all are those of the same history without p. That no call of it refuses has to be asked: at the largest register, with p = -1 unit, a unit can be added
+-- and withdrawn again after p has joined, and not without it.
 pub farewell : (ws : List ℕ) (xs ys zs : List Change) (p : ℕ) → Held ws → AllEntered ws (history xs ys zs p) → AllEntered ws (stayed xs ys zs)
     → run ws (history xs ys zs p) ≡ run ws (stayed xs ys zs)
 farewell ws xs ys zs p H A B = run-same ws H (history xs ys zs p) (stayed xs ys zs) A B (gone xs ys zs p)
