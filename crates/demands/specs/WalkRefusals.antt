@@ -101,10 +101,6 @@ module _ (W : Width) (ps : List ℕ) (work : List Float) where
   unfolding verdict
   open-refused = refusals (open-after verdict) (WalkWhen W ps work) rows
 
-  pub open-accepted : WalkWhen W ps work verdicts.Good → (k i : ℕ) → opened W ps work .answer ≡ Refused k i → ⊥
-  unfolding verdict
-  open-accepted h = accepts (open-after verdict) (rows verdicts.Good .1 h)
-
   pub open-leaves : (k i : ℕ) → opened W ps work .answer ≡ Refused k i → opened W ps work .work ≡ work
   unfolding verdict
   open-leaves = leaves (open-after verdict)

@@ -31,20 +31,12 @@ module _ (f : Format) (sigma : Float) where
   unfolding remainders
   remainders-join xs ys = map-append (remainderOf f sigma) xs ys
 
-  pub remainders-next : (xs : List Float) (x : Float) → remainders f sigma (xs ++ (x ∷ [])) ≡ remainders f sigma xs ++ (remainderOf f sigma x ∷ [])
-  unfolding remainders
-  remainders-next xs x = remainders-join xs (x ∷ [])
-
   pub remainders-length : (xs : List Float) → length (remainders f sigma xs) ≡ length xs
   unfolding remainders
   remainders-length xs = length-map xs (remainderOf f sigma)
 
 module _ (f : Format) where
   -- ---- the sum
-  pub sum-none : lastSum f [] ≡ plusZero f
-  unfolding lastSum
-  sum-none = refl
-
   added : (t : Float) (xs : List Float) (x : Float) → foldl (add f) t (xs ++ (x ∷ [])) ≡ add f (foldl (add f) t xs) x
   added t [] x = refl
   added t (y ∷ xs) x = added (add f t y) xs x

@@ -11,4 +11,3 @@ pub mod RegisterLaws
 pub mod RunLaws
 pub mod Farewell
 pub mod RoundedLaws
-pub mod Told

@@ -1,5 +1,5 @@
 -- What rounding a register answers, a law for each case. Assumes nothing.
-use mathlib.Core.Path.{_≡_}
+use mathlib.Core.Path.{_≡_, ap}
 use mathlib.Core.List.{List}
 use mathlib.Core.Bool.{false}
 use Prim.Native.Nat.{ℕ, _≤_, _<_}
@@ -9,6 +9,9 @@ use lib.ListN.{length}
 use lib.Ieee.{binary64}
 use Rattle.ieee.specs.Units.{limit, nearestFloat}
 use Rattle.ieee.specs.Overflow.{nearest-finite}
+use Rattle.ieee.specs.Accuracy.{NearestTo}
+use Rattle.ieee.specs.Nearest.{nearest-nearest}
+use Rattle.kinds.specs.Heard.{pattern, nearest, nearestHeard}
 use Rattle.kinds.specs.declared.Nearest.the-variants.{Sum, Refused}
 use Rattle.words.specs.Words.{wordCount, wholeOf}
 use Rattle.register.specs.Register.{rounded}
@@ -29,3 +32,8 @@ module _ (ws : List ℕ) where
     unfolding rounded
     rounded-sum h =
         rw (eq-eqb (length ws) wordCount l, nearest-finite binary64 false (wholeOf ws), lt-ltb (natAbs (wholeOf ws)) (limit binary64) h)
+
+    -- "Rounding a register follows the nearest rule.", as a caller hears it
+    pub round-nearest : natAbs (wholeOf ws) < limit binary64
+        → let x = nearestFloat binary64 false (wholeOf ws) in (nearestHeard (rounded ws) ≡ nearest (pattern x)) × NearestTo binary64 (wholeOf ws) x
+    round-nearest h = (ap nearestHeard (rounded-sum h), nearest-nearest binary64 false (wholeOf ws) h)

@@ -12,7 +12,7 @@ use Rattle.ieee.specs.Units.{value, nearestFloat, limit}
 use Rattle.ieee.specs.Accuracy.{NearestTo}
 use Rattle.ieee.specs.Nearest.{nearest-nearest}
 use Rattle.kinds.specs.Limits.{doubles}
-use Rattle.kinds.specs.Heard.{placeOf, pattern, nearestHeard, partedHeard, refused, nearest}
+use Rattle.kinds.specs.Heard.{pattern, nearestHeard, nearest}
 use Rattle.kinds.specs.declared.Verdict.{Verdict}
 use Rattle.kinds.specs.declared.Verdict.the-variants as verdicts
 use Rattle.kinds.specs.declared.Nearest.{Nearest}
@@ -77,10 +77,6 @@ module _ (ps : List ℕ) where
     λ G. nearest-refused ps k i (given-when doubles true true ps (verdicts.Refused k i) .1 G),
   )
 
-  -- and so it is heard, with a place for 2 and 3 alone
-  pub nearest-heard : (k i : ℕ) → GivenWhen doubles true true ps (verdicts.Refused k i) → nearestHeard (nearestOf ps) ≡ refused k (placeOf k i)
-  nearest-heard k i G = ap nearestHeard (nearest-refusals k i .1 G)
-
   module _ (G : GivenWhen doubles true true ps verdicts.Good) where
     -- "the double nearest S, ties to even significand", for every list that isn't refused
     pub nearest-promised : let x = nearestFloat (doubles .format) (zeroSign ps) S in
@@ -107,13 +103,6 @@ module _ (ps : List ℕ) where
           ),
       λ G. sym (parts-refused ps area k i (given-when doubles true (fitting area) ps (verdicts.Refused k i) .1 G)),
     )
-
-    -- and so it is heard, and the slice is as it was
-    pub parts-heard : (k i : ℕ) → GivenWhen doubles true (fitting area) ps (verdicts.Refused k i)
-        → (partedHeard (partsOf ps area .answer) ≡ refused k (placeOf k i)) × (partsOf ps area .area ≡ area)
-    parts-heard k i G =
-        let e = parts-refusals k i .1 G in
-        (ap (λ (r : Split). partedHeard (r .answer)) e, ap (λ (r : Split). r .area) e)
 
     -- what an accepted call leaves
     abbrev left : List Float

@@ -30,9 +30,6 @@ ceil-next n = ap size (less n)
     less : (n : ℕ) → n ≡ n + 1 - 1
     less n = omega arith
 
-pub ceil-mono : {a b : ℕ} → a ≤ b → ceil a ≤ ceil b
-ceil-mono {a} {b} h = ceil-least (le-trans h (ceil-ge b))
-
 pub ceil-at : {n : ℕ} (j : ℕ) → 2 ^ j < n → n ≤ 2 ^ suc j → ceil n ≡ suc j
 ceil-at {n} j lo hi = le-antisymm (ceil-least hi) (lt-of-not-le (λ g. not-le-of-lt lo (le-trans (ceil-ge n) (pow-mono g))))
 
