@@ -1,13 +1,13 @@
 // Lists with work areas of other lengths: what an opening and the undivided call refuse, in the order 1, 4, then 2 or 3.
-use crate::areas;
-use crate::areas::HELD;
-use crate::generator;
-use crate::generator::INFINITY;
-use crate::generator::ONE;
-use crate::ladders;
-use crate::text;
-use crate::walks;
 use kinds::Doubles;
+use samples::answers;
+use samples::areas;
+use samples::areas::HELD;
+use samples::generator;
+use samples::generator::INFINITY;
+use samples::generator::ONE;
+use samples::ladders;
+use samples::text;
 
 const CASES: u64 = 10;
 
@@ -35,9 +35,9 @@ fn line(list: &[u64], work: &mut [f64], k: u64) {
     text::named(b" n ", list.len() as u64);
     text::named(b" area ", work.len() as u64);
     areas::fill(work, HELD);
-    walks::told(walk::open(list, work));
+    answers::told(walk::open(list, work));
     areas::show(work);
-    walks::told(walk::faithful(list, work));
+    answers::told(walk::faithful(list, work));
     areas::show(work);
     text::put(b"\n");
 }

@@ -1,12 +1,12 @@
 // Runs of additions and withdrawals, and roundings.
-use crate::contents;
-use crate::generator;
-use crate::generator::INFINITY;
-use crate::generator::ONE;
-use crate::generator::UNIT;
-use crate::lists;
-use crate::text;
 use kinds::Entry;
+use samples::answers;
+use samples::contents;
+use samples::generator;
+use samples::generator::INFINITY;
+use samples::generator::ONE;
+use samples::generator::UNIT;
+use samples::text;
 use words::WORDS;
 
 // Runs from each of 15 starts with each of six kinds of numbers, roundings near the starts, roundings of ties, and of random words.
@@ -31,7 +31,7 @@ fn told(at: u64, answer: Entry) {
 }
 
 fn round(register: &[u64]) {
-    lists::nearest(register::round(register));
+    answers::nearest(register::round(register));
 }
 
 // Call `at` of a line: an addition where `adds`, else a withdrawal.

@@ -1,115 +1,26 @@
 // The faithful sum of each list: its opening, the undivided call, and block by block in three orders.
-use crate::areas;
-use crate::areas::HELD;
-use crate::generator;
-use crate::ladders;
-use crate::lists;
-use crate::text;
-use kinds::State;
 use kinds::Step;
+use samples::answers;
+use samples::areas;
+use samples::areas::HELD;
+use samples::generator;
+use samples::ladders;
+use samples::lists;
+use samples::orders;
+use samples::text;
 
 const CASES: u64 = lists::CASES + ladders::CASES;
-
-// The orders of blocks: the lowest pending one first, the highest first, by turns of the generator, and by turns with blocks that are not pending or not
-// there.
-pub const RISING: u64 = 0;
-
-const FALLING: u64 = 1;
-
-const SEEDED: u64 = 2;
-
-pub const STRAY: u64 = 3;
 
 // More steps than any walk has: 51 rounds of 64 blocks.
 const STEPS: u64 = 3264;
 
-fn lowest(pending: u64) -> usize {
-    (u64::trailing_zeros(pending) % 128) as usize
-}
-
-fn highest(pending: u64) -> usize {
-    std::num::wrapping_sub_u32(63, u64::leading_zeros(pending)) as usize
-}
-
-// The first at or above the turn's place; where none is, the lowest or the highest.
-fn seeded(pending: u64, turn: u64) -> usize {
-    let start = (turn % 64) as u32;
-    let above = (pending >> start) << start;
-    if above != 0 {
-        return lowest(above);
-    }
-    if (turn >> 32) % 2 == 1 {
-        lowest(pending)
-    } else {
-        highest(pending)
-    }
-}
-
-fn choice(order: u64, pending: u64, turn: u64) -> usize {
-    if order == RISING {
-        return lowest(pending);
-    }
-    if order == FALLING {
-        return highest(pending);
-    }
-    if (order == STRAY) & ((turn >> 40) % 8 == 0) {
-        return (turn % 5) as usize;
-    }
-    seeded(pending, turn)
-}
-
 // The next step of a walk that goes on; nothing of one that has ended.
 pub fn onward(at: Step, work: &mut [f64], order: u64, turn: u64) -> Step {
     match at {
-        Step::More(s) => walk::step(s, work, choice(order, s.pending, turn)),
+        Step::More(s) => walk::step(s, work, orders::choice(order, s.pending, turn)),
         Step::Done(x, rounds) => Step::Done(x, rounds),
         Step::Refused(number, place) => Step::Refused(number, place),
     }
-}
-
-pub fn ended(at: Step) -> bool {
-    match at {
-        Step::More(s) => false,
-        Step::Done(x, rounds) => true,
-        Step::Refused(number, place) => true,
-    }
-}
-
-fn state(s: State) {
-    text::put(b" more");
-    text::double(s.sigma);
-    text::double(s.t);
-    text::double(s.tau);
-    text::named(b" n ", s.n as u64);
-    text::put(b" pending");
-    text::pattern(s.pending);
-    text::named(b" rounds ", s.rounds as u64);
-}
-
-pub fn told(at: Step) {
-    match at {
-        Step::More(s) => state(s),
-        Step::Done(x, rounds) => {
-            text::double(x);
-            text::named(b" rounds ", rounds as u64);
-        }
-        Step::Refused(number, place) => text::refused(number, place),
-    }
-}
-
-// An answer that is not more, in three numbers.
-struct Outcome(u64, u64, u64);
-
-fn outcome_of(at: Step) -> Outcome {
-    match at {
-        Step::More(s) => Outcome(0, 0, 0),
-        Step::Done(x, rounds) => Outcome(1, text::bits(x), rounds as u64),
-        Step::Refused(number, place) => Outcome(2, number as u64, place as u64),
-    }
-}
-
-fn alike(a: Outcome, b: Outcome) -> bool {
-    (a.0 == b.0) & (a.1 == b.1) & (a.2 == b.2)
 }
 
 // The walk block by block to its end.
@@ -118,7 +29,7 @@ fn run(list: &[u64], work: &mut [f64], order: u64, r: u64) -> Step {
     let mut turn = r;
     let mut steps = 0;
     while steps < STEPS {
-        if ended(at) {
+        if answers::ended(at) {
             break;
         }
         turn = generator::following(turn);
@@ -133,7 +44,9 @@ fn run(list: &[u64], work: &mut [f64], order: u64, r: u64) -> Step {
 fn against(list: &[u64], work: &[f64], other: &mut [f64], answer: Step, order: u64) {
     areas::fill(other, HELD);
     let at = run(list, other, order, generator::seed(7, list.len() as u64));
-    if alike(outcome_of(answer), outcome_of(at)) & areas::same(work, other) {
+    if answers::alike(answers::outcome_of(answer), answers::outcome_of(at))
+        & areas::same(work, other)
+    {
         text::put(b" same");
     } else {
         text::put(b" other");
@@ -147,14 +60,14 @@ fn opened(list: &[u64], work: &mut [f64], k: u64) {
     text::named(b" n ", list.len() as u64);
     text::put(b" opened");
     areas::fill(work, HELD);
-    told(walk::open(list, work));
+    answers::told(walk::open(list, work));
     areas::show(work);
 }
 
 fn undivided(list: &[u64], work: &mut [f64]) -> Step {
     areas::fill(work, HELD);
     let answer = walk::faithful(list, work);
-    told(answer);
+    answers::told(answer);
     areas::show(work);
     answer
 }
@@ -163,11 +76,11 @@ fn ways(list: &[u64], work: &mut [f64], other: &mut [f64]) {
     text::put(b" undivided");
     let answer = undivided(list, work);
     text::put(b" rising");
-    against(list, work, other, answer, RISING);
+    against(list, work, other, answer, orders::RISING);
     text::put(b" falling");
-    against(list, work, other, answer, FALLING);
+    against(list, work, other, answer, orders::FALLING);
     text::put(b" seeded");
-    against(list, work, other, answer, SEEDED);
+    against(list, work, other, answer, orders::SEEDED);
     text::put(b"\n");
 }
 
