@@ -19,7 +19,8 @@ use Rattle.kinds.specs.declared.Step.the-variants as steps
 use Rattle.judge.specs.Judge.{judged}
 use Rattle.judge.specs.Table.{GivenWhen}
 use Rattle.words.specs.Words.{wholeOf}
-use Rattle.register.specs.Register.{unitsOf, added, withdrawn, rounded}
+use Rattle.finite.specs.Finite.{unitsOf}
+use Rattle.register.specs.Register.{added, withdrawn, rounded}
 use Rattle.register.specs.Entries.{EntryWhen}
 use Rattle.register.specs.RegisterLaws.{entry-when, entry-leaves}
 use Rattle.sums.specs.Sums.{Split, split, nearestOf, fitting, partsOf, partsAfter}

@@ -1,7 +1,7 @@
--- The register's words after a sum: a carry equation on their numbers gives every word. Assumes nothing.
+-- The register's words after a sum: a carry equation on their numbers gives every word; and the units of a pattern and of its opposite. Assumes nothing.
 use mathlib.Core.Path.{_≡_, sym, ap, _∙_}
 use mathlib.Core.List.{List}
-use Prim.Native.Nat.{ℕ, _≤_, _<_}
+use Prim.Native.Nat.{ℕ, _^_, _≤_, _<_}
 use lib.Dec.{T, lit<}
 use lib.Ieee.{ofBits, top}
 use lib.Ieee.Scale.{finite}
@@ -9,13 +9,13 @@ use lib.IntN.{pos, negℤ, _+ℤ_, _-ℤ_}
 use lib.ListN.{length, getD}
 use mir.Syntax.{w64}
 use mir.Val.{Fits}
-use Rattle.register.specs.PatternFields.{pattern-plus, pattern-minus}
 use Rattle.kinds.specs.Limits.{doubles}
 use Rattle.lists.specs.Carry.{two, Carried}
 use Rattle.lists.specs.SignedDigits.{cut-add, cut-sub}
 use Rattle.words.specs.Words.{wordBits, wordCount, wholeOf, wordsOf}
-use Rattle.register.specs.Register.{unitsOf}
-use Rattle.register.specs.Steps.{Held, Placed}
+use Rattle.finite.specs.Finite.{unitsOf, Held, Placed}
+use Rattle.finite.specs.PatternFields.{pattern-plus, pattern-minus}
+use Rattle.finite.specs.OppositePattern.{opposite, opposite-value}
 
 -- words of the language are such
 pub held : {ws : List ℕ} → length ws ≡ wordCount → ((i : ℕ) → Fits w64 (getD ws i 0)) → Held ws
@@ -36,3 +36,6 @@ module _ {p k lo hi : ℕ} (F : T (finite (ofBits (doubles .format) p))) (P : Pl
 
   pub units-minus : top (doubles .format) ≤ p → unitsOf p ≡ negℤ (pos (two wordBits k lo hi))
   units-minus h = pattern-minus (doubles .format) p F h ∙ ap (λ (m : ℕ). negℤ (pos m)) (sym (P .units))
+
+pub opposite-units : (p : ℕ) → p < 2 ^ 64 → T (finite (ofBits (doubles .format) p)) → unitsOf (opposite (doubles .format) p) ≡ negℤ (unitsOf p)
+opposite-units p h F = opposite-value (doubles .format) p h F

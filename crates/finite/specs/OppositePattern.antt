@@ -13,7 +13,7 @@ use lib.Ieee.Scale.{finite}
 use Rattle.units.specs.Powers.{le-or-lt}
 use Rattle.ieee.specs.Units.{magnitude, value, patternUnits}
 use Rattle.ieee.specs.Pattern.{pattern-finite}
-use Rattle.register.specs.PatternFields.{pattern-plus, pattern-minus, pattern-magnitude}
+use Rattle.finite.specs.PatternFields.{pattern-plus, pattern-minus, pattern-magnitude}
 
 -- a pattern is below twice the sign's weight, and its sign turns by adding that
 unfoldable pub opposite : Format → ℕ → ℕ

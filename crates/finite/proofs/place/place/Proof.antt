@@ -1,13 +1,13 @@
--- `register::place::place` meets its contract: the magnitude by the pattern's fields, shifted. Assumes nothing.
+-- `finite::place::place` meets its contract: the magnitude by the pattern's fields, shifted. Assumes nothing.
 use borrow.Author.Needs.{needs}
 use mathlib.Core.Path.{sym, _∙_}
 use Prim.Native.Nat.{_%_, _^_}
 use native.Mathlib.Nat.{mul-one}
 use native.Mathlib.Omega.{arith}
-use Rattle.register.specs.PatternFields.{pattern-subnormal, pattern-normal}
+use Rattle.finite.specs.PatternFields.{pattern-subnormal, pattern-normal}
 use Rattle.kinds.specs.Limits.{doubles}
-use Rattle.register.proofs.place.place.Statement.{statement}
-use Rattle.register.proofs.place.place.Tie as tie
+use Rattle.finite.proofs.place.place.Statement.{statement}
+use Rattle.finite.proofs.place.place.Tie as tie
 
 shifted-requires : tie.Need-shifted-requires
 shifted-requires c κs = search needs

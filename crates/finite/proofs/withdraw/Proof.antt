@@ -1,17 +1,17 @@
--- `register::finite::withdraw` meets its contract: the opposite number has the opposite units. Assumes nothing.
+-- `finite::withdraw` meets its contract: the opposite number has the opposite units. Assumes nothing.
 use borrow.Author.Needs.{needs}
 use mathlib.Core.Path.{_≡_, ap, _∙_}
 use lib.Dec.{T}
 use lib.Ieee.{ofBits}
 use lib.Ieee.Scale.{finite}
 use lib.IntN.{ℤ, negℤ, _+ℤ_}
-use Rattle.register.specs.OppositePattern.{opposite-finite}
+use Rattle.finite.specs.OppositePattern.{opposite-finite}
 use Rattle.kinds.specs.Limits.{doubles}
 use Rattle.words.specs.Words.{wholeOf, wordsOf}
-use Rattle.register.specs.Register.{unitsOf}
-use Rattle.register.specs.EnterLaws.{opposite-units}
-use Rattle.register.proofs.finite.withdraw.Statement.{statement}
-use Rattle.register.proofs.finite.withdraw.Tie as tie
+use Rattle.finite.specs.Finite.{unitsOf}
+use Rattle.finite.specs.RegisterWords.{opposite-units}
+use Rattle.finite.proofs.withdraw.Statement.{statement}
+use Rattle.finite.proofs.withdraw.Tie as tie
 
 returns : tie.Need-returns
 returns c =

@@ -1,18 +1,21 @@
 // Additions and withdrawals of any finite number, also above 2^1000, as the parts of a sum need them: what leaves 2112 bits is cut off.
+use crate::place::place;
+use kinds::SIGN;
+use words::ripple::add_at;
+use words::ripple::sub_at;
+
+mod place;
+
 ghost use mathlib.Core.Path.{_≡_};
 ghost use lib.Dec.{T};
 ghost use lib.Ieee.{ofBits};
 ghost use lib.Ieee.Scale.{finite};
 ghost use lib.IntN.{_+ℤ_, _-ℤ_};
 ghost use lib.ListN.{length};
-ghost use Rattle.register.specs.OppositePattern.{opposite};
+ghost use Rattle.finite.specs.OppositePattern.{opposite};
 ghost use Rattle.kinds.specs.Limits.{doubles};
 ghost use Rattle.words.specs.Words.{wordCount, wholeOf, wordsOf};
-ghost use Rattle.register.specs.Register.{unitsOf};
-use super::place::place;
-use judge::SIGN;
-use words::ripple::add_at;
-use words::ripple::sub_at;
+ghost use Rattle.finite.specs.Finite.{unitsOf};
 
 // A NaN or an infinity has no units, and the place of a number is one of 33 words.
 pub fn add(words: &mut [u64], p: u64)

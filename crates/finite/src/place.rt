@@ -7,8 +7,8 @@ ghost use lib.Ieee.Scale.{finite};
 ghost use Rattle.kinds.specs.Limits.{doubles};
 ghost use Rattle.lists.specs.Carry.{two};
 ghost use Rattle.words.specs.Words.{wordBits, wordCount};
-ghost use Rattle.register.specs.Steps.{Placed};
-use judge::SIGN;
+ghost use Rattle.finite.specs.Finite.{Placed};
+use kinds::SIGN;
 
 pub struct Pair {
     pub word: usize,

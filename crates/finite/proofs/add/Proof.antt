@@ -1,9 +1,9 @@
--- `register::finite::add` meets its contract: a positive number is added at its place, and a negative one's magnitude taken there. Assumes nothing.
+-- `finite::add` meets its contract: a positive number is added at its place, and a negative one's magnitude taken there. Assumes nothing.
 use borrow.Author.Needs.{needs}
 use mathlib.Core.Path.{_∙_}
-use Rattle.register.specs.RegisterWords.{held, rises, falls, units-plus, units-minus}
-use Rattle.register.proofs.finite.add.Statement.{statement}
-use Rattle.register.proofs.finite.add.Tie as tie
+use Rattle.finite.specs.RegisterWords.{held, rises, falls, units-plus, units-minus}
+use Rattle.finite.proofs.add.Statement.{statement}
+use Rattle.finite.proofs.add.Tie as tie
 
 place-requires : tie.Need-place-requires
 place-requires c κs = search needs

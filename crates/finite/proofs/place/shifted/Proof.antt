@@ -1,10 +1,10 @@
--- `register::place::shifted` meets its contract: a shifted number lies in two adjacent words. Assumes nothing.
+-- `finite::place::shifted` meets its contract: a shifted number lies in two adjacent words. Assumes nothing.
 use borrow.Author.Needs.{needs}
 use native.Mathlib.Omega.{arith}
 use Rattle.lists.specs.TwoDigits.{two-shifted}
 use Rattle.words.specs.Words.{wordBits}
-use Rattle.register.proofs.place.shifted.Statement.{statement}
-use Rattle.register.proofs.place.shifted.Tie as tie
+use Rattle.finite.proofs.place.shifted.Statement.{statement}
+use Rattle.finite.proofs.place.shifted.Tie as tie
 
 cast-s : tie.Need-cast-s
 cast-s c = search needs
