@@ -1,5 +1,5 @@
--- What the undivided call answers, whatever list and work area it is handed: never a state; and a sum only that is a number, so that its bits may be
--- read, after at most as many rounds as document 01 says. Assumes nothing.
+-- What the undivided call answers, whatever list and work area it is handed: never a state; and a sum only that is a number, so that its bits may be read,
+-- after at most as many rounds as document 01 says. Assumes nothing.
 use mathlib.Core.Path.{_≡_, refl, sym, ap, _∙_, subst}
 use mathlib.Core.Bool.{true, not}
 use mathlib.Core.List.{List}
@@ -18,11 +18,11 @@ use Rattle.kinds.specs.declared.Verdict.the-variants as verdicts
 use Rattle.judge.specs.Judge.{judged}
 use Rattle.judge.specs.JudgeLaws.{given-when}
 use Rattle.sums.specs.SplitLaws.{no-nan}
+use Rattle.rounds.specs.Fitting.{Fitting}
+use Rattle.rounds.specs.Instances.{doubles-fit}
 use Rattle.walk.specs.Walk.{Walked, faithfulOf}
 use Rattle.walk.specs.OpeningLaws.{opened-refused}
 use Rattle.walk.specs.Undivided.{faithful-refused}
-use Rattle.walk.specs.Fitting.{Fitting}
-use Rattle.walk.specs.Instances.{doubles-fit}
 use Rattle.runs.specs.Faithful.{faithful-promised}
 
 -- an answer of the undivided call
