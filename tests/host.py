@@ -126,8 +126,9 @@ def printed(reports, seed, name):
         print(f"host: seed {seed} batch {name}, the first of {len(reports)}: {reports[0]}")
 
 
-def compare(pool, seed, names, flip, what):
+def compare(pool, seed, names, flip):
     """Every batch. Answers how many answers of each kind were met, and how many reports there are."""
+    what, wrong = ("flipped", "flipped bits passed") if flip else ("compared", "differences")
     began = said = time.time()
     counts, bad, done = collections.Counter(), 0, 0
     results = pool.imap_unordered(compared, [(seed, name, flip) for name in names])
@@ -142,7 +143,7 @@ def compare(pool, seed, names, flip, what):
             pass
         if time.time() - said >= PROGRESS or done == len(names):
             said = time.time()
-            print(f"host: {what}: {done} of {len(names)} batches, {sum(counts.values())} calls, {bad} reports, {said - began:.0f} s", flush=True)
+            print(f"host: {what}: {done} of {len(names)} batches, {sum(counts.values())} calls, {bad} {wrong}, {said - began:.0f} s", flush=True)
     return counts, bad
 
 
@@ -170,10 +171,10 @@ def main():
     build()
     names = cases.batches(asked.lists)
     with multiprocessing.Pool(os.cpu_count()) as pool:
-        counts, bad = compare(pool, asked.seed, names, asked.flip, "flipped" if asked.flip else "compared")
+        counts, bad = compare(pool, asked.seed, names, asked.flip)
         if not asked.flip:
-            turned, passing = compare(pool, asked.seed, FLIPPED, True, "flipped")
-            bad += passing + len(REFUSALS.keys() - {call for call, _ in turned})
+            turned, passed = compare(pool, asked.seed, FLIPPED, True)
+            bad += passed + len(REFUSALS.keys() - {call for call, _ in turned})
     table(counts)
     gaps = list(uncovered(counts))
     print("\n".join(gaps + [f"host: {asked.lists} lists, {sum(counts.values())} calls, {bad} differences"]))

@@ -10,7 +10,7 @@ from calls import FEW, REGISTER, ROOM, SIZE, STATE, SUM, entered, packed, parted
 from trial import INFINITY, KINDS, LENGTH, MAGNITUDE, ONE, ONES, SIGN, UNIT, WORDS
 
 LISTS = 250  # in a batch
-ENDS = [0, 1, 2, 63, 64, 65, 128, 129]  # lengths at the ends of blocks
+ENDS = [0, 1, 2, 63, 64, 65, 128, 129, 511, 512, 513]  # lengths at the ends of blocks
 ORDERS = [walk.rising, walk.falling, walk.seeded]
 LIMIT = 2**2098 - 2**2044  # units from which on a register isn't rounded
 TOP = 1 << trial.BITS - 1  # one unit more than the largest register
@@ -49,9 +49,9 @@ def lengths(chance):
     """Mostly short, some at the ends of blocks, a few long."""
     for k in range(LISTS):
         if k < 12:
-            yield chance.choice(ENDS[3:])
+            yield chance.choice(ENDS[3:8])
         elif k < 16:
-            yield chance.randint(130, 700)
+            yield chance.choice([*ENDS[8:], chance.randint(130, 700)])
         elif k < 19:
             yield chance.choice([1000, 2046, 2047, 4033, LENGTH, chance.randint(701, LENGTH)])
         else:
@@ -80,11 +80,11 @@ def run_requests(chance, patterns, order):
 
 
 def runs_of(chance, patterns):
-    """In which orders a list is walked: where there is one block, all are the same."""
-    n, rounds = len(patterns), undivided(tuple(patterns))[0][2]
-    if n > 700:
-        return chance.sample(ORDERS, 1) if rounds < 4 else []
-    return ORDERS if n > walk.BLOCK else chance.sample(ORDERS, 1)
+    """In which orders a list is walked: where there is one block all are the same, and long walks cost too much."""
+    blocks, rounds = walk.blocks_of(len(patterns)), undivided(tuple(patterns))[0][2]
+    if blocks * rounds > 150:
+        return []
+    return ORDERS if blocks > 1 and blocks * rounds <= 40 else chance.sample(ORDERS, 1)
 
 
 def lists(chance):
