@@ -172,12 +172,11 @@ def main():
     names = cases.batches(asked.lists)
     with multiprocessing.Pool(os.cpu_count()) as pool:
         counts, bad = compare(pool, asked.seed, names, asked.flip)
-        if not asked.flip:
-            turned, passed = compare(pool, asked.seed, FLIPPED, True)
-            bad += passed + len(REFUSALS.keys() - {call for call, _ in turned})
+        turned, passed = (counts, 0) if asked.flip else compare(pool, asked.seed, FLIPPED, True)
+    bad += passed
     table(counts)
-    gaps = list(uncovered(counts))
-    print("\n".join(gaps + [f"host: {asked.lists} lists, {sum(counts.values())} calls, {bad} differences"]))
+    gaps = list(uncovered(counts)) + [f"host: no answer of {call} was flipped" for call in sorted(REFUSALS.keys() - {call for call, _ in turned})]
+    print("\n".join(gaps + [f"host: {asked.lists} lists, {sum(counts.values())} calls, {bad} {'flipped bits passed' if asked.flip else 'differences'}"]))
     return 1 if bad or gaps else 0
 
 

@@ -60,6 +60,14 @@ def answered(code, areas):
     return packed([code]) + laid(areas)
 
 
+def where(areas, at):
+    """A place in the bytes in which the areas lie."""
+    for k, (start, area) in enumerate(zip(starts(areas), areas)):
+        if start <= at < start + len(area):
+            return f"byte {at - start} of area {k}"
+    return f"byte {at}, beside the areas,"
+
+
 def difference(request, answer):
     """What is wrong with an answer, or None."""
     if request.sum:
@@ -73,8 +81,8 @@ def difference(request, answer):
         return None
     if answer[:SIZE] != wanted[:SIZE]:
         return f"code {unpacked(answer[:SIZE])[0]}, asked for is {request.code}"
-    place = next(i for i, (one, other) in enumerate(zip(answer, wanted)) if one != other) - SIZE
-    return f"byte {place} of the areas is {answer[SIZE + place]:02X}, asked for is {wanted[SIZE + place]:02X}"
+    at = next(i for i, (one, other) in enumerate(zip(answer, wanted)) if one != other)
+    return f"{where(request.areas, at - SIZE)} is {answer[at]:02X}, asked for is {wanted[at]:02X}"
 
 
 def shown(request):
