@@ -7,7 +7,7 @@ import random
 import trial
 import walk
 from calls import FEW, REGISTER, ROOM, SIZE, STATE, SUM, entered, packed, parted, read, rounded, started, stepped, summed, undivided, unpacked
-from trial import INFINITY, KINDS, LENGTH, MAGNITUDE, ONE, ONES, SIGN, UNIT, WORDS
+from trial import INFINITY, KINDS, LENGTH, MAGNITUDE, ONE, ONES, SIGN, UNIT
 
 LISTS = 250  # in a batch
 ENDS = [0, 1, 2, 63, 64, 65, 128, 129, 511, 512, 513]  # lengths at the ends of blocks
@@ -139,6 +139,9 @@ def states(chance):
 
 
 # ---- registers
+ENTRIES = ["kewohiata_register_add", "kewohiata_register_withdraw"]
+
+
 def whole_of(chance):
     """A register's whole number: small, of any size, near an end, or near the limit of rounding."""
     size = chance.choice([0, 1, 64, 2098, 2111, chance.randint(0, 2111)])
@@ -171,17 +174,13 @@ def register_run(chance):
         data = request.after[0]
     yield rounded(data, chance.randbytes(SIZE))
     chance.shuffle(held)
-    whole = trial.Register(unpacked(first)).whole()
     for call, pattern in held:
         request = entered(ENTRIES[call == ENTRIES[0]], data, pattern)
         yield request
         if request.code:
             return
         data = request.after[0]
-    assert data == first, f"the register {whole} doesn't end where it began: {held}"
-
-
-ENTRIES = ["kewohiata_register_add", "kewohiata_register_withdraw"]
+    assert data == first, f"the register {first.hex()} doesn't end where it began: {held}"
 
 
 def registers(chance):
