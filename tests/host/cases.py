@@ -27,9 +27,10 @@ def tie(chance, n):
 
 
 def ladder(chance, n):
-    """Pairs of powers of two that cancel, each some places below the last; then one unit, and zeros."""
+    """Pairs of powers of two that cancel, each some places below the last; then one unit, and zeros. Long ones aren't deep: each pair may be a round."""
     distance = chance.randint(20, 60)
-    return trial.ladder(n, 2 * chance.randint(0, min((n - 1) // 2, 2074 // distance)), distance) if n else []
+    deepest = 2074 // distance if n <= 700 else 6
+    return trial.ladder(n, 2 * chance.randint(0, min((n - 1) // 2, deepest)), distance) if n else []
 
 
 def faulty(chance, n):
