@@ -1,4 +1,4 @@
-// The code of an answer.
+// The code of an answer. `calls::refusal` gives the same one, and requires what is proved of an exported call's refusals; here nothing is required or promised.
 
 // The lengths are such that the harness can't hold them.
 pub const UNHELD: u32 = 0xFFFF_FFFF;
