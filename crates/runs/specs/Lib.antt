@@ -4,6 +4,7 @@ pub mod Summing
 pub mod SumRun
 pub mod OpenedSum
 pub mod Faithful
+pub mod AnswerNumbers
 pub mod Taken
 pub mod TakenLaws
 pub mod OneBlock

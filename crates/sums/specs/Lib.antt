@@ -7,4 +7,5 @@ pub mod SumLaws
 pub mod AnswerLaws
 pub mod SplitLaws
 pub mod Promised
+pub mod AnswerNumbers
 pub mod Farewell

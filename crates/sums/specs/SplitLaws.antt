@@ -22,7 +22,7 @@ use Rattle.sums.specs.Sums.{parts}
 use Rattle.sums.specs.PartsLaws.{left-smaller, remaining, remaining-none, remaining-next, parts-none, parts-next}
 use Rattle.sums.specs.SumLaws.{whole-words}
 
-no-nan : (x : Float) → T (finite x) → T (not (isNan x))
+pub no-nan : (x : Float) → T (finite x) → T (not (isNan x))
 unfolding isNan
 no-nan nan h = absurd h
 no-nan (inf s) h = absurd h

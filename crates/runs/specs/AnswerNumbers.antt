@@ -1,0 +1,62 @@
+-- What the undivided call answers, whatever list and work area it is handed: never a state; and a sum only that is a number, so that its bits may be read, after
+-- at most as many rounds as document 01 says. Assumes nothing.
+use mathlib.Core.Path.{_≡_, refl, sym, ap, _∙_, subst}
+use mathlib.Core.Bool.{true, not}
+use mathlib.Core.List.{List}
+use Prim.Native.Nat.{ℕ, suc, _≤_}
+use native.Mathlib.Omega.{arith}
+use lib.Dec.{T, eqb}
+use lib.ListN.{length}
+use lib.Ieee.{Float, isNan}
+use Rattle.ieee.specs.Units.{Number}
+use Rattle.kinds.specs.Limits.{Width, doubles}
+use Rattle.kinds.specs.declared.State.{State}
+use Rattle.kinds.specs.declared.Step.{Step}
+use Rattle.kinds.specs.declared.Step.the-variants.{More, Done, Refused}
+use Rattle.kinds.specs.declared.Verdict.{Verdict}
+use Rattle.kinds.specs.declared.Verdict.the-variants as verdicts
+use Rattle.judge.specs.Judge.{judged}
+use Rattle.judge.specs.JudgeLaws.{given-when}
+use Rattle.sums.specs.SplitLaws.{no-nan}
+use Rattle.walk.specs.Walk.{Walked, faithfulOf}
+use Rattle.walk.specs.OpeningLaws.{opened-refused}
+use Rattle.walk.specs.Undivided.{faithful-refused}
+use Rattle.walk.specs.Fitting.{Fitting}
+use Rattle.walk.specs.Instances.{doubles-fit}
+use Rattle.runs.specs.Faithful.{faithful-promised}
+
+-- an answer of the undivided call
+abbrev Ended : Width → Step → Type 0
+Ended W (More s) = ⊥
+Ended W (Done x r) = Number (W .format) x × (r ≤ suc (W .rounds))
+Ended W (Refused k p) = Unit {0}
+
+faithful-ended : {W : Width} (F : Fitting W) (ps : List ℕ) (work : List Float) → Ended W (faithfulOf W ps work .answer)
+faithful-ended {W} F ps work = by (judged W (eqb (length work) (length ps)) true ps) refl
+  where
+    by : (v : Verdict) → judged W (eqb (length work) (length ps)) true ps ≡ v → Ended W (faithfulOf W ps work .answer)
+    by verdicts.Good g =
+        let S = faithful-promised F ps work (given-when W (eqb (length work) (length ps)) true ps verdicts.Good .0 g) in
+        subst (Ended W) (sym (S .answer)) (S .faithful .number, S .most)
+    by (verdicts.Refused k p) g =
+        let w = faithful-refused F ps work (Refused k p) work (opened-refused W _ k p ps work g) k p refl in
+        subst (Ended W) (ap (λ (w : Walked). w .answer) w) tt
+
+module _ (ps : List ℕ) (work : List Float) where
+  -- the undivided call never answers more
+  pub faithful-not-more : (s : State) → faithfulOf doubles ps work .answer ≡ More s → ⊥
+  faithful-not-more s e = subst (Ended doubles) e (faithful-ended doubles-fit ps work)
+
+  module _ {x : Float} {r : ℕ} (e : faithfulOf doubles ps work .answer ≡ Done x r) where
+    done : Number (doubles .format) x × (r ≤ 51)
+    done = subst (Ended doubles) e (faithful-ended doubles-fit ps work)
+
+    pub faithful-number : Number (doubles .format) x
+    faithful-number = done .0
+
+    pub faithful-no-nan : T (not (isNan x))
+    faithful-no-nan = no-nan x (done .0 .fini)
+
+    -- "hence at most 51"
+    pub faithful-rounds : r ≤ 51
+    faithful-rounds = done .1

@@ -1,0 +1,36 @@
+-- What the nearest sum answers is a number, so that its bits may be read. Assumes nothing.
+use mathlib.Core.Path.{_≡_, refl, sym, _∙_, subst}
+use mathlib.Core.Bool.{true, not}
+use mathlib.Core.List.{List}
+use Prim.Native.Nat.{ℕ}
+use native.Mathlib.Omega.{arith}
+use lib.Dec.{T}
+use lib.Ieee.{Float, isNan}
+use Rattle.ieee.specs.Units.{Number, nearestFloat}
+use Rattle.kinds.specs.Limits.{doubles}
+use Rattle.kinds.specs.declared.Verdict.{Verdict}
+use Rattle.kinds.specs.declared.Verdict.the-variants as verdicts
+use Rattle.kinds.specs.declared.Nearest.the-variants.{Sum, Refused}
+use Rattle.judge.specs.Judge.{judged, zeroSign}
+use Rattle.judge.specs.JudgeLaws.{given-when}
+use Rattle.sums.specs.Sums.{sumOf, nearestOf}
+use Rattle.sums.specs.AnswerLaws.{nearest-good, nearest-refused}
+use Rattle.sums.specs.SplitLaws.{no-nan}
+use Rattle.sums.specs.Promised.{nearest-promised}
+
+module _ (ps : List ℕ) {x : Float} (e : nearestOf ps ≡ Sum x) where
+  pub nearest-number : Number (doubles .format) x
+  nearest-number = by (judged doubles true true ps) refl
+    where
+      by : (v : Verdict) → judged doubles true true ps ≡ v → Number (doubles .format) x
+      by verdicts.Good g =
+          let s : Sum (nearestFloat (doubles .format) (zeroSign ps) (sumOf (doubles .format) ps)) ≡ Sum x = sym (nearest-good ps g) ∙ e in
+          let y : nearestFloat (doubles .format) (zeroSign ps) (sumOf (doubles .format) ps) ≡ x = cc in
+          subst (Number (doubles .format)) y (nearest-promised ps (given-when doubles true true ps verdicts.Good .0 g) .1 .number)
+      by (verdicts.Refused k p) g =
+          let s : Refused k p ≡ Sum x = sym (nearest-refused ps k p g) ∙ e in
+          let z : _≡_ {A = ℕ} 0 1 = cc in
+          absurd (omega arith)
+
+  pub nearest-no-nan : T (not (isNan x))
+  nearest-no-nan = no-nan x (nearest-number .fini)
