@@ -1,0 +1,7 @@
+-- What the sheet program prints.
+pub mod Text
+pub mod Numerals
+pub mod Lines
+pub mod TextLaws
+pub mod NumeralLaws
+pub mod LineLaws

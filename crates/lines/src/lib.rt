@@ -1,0 +1,4 @@
+// What the sheet program prints.
+mod line;
+mod number;
+mod text;

@@ -1,0 +1,65 @@
+// The lines, each put behind a text.
+use crate::number::decimal;
+use crate::number::pattern;
+use crate::text::put;
+ghost use mathlib.Core.Path.{_≡_};
+ghost use mathlib.Core.List.{_++_};
+ghost use Prim.Native.Nat.{_+_, _≤_};
+ghost use lib.ListN.{length};
+ghost use Rattle.kinds.specs.Heard.{placeOf};
+ghost use Rattle.lines.specs.Text.{Placed};
+ghost use Rattle.lines.specs.Lines.{countLine, faithfulLine, nearestLine, refusedLine, told as Lines·told, longest};
+
+// `count 3`
+pub fn count(text: &mut [u8], end: usize, n: usize) -> usize
+    requires { ⌜ end + length (countLine n) ≤ length (now text) ⌝ }
+    ensures { λ r. ⌜ Placed (countLine n) end (now (text .entry)) r (now (text .exit)) ⌝ }
+{
+    let named = put(text, end, b"count ");
+    let counted = decimal(text, named, n as u64);
+    put(text, counted, b"\n")
+}
+
+// `faithful 3FF0000000000000 rounds 2`
+pub fn faithful(text: &mut [u8], end: usize, p: u64, rounds: u32) -> usize
+    requires { ⌜ end + length (faithfulLine p rounds) ≤ length (now text) ⌝ }
+    ensures { λ r. ⌜ Placed (faithfulLine p rounds) end (now (text .entry)) r (now (text .exit)) ⌝ }
+{
+    let named = put(text, end, b"faithful ");
+    let summed = pattern(text, named, p);
+    let spaced = put(text, summed, b" rounds ");
+    let counted = decimal(text, spaced, rounds as u64);
+    put(text, counted, b"\n")
+}
+
+// `nearest 3FF0000000000000`
+pub fn nearest(text: &mut [u8], end: usize, p: u64) -> usize
+    requires { ⌜ end + length (nearestLine p) ≤ length (now text) ⌝ }
+    ensures { λ r. ⌜ Placed (nearestLine p) end (now (text .entry)) r (now (text .exit)) ⌝ }
+{
+    let named = put(text, end, b"nearest ");
+    let summed = pattern(text, named, p);
+    put(text, summed, b"\n")
+}
+
+// Whether a refusal tells a place: 2 and 3 do, at place 0 too.
+fn tells(k: u32, place: u32) -> bool
+    ensures { λ r. ⌜ r ≡ Lines·told (placeOf k place) ⌝ }
+{
+    (k == 2) | (k == 3) | (0 < place)
+}
+
+// `refused 3 at 1` or `refused 11`, at the start of the text
+pub fn refused(text: &mut [u8], k: u32, place: u32) -> usize
+    requires { ⌜ longest ≤ length (now text) ⌝ }
+    ensures { λ r. ⌜ Placed (refusedLine k (placeOf k place)) 0 (now (text .entry)) r (now (text .exit)) ⌝ }
+{
+    let named = put(text, 0, b"refused ");
+    let numbered = decimal(text, named, k as u64);
+    if tells(k, place) {
+        let spaced = put(text, numbered, b" at ");
+        let told = decimal(text, spaced, place as u64);
+        return put(text, told, b"\n");
+    }
+    put(text, numbered, b"\n")
+}

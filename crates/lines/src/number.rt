@@ -1,0 +1,52 @@
+// Numbers behind a text.
+use crate::text::put;
+ghost use mathlib.Core.Path.{_≡_};
+ghost use Prim.Native.Nat.{_+_, _≤_, _<_};
+ghost use lib.ListN.{length};
+ghost use Rattle.lines.specs.Text.{Placed};
+ghost use Rattle.lines.specs.Numerals.{decimalOf, capitalOf, capitalsOf, hexOf};
+
+// "the count in decimal"
+pub fn decimal(text: &mut [u8], end: usize, n: u64) -> usize
+    requires { ⌜ end + length (decimalOf n) ≤ length (now text) ⌝ }
+    ensures { λ r. ⌜ Placed (decimalOf n) end (now (text .entry)) r (now (text .exit)) ⌝ }
+{
+    let mut digits = [0u8; 20];
+    let k = io::decimal(n, &mut digits);
+    put(text, end, &digits[0..k])
+}
+
+// A digit below 16. The kit's hex digits are lower case.
+fn capital(digit: u64) -> u8
+    requires { ⌜ digit < 16 ⌝ }
+    ensures { λ r. ⌜ r ≡ capitalOf digit ⌝ }
+{
+    if digit < 10 {
+        48 + digit as u8
+    } else {
+        55 + digit as u8
+    }
+}
+
+// Fills an area with the lowest hex digits of a pattern, from the last place on, since the last digit is the remainder.
+fn capitals(p: u64, digits: &mut [u8])
+    ensures { λ _. ⌜ now (digits .exit) ≡ capitalsOf (length (now (digits .entry))) p ⌝ }
+{
+    let mut rest = p;
+    let mut i = digits.len();
+    while 0 < i {
+        i -= 1;
+        digits[i] = capital(rest % 16);
+        rest /= 16;
+    }
+}
+
+// "the faithful pattern in 16 capital hex digits"
+pub fn pattern(text: &mut [u8], end: usize, p: u64) -> usize
+    requires { ⌜ end + 16 ≤ length (now text) ⌝ }
+    ensures { λ r. ⌜ Placed (hexOf p) end (now (text .entry)) r (now (text .exit)) ⌝ }
+{
+    let mut digits = [0u8; 16];
+    capitals(p, &mut digits);
+    put(text, end, &digits)
+}
