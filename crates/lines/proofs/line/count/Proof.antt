@@ -1,38 +1,45 @@
+-- `lines::line::count` meets its contract: its pieces, one behind the other, are the line. Assumes nothing.
+use Prim.Native.Nat.{_≤_}
+use native.Mathlib.Omega.{arith}
+use lib.ListN.{length}
+use Rattle.lines.specs.Lines.{countLine}
+use Rattle.lines.specs.TextLaws.{joined}
+use Rattle.lines.specs.LineLaws.{count-length}
 use borrow.Author.Needs.{needs}
 use Rattle.lines.proofs.line.count.Statement.{statement}
 use Rattle.lines.proofs.line.count.Tie as tie
-use Rattle.lines.proofs.line.count.Reads as reads
-use Rattle.lines.proofs.line.count.Lts as lts
-use Rattle.lines.proofs.number.decimal.Reads as decimal-reads
-use Rattle.lines.proofs.text.put.Reads as put-reads
 
--- src/line.rt:18:32
 slice-aggregate-put : tie.Need-slice-aggregate-put
 slice-aggregate-put c = search needs
 
--- src/line.rt:18:9
 put-requires : tie.Need-put-requires
-put-requires c κs = ?
+put-requires c κs = omega (arith, count-length (c .before .before .before .args .n))
 
--- src/line.rt:19:9
 decimal-requires : tie.Need-decimal-requires
-decimal-requires c κs = ?
+decimal-requires c κs = omega (arith, count-length (c .before .before .before .before .before .before .before .args .n))
 
--- src/line.rt:20:24
 slice-aggregate-put-2 : tie.Need-slice-aggregate-put-2
 slice-aggregate-put-2 c = search needs
 
--- src/line.rt:20:5
 put-requires-2 : tie.Need-put-requires-2
-put-requires-2 c κs = ?
+put-requires-2 c κs =
+    let d = c .before .before .before .before in
+    omega (arith, count-length (d .before .before .before .before .before .before .before .before .args .n))
 
--- src/line.rt:14:1
 same-length : tie.Need-same-length
 same-length c = search needs
 
--- src/line.rt:14:1
 returns : tie.Need-returns
-returns c = ?
+unfolding countLine
+returns c =
+    let q = c .before .before in
+    let d = q .before .before .before .before .before in
+    let p = d .before .before .before .before in
+    let s = p .before .before .before .before in
+    let l = count-length (s .args .n) in
+    let h : s .args .end ≤ length (s .args .text .now) = omega (arith, s .pre) in
+    let k : p .put .result ≤ length (p .put .last .0) = omega (arith, s .pre) in
+    joined h (p .put .ensures) (joined k (d .decimal .ensures) (q .put2 .ensures))
 
 pub count-spec : {M : Type 1} → statement M
 count-spec =
