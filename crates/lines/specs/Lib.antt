@@ -5,3 +5,4 @@ pub mod Lines
 pub mod TextLaws
 pub mod NumeralLaws
 pub mod LineLaws
+pub mod SumLaws

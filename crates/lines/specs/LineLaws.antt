@@ -7,6 +7,7 @@ use native.Mathlib.Omega.{arith}
 use borrow.Author.Tests.{lt-ltb}
 use lib.Dec.{ltb, eqb}
 use lib.ListN.{length, length-append}
+use Rattle.kinds.specs.Limits.{doubles}
 use Rattle.kinds.specs.Heard.{nowhere, at, placeOf, tells}
 use Rattle.lines.specs.Numerals.{decimalOf, hexOf, capitalsOf}
 use Rattle.lines.specs.NumeralLaws.{decimal-length}
@@ -27,6 +28,13 @@ faithful-length p rounds = simp (length-append, hex-length) (omega arith)
 pub nearest-length : (p : ℕ) → length (nearestLine p) ≡ 25
 unfolding nearestLine
 nearest-length p = simp (length-append, hex-length) (omega arith)
+
+-- "A list has 0 to 4,094 numbers", "hence at most 51"
+pub counted-length : (n : ℕ) → n ≤ doubles .length → length (decimalOf n) ≤ 4
+counted-length n h = decimal-length 3 n (omega arith)
+
+pub rounds-length : (rounds : ℕ) → rounds ≤ 51 → length (decimalOf rounds) ≤ 2
+rounds-length rounds h = decimal-length 1 rounds (omega arith)
 
 -- a refusal's number or place
 pub word-length : (k : ℕ) → k < 2 ^ 32 → length (decimalOf k) ≤ 10

@@ -66,6 +66,10 @@ sumLines n (steps.Refused k p) near = refusedLine k (placeOf k p)
 sumLines n (steps.Done x rounds) (nearests.Refused k p) = refusedLine k (placeOf k p)
 sumLines n (steps.Done x rounds) (nearests.Sum y) = countLine n ++ (faithfulLine (pattern x) rounds ++ nearestLine (pattern y))
 
+-- of a list, with the work area that its walk is lent
+unfoldable pub listLines : List ℕ → List Float → List ℕ
+listLines ps work = sumLines (length ps) (faithfulOf doubles ps work .answer) (nearestOf ps)
+
 -- ---- how many bytes are printed, and the areas afterwards
 pub record Printed : Type 0 where
   pub count : ℕ
@@ -85,8 +89,7 @@ unfoldable pub linesAfter : Sheet → List ℕ → List Float → List ℕ → P
 linesAfter (sheets.Refused k p) numbers work text = printing (refusedLine k (placeOf k p)) numbers work text
 linesAfter (sheets.Read n) numbers work text =
     let ps = take n numbers in
-    let w = faithfulOf doubles ps (take n work) in
-    printing (sumLines n (w .answer) (nearestOf ps)) numbers (w .work ++ drop n work) text
+    printing (listLines ps (take n work)) numbers (faithfulOf doubles ps (take n work) .work ++ drop n work) text
 
 -- from a sheet's bytes
 abbrev pub linesOf : List ℕ → List ℕ → List Float → List ℕ → Printed

@@ -1,11 +1,11 @@
 -- Bytes behind a text: what two pieces come to, and bytes at the start of an area. Assumes nothing.
-use mathlib.Core.Path.{_≡_, sym, ap, _∙_}
-use mathlib.Core.List.{List, _++_, append-assoc}
+use mathlib.Core.Path.{_≡_, refl, sym, ap, _∙_}
+use mathlib.Core.List.{List, [], _++_, append-assoc}
 use Prim.Native.Nat.{ℕ, _+_, _≤_}
 use native.Mathlib.Nat.{le-refl, zero-add}
 use native.Mathlib.Omega.{arith}
 use lib.ListN.{length, take, drop, length-append}
-use lib.Seq.{paste, take-paste, drop-paste, drop-drop, take-length}
+use lib.Seq.{paste, paste-zero, take-paste, drop-paste, drop-drop, take-length}
 use Rattle.lines.specs.Text.{Placed}
 
 -- two pieces are one
@@ -32,6 +32,10 @@ joined {xs} {ys} {area} {place = place} h A B = record {
   end = B .end ∙ ap (λ (r : ℕ). r + length ys) (A .end) ∙ all xs ys area place h;
   text = B .text ∙ (λ i. paste (A .text i) (A .end i) ys (length ys)) ∙ paste-paste xs ys area place h;
 }
+
+-- no piece at all
+pub nothing : (area : List ℕ) → Placed [] 0 area 0 area
+nothing area = record { end = refl; text = paste-zero area 0 [] }
 
 -- at the start of an area
 module _ {xs area after : List ℕ} {r : ℕ} (A : Placed xs 0 area r after) where

@@ -6,6 +6,7 @@ ghost use mathlib.Core.Path.{_≡_};
 ghost use mathlib.Core.List.{_++_};
 ghost use Prim.Native.Nat.{_+_, _≤_};
 ghost use lib.ListN.{length};
+ghost use Rattle.kinds.specs.Limits.{doubles};
 ghost use Rattle.kinds.specs.Heard.{placeOf};
 ghost use Rattle.lines.specs.Text.{Placed};
 ghost use Rattle.lines.specs.Lines.{countLine, faithfulLine, nearestLine, refusedLine, told as Lines·told, longest};
@@ -40,6 +41,16 @@ pub fn nearest(text: &mut [u8], end: usize, p: u64) -> usize
     let named = put(text, end, b"nearest ");
     let summed = pattern(text, named, p);
     put(text, summed, b"\n")
+}
+
+// The three lines of a list that was summed, at the start of the text.
+pub fn three(text: &mut [u8], n: usize, sum: u64, rounds: u32, near: u64) -> usize
+    requires { ⌜ (n ≤ doubles .length) × (rounds ≤ 51) × (longest ≤ length (now text)) ⌝ }
+    ensures { λ r. ⌜ Placed (countLine n ++ (faithfulLine sum rounds ++ nearestLine near)) 0 (now (text .entry)) r (now (text .exit)) ⌝ }
+{
+    let counted = count(text, 0, n);
+    let summed = faithful(text, counted, sum, rounds);
+    nearest(text, summed, near)
 }
 
 // Whether a refusal tells a place: 2 and 3 do, at place 0 too.
