@@ -6,3 +6,4 @@ pub mod TextLaws
 pub mod NumeralLaws
 pub mod LineLaws
 pub mod SumLaws
+pub mod LinesLaws

@@ -36,3 +36,19 @@ fn summed(list: &[u64], work: &mut [f64], text: &mut [u8]) -> usize
         },
     }
 }
+
+// How many bytes the longest lines have: those of 4,094 numbers, and of a walk of two digits of rounds.
+pub const LONGEST: usize = 72;
+
+// Reads a sheet into `numbers`, sums what was read, and puts the lines at the start of `text`; answers how many bytes they are. The walk takes as many places
+// of `work` as there are numbers.
+pub fn lines(sheet: &[u8], numbers: &mut [u64], work: &mut [f64], text: &mut [u8]) -> usize
+    requires { ⌜ (doubles .length ≤ length (now work)) × (longest ≤ length (now text)) ⌝ }
+    ensures { λ r. ⌜ printed r (now (numbers .exit)) (now (work .exit)) (now (text .exit))
+        ≡ linesOf (now (sheet .entry)) (now (numbers .entry)) (now (work .entry)) (now (text .entry)) ⌝ }
+{
+    match sheet::read(sheet, numbers) {
+        Sheet::Refused(k, place) => line::refused(text, k, place),
+        Sheet::Read(n) => summed(&numbers[0..n], &mut work[0..n], text),
+    }
+}
