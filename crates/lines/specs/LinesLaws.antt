@@ -1,9 +1,9 @@
 -- What is printed, case by case as the sheet is read, and how many numbers of an accepted sheet there are at most. Assumes nothing.
-use mathlib.Core.Path.{_≡_, sym, ap, _∙_}
+use mathlib.Core.Path.{_≡_, sym, ap, subst, _∙_}
 use mathlib.Core.List.{List, _++_}
 use Prim.Native.Nat.{ℕ, _≤_}
 use native.Mathlib.Omega.{arith}
-use lib.ListN.{length, take, drop}
+use lib.ListN.{length, take, drop, length-append}
 use lib.Ieee.{Float}
 use Rattle.kinds.specs.Limits.{doubles}
 use Rattle.kinds.specs.Heard.{placeOf}
@@ -14,7 +14,7 @@ use Rattle.sheet.specs.SheetLaws.{Accepted, accepted, accepted-read}
 use Rattle.walk.specs.Walk.{faithfulOf}
 use Rattle.lines.specs.Text.{Placed}
 use Rattle.lines.specs.TextLaws.{first-end, first-text}
-use Rattle.lines.specs.Lines.{refusedLine, listLines, printed, linesAfter, linesOf}
+use Rattle.lines.specs.Lines.{refusedLine, listLines, Printed, printed, linesAfter, linesOf}
 
 module _ (sheet numbers : List ℕ) (work : List Float) (text : List ℕ) {answer : Sheet} {area : List ℕ} (e : reading answer area ≡ readOf doubles sheet numbers) where
   lines-read : linesAfter answer area work text ≡ linesOf sheet numbers work text
@@ -51,3 +51,17 @@ module _ (sheet numbers : List ℕ) (work : List Float) (text : List ℕ) {answe
 
     pub read-room : n ≤ length numbers
     read-room = omega (arith, allowed .room, count)
+
+-- ---- what is printed lies in the text
+inside : (answer : Sheet) (numbers : List ℕ) (work : List Float) (text : List ℕ) → linesAfter answer numbers work text .count
+    ≤ length (linesAfter answer numbers work text .text)
+unfolding linesAfter
+inside (Refused k p) numbers work text = rw length-append (omega arith)
+inside (Read n) numbers work text = rw length-append (omega arith)
+
+pub lines-inside : (sheet numbers : List ℕ) (work : List Float) (text : List ℕ) {r : ℕ} {ns : List ℕ} {xs : List Float} {after : List ℕ}
+    → printed r ns xs after ≡ linesOf sheet numbers work text → r ≤ length after
+lines-inside sheet numbers work text e =
+    let r = readOf doubles sheet numbers in
+    let f = inside (r .answer) (r .area) work text in
+    subst (λ (p : Printed). p .count ≤ length (p .text)) (sym e) f
