@@ -7,3 +7,4 @@ pub mod NumeralLaws
 pub mod LineLaws
 pub mod SumLaws
 pub mod LinesLaws
+pub mod Instances

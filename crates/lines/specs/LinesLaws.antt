@@ -16,7 +16,8 @@ use Rattle.lines.specs.Text.{Placed}
 use Rattle.lines.specs.TextLaws.{first-end, first-text}
 use Rattle.lines.specs.Lines.{refusedLine, listLines, Printed, printed, linesAfter, linesOf}
 
-module _ (sheet numbers : List ℕ) (work : List Float) (text : List ℕ) {answer : Sheet} {area : List ℕ} (e : reading answer area ≡ readOf doubles sheet numbers) where
+module _ (sheet numbers : List ℕ) (work : List Float) (text : List ℕ) {answer : Sheet} {area : List ℕ}
+    (e : reading answer area ≡ readOf doubles sheet numbers) where
   lines-read : linesAfter answer area work text ≡ linesOf sheet numbers work text
   lines-read = ap (λ (r : Reading). linesAfter (r .answer) (r .area) work text) e
 

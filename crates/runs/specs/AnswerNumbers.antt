@@ -1,5 +1,5 @@
--- What the undivided call answers, whatever list and work area it is handed: never a state; and a sum only that is a number, so that its bits may be read, after
--- at most as many rounds as document 01 says. Assumes nothing.
+-- What the undivided call answers, whatever list and work area it is handed: never a state; and only a sum that is a number, so that its bits may be read,
+-- after at most as many rounds as document 01 says. Assumes nothing.
 use mathlib.Core.Path.{_≡_, refl, sym, ap, _∙_, subst}
 use mathlib.Core.Bool.{true, not}
 use mathlib.Core.List.{List}

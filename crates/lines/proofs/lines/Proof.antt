@@ -31,7 +31,8 @@ part-summed-end c =
     let n = c .before .before in
     let r = n .before .before .before .before in
     let a = r .before .before .before .before .before .before .args in
-    omega (arith, read-room (a .sheet .now) (a .numbers .now) (a .work .now) (a .text .now) (r .read .ensures) (n .n .given .0 .0) (n .n .given .1))
+    let room = read-room (a .sheet .now) (a .numbers .now) (a .work .now) (a .text .now) (r .read .ensures) (n .n .given .0 .0) (n .n .given .1) in
+    omega (arith, room)
 
 sub-summed-2 : tie.Need-sub-summed-2
 sub-summed-2 c = search needs
@@ -44,14 +45,16 @@ part-summed-end-2 c =
     let n = c .before .before .before in
     let r = n .before .before .before .before in
     let a = r .before .before .before .before .before .before .args in
-    omega (arith, read-few (a .sheet .now) (a .numbers .now) (a .work .now) (a .text .now) (r .read .ensures) (n .n .given .0 .0) (n .n .given .1))
+    let few = read-few (a .sheet .now) (a .numbers .now) (a .work .now) (a .text .now) (r .read .ensures) (n .n .given .0 .0) (n .n .given .1) in
+    omega (arith, few)
 
 summed-requires : tie.Need-summed-requires
 summed-requires c κs =
     let n = c .before .before .before .before .before in
     let r = n .before .before .before .before in
     let a = r .before .before .before .before .before .before .args in
-    (simp length-take (omega (arith, read-few (a .sheet .now) (a .numbers .now) (a .work .now) (a .text .now) (r .read .ensures) (n .n .given .0 .0) (n .n .given .1))), search needs)
+    let few = read-few (a .sheet .now) (a .numbers .now) (a .work .now) (a .text .now) (r .read .ensures) (n .n .given .0 .0) (n .n .given .1) in
+    (simp length-take (omega (arith, few)), search needs)
 
 same-length : tie.Need-same-length
 same-length c = search needs

@@ -48,7 +48,8 @@ float-to-bits-three-2 : tie.Need-float-to-bits-three-2
 float-to-bits-three-2 c =
     let y = c .before .before in
     let n = y .before .before in
-    nearest-no-nan (n .before .before .before .before .before .before .before .before .before .before .before .args .list .now) (sym (n .nearest .ensures) ∙ y .near .given .1)
+    let f = n .before .before .before .before .before .before in
+    nearest-no-nan (f .before .before .before .before .before .args .list .now) (sym (n .nearest .ensures) ∙ y .near .given .1)
 
 three-requires : tie.Need-three-requires
 three-requires c κs =

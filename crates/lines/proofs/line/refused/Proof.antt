@@ -25,7 +25,10 @@ slice-aggregate-put-2 : tie.Need-slice-aggregate-put-2
 slice-aggregate-put-2 c = search needs
 
 put-requires-2 : tie.Need-put-requires-2
-put-requires-2 c κs = let s = c .before .before .before .before .before .before .before .before .before .before .before .before .before .before in omega (arith, word-length (s .args .k) (s .fits .k .fits))
+put-requires-2 c κs =
+    let d = c .before .before .before .before .before .before in
+    let s = d .before .before .before .before .before .before .before .before in
+    omega (arith, word-length (s .args .k) (s .fits .k .fits))
 
 decimal-requires-2 : tie.Need-decimal-requires-2
 decimal-requires-2 c κs =
@@ -74,7 +77,10 @@ slice-aggregate-put-4 : tie.Need-slice-aggregate-put-4
 slice-aggregate-put-4 c = search needs
 
 put-requires-4 : tie.Need-put-requires-4
-put-requires-4 c κs = let s = c .before .before .before .before .before .before .before .before .before .before .before .before .before .before in omega (arith, word-length (s .args .k) (s .fits .k .fits))
+put-requires-4 c κs =
+    let d = c .before .before .before .before .before .before in
+    let s = d .before .before .before .before .before .before .before .before in
+    omega (arith, word-length (s .args .k) (s .fits .k .fits))
 
 same-length-2 : tie.Need-same-length-2
 same-length-2 c = search needs
