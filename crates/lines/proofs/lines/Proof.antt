@@ -1,6 +1,6 @@
 -- `lines::lines` meets its contract: a refused sheet has its line, and the numbers that were read have theirs. Assumes nothing.
 use mathlib.Core.Path.{_≡_}
-use Prim.Native.Nat.{_-_, _≤_}
+use Prim.Native.Nat.{_-_}
 use native.Mathlib.Omega.{arith}
 use lib.ListN.{length-take}
 use Rattle.lines.specs.LinesLaws.{sheet-refused, sheet-read, read-few, read-room}

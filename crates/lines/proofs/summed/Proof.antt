@@ -1,7 +1,6 @@
 -- `lines::summed` meets its contract: each arm is a case of the list's lines, and the sums it prints are numbers. Assumes nothing.
-use mathlib.Core.Path.{_≡_, sym, ap, _∙_}
+use mathlib.Core.Path.{sym, ap, _∙_}
 use borrow.Author.Needs.{needs}
-use native.Mathlib.Omega.{arith}
 use Rattle.walk.specs.Walk.{Walked}
 use Rattle.sums.specs.AnswerNumbers.{nearest-no-nan}
 use Rattle.runs.specs.AnswerNumbers.{faithful-no-nan, faithful-rounds}

@@ -1,5 +1,5 @@
 -- `lines::line::refused` meets its contract: its pieces, one behind the other, are the line, with a place where one is told. Assumes nothing.
-use mathlib.Core.Path.{_≡_, sym, _∙_}
+use mathlib.Core.Path.{sym, _∙_}
 use Prim.Native.Nat.{_≤_}
 use native.Mathlib.Omega.{arith}
 use lib.ListN.{length}
