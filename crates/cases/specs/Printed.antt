@@ -71,7 +71,7 @@ one-pattern = refl
 three-printed : (xs : List Float) → length xs ≡ 3 → listLines three xs ≡ exampleLines
 three-printed xs h =
     lines-three three xs one 2 (ap (λ (w : W.Walked). w .answer) (walked-three xs h)) one nearest-three
-    ∙ (λ i. countLine 3 ++ (faithfulLine (one-pattern i) 2 ++ nearestLine (one-pattern i)))
+    ∙ (λ i. countLine 3 ++ faithfulLine (one-pattern i) 2 ++ nearestLine (one-pattern i))
     ∙ three-lines
 
 -- ---- "For the sheet .. it prints all of"

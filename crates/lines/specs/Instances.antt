@@ -52,6 +52,6 @@ exampleLines =
     ∷ 32 ∷ 50 ∷ 10
     ∷ 110 ∷ 101 ∷ 97 ∷ 114 ∷ 101 ∷ 115 ∷ 116 ∷ 32 ∷ 51 ∷ 70 ∷ 70 ∷ 48 ∷ 48 ∷ 48 ∷ 48 ∷ 48 ∷ 48 ∷ 48 ∷ 48 ∷ 48 ∷ 48 ∷ 48 ∷ 48 ∷ 48 ∷ 10 ∷ []
 
-pub three-lines : countLine 3 ++ (faithfulLine 0x3FF0000000000000 2 ++ nearestLine 0x3FF0000000000000) ≡ exampleLines
+pub three-lines : countLine 3 ++ faithfulLine 0x3FF0000000000000 2 ++ nearestLine 0x3FF0000000000000 ≡ exampleLines
 unfolding countLine faithfulLine nearestLine decimalIn capitalsOf
 three-lines = refl

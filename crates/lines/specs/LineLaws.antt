@@ -72,10 +72,10 @@ place-nowhere k zero e = go (tells k) e
 place-nowhere k (suc p) e = let z : _≡_ {A = ℕ} 0 1 = cc in absurd (omega arith)
 
 module _ (k p : ℕ) where
-  pub line-told : told (placeOf k p) ≡ true → refusedLine k (placeOf k p) ≡ refusedWord ++ (decimalOf k ++ (atWord ++ (decimalOf p ++ lineEnd)))
+  pub line-told : told (placeOf k p) ≡ true → refusedLine k (placeOf k p) ≡ refusedWord ++ decimalOf k ++ (atWord ++ decimalOf p) ++ lineEnd
   unfolding refusedLine
   line-told e = ap (refusedLine k) (place-at k p e)
 
-  pub line-untold : told (placeOf k p) ≡ false → refusedLine k (placeOf k p) ≡ refusedWord ++ (decimalOf k ++ lineEnd)
+  pub line-untold : told (placeOf k p) ≡ false → refusedLine k (placeOf k p) ≡ refusedWord ++ decimalOf k ++ lineEnd
   unfolding refusedLine
   line-untold e = ap (refusedLine k) (place-nowhere k p e)

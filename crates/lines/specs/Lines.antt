@@ -41,18 +41,18 @@ lineEnd = 10 ∷ []
 
 -- ---- lines: "the count in decimal; the faithful pattern in 16 capital hex digits and the rounds in decimal; the nearest pattern"
 unfoldable pub countLine : ℕ → List ℕ
-countLine n = countWord ++ (decimalOf n ++ lineEnd)
+countLine n = countWord ++ decimalOf n ++ lineEnd
 
 unfoldable pub faithfulLine : ℕ → ℕ → List ℕ
-faithfulLine p rounds = faithfulWord ++ (hexOf p ++ (roundsWord ++ (decimalOf rounds ++ lineEnd)))
+faithfulLine p rounds = faithfulWord ++ hexOf p ++ (roundsWord ++ decimalOf rounds) ++ lineEnd
 
 unfoldable pub nearestLine : ℕ → List ℕ
-nearestLine p = nearestWord ++ (hexOf p ++ lineEnd)
+nearestLine p = nearestWord ++ hexOf p ++ lineEnd
 
 -- "`refused 3 at 1` (number, place) or, without a place, `refused 11`"
 unfoldable pub refusedLine : ℕ → Place → List ℕ
-refusedLine k nowhere = refusedWord ++ (decimalOf k ++ lineEnd)
-refusedLine k (at p) = refusedWord ++ (decimalOf k ++ (atWord ++ (decimalOf p ++ lineEnd)))
+refusedLine k nowhere = refusedWord ++ decimalOf k ++ lineEnd
+refusedLine k (at p) = refusedWord ++ decimalOf k ++ (atWord ++ decimalOf p) ++ lineEnd
 
 -- whether a place is told
 abbrev pub told : Place → Bool
@@ -64,7 +64,7 @@ unfoldable pub sumLines : ℕ → Step → Nearest → List ℕ
 sumLines n (steps.More s) near = []
 sumLines n (steps.Refused k p) near = refusedLine k (placeOf k p)
 sumLines n (steps.Done x rounds) (nearests.Refused k p) = refusedLine k (placeOf k p)
-sumLines n (steps.Done x rounds) (nearests.Sum y) = countLine n ++ (faithfulLine (pattern x) rounds ++ nearestLine (pattern y))
+sumLines n (steps.Done x rounds) (nearests.Sum y) = countLine n ++ faithfulLine (pattern x) rounds ++ nearestLine (pattern y)
 
 -- of a list, with the work area that its walk is lent
 unfoldable pub listLines : List ℕ → List Float → List ℕ

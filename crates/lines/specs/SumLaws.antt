@@ -28,6 +28,6 @@ module _ (ps : List ℕ) (work : List Float) where
     lines-near-refused k p f = rw (e, f)
 
     pub lines-three : (y : Float) → nearestOf ps ≡ nearests.Sum y
-        → listLines ps work ≡ countLine (length ps) ++ (faithfulLine (pattern x) rounds ++ nearestLine (pattern y))
+        → listLines ps work ≡ countLine (length ps) ++ faithfulLine (pattern x) rounds ++ nearestLine (pattern y)
     unfolding listLines sumLines
     lines-three y f = rw (e, f)

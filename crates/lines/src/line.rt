@@ -16,8 +16,7 @@ pub fn count(text: &mut [u8], end: usize, n: usize) -> usize
     requires { ⌜ end + length (countLine n) ≤ length (now text) ⌝ }
     ensures { λ r. ⌜ Placed (countLine n) end (now (text .entry)) r (now (text .exit)) ⌝ }
 {
-    let named = put(text, end, b"count ");
-    let counted = decimal(text, named, n as u64);
+    let counted = decimal(text, end, b"count ", n as u64);
     put(text, counted, b"\n")
 }
 
@@ -26,10 +25,8 @@ pub fn faithful(text: &mut [u8], end: usize, p: u64, rounds: u32) -> usize
     requires { ⌜ end + length (faithfulLine p rounds) ≤ length (now text) ⌝ }
     ensures { λ r. ⌜ Placed (faithfulLine p rounds) end (now (text .entry)) r (now (text .exit)) ⌝ }
 {
-    let named = put(text, end, b"faithful ");
-    let summed = pattern(text, named, p);
-    let spaced = put(text, summed, b" rounds ");
-    let counted = decimal(text, spaced, rounds as u64);
+    let summed = pattern(text, end, b"faithful ", p);
+    let counted = decimal(text, summed, b" rounds ", rounds as u64);
     put(text, counted, b"\n")
 }
 
@@ -38,15 +35,14 @@ pub fn nearest(text: &mut [u8], end: usize, p: u64) -> usize
     requires { ⌜ end + length (nearestLine p) ≤ length (now text) ⌝ }
     ensures { λ r. ⌜ Placed (nearestLine p) end (now (text .entry)) r (now (text .exit)) ⌝ }
 {
-    let named = put(text, end, b"nearest ");
-    let summed = pattern(text, named, p);
+    let summed = pattern(text, end, b"nearest ", p);
     put(text, summed, b"\n")
 }
 
 // The three lines of a list that was summed, at the start of the text.
 pub fn three(text: &mut [u8], n: usize, sum: u64, rounds: u32, near: u64) -> usize
     requires { ⌜ (n ≤ doubles .length) × (rounds ≤ 51) × (longest ≤ length (now text)) ⌝ }
-    ensures { λ r. ⌜ Placed (countLine n ++ (faithfulLine sum rounds ++ nearestLine near)) 0 (now (text .entry)) r (now (text .exit)) ⌝ }
+    ensures { λ r. ⌜ Placed (countLine n ++ faithfulLine sum rounds ++ nearestLine near) 0 (now (text .entry)) r (now (text .exit)) ⌝ }
 {
     let counted = count(text, 0, n);
     let summed = faithful(text, counted, sum, rounds);
@@ -65,11 +61,9 @@ pub fn refused(text: &mut [u8], k: u32, place: u32) -> usize
     requires { ⌜ longest ≤ length (now text) ⌝ }
     ensures { λ r. ⌜ Placed (refusedLine k (placeOf k place)) 0 (now (text .entry)) r (now (text .exit)) ⌝ }
 {
-    let named = put(text, 0, b"refused ");
-    let numbered = decimal(text, named, k as u64);
+    let numbered = decimal(text, 0, b"refused ", k as u64);
     if tells(k, place) {
-        let spaced = put(text, numbered, b" at ");
-        let told = decimal(text, spaced, place as u64);
+        let told = decimal(text, numbered, b" at ", place as u64);
         return put(text, told, b"\n");
     }
     put(text, numbered, b"\n")

@@ -1,19 +1,21 @@
-// Numbers behind a text.
+// Words and numbers behind a text.
 use crate::text::put;
 ghost use mathlib.Core.Path.{_≡_};
+ghost use mathlib.Core.List.{_++_};
 ghost use Prim.Native.Nat.{_+_, _≤_, _<_};
 ghost use lib.ListN.{length};
 ghost use Rattle.lines.specs.Text.{Placed};
 ghost use Rattle.lines.specs.Numerals.{decimalOf, capitalOf, capitalsOf, hexOf};
 
-// "the count in decimal"
-pub fn decimal(text: &mut [u8], end: usize, n: u64) -> usize
-    requires { ⌜ end + length (decimalOf n) ≤ length (now text) ⌝ }
-    ensures { λ r. ⌜ Placed (decimalOf n) end (now (text .entry)) r (now (text .exit)) ⌝ }
+// A word, and a number in decimal.
+pub fn decimal(text: &mut [u8], end: usize, word: &[u8], n: u64) -> usize
+    requires { ⌜ end + length (now word) + length (decimalOf n) ≤ length (now text) ⌝ }
+    ensures { λ r. ⌜ Placed (now (word .entry) ++ decimalOf n) end (now (text .entry)) r (now (text .exit)) ⌝ }
 {
+    let named = put(text, end, word);
     let mut digits = [0u8; 20];
     let k = io::decimal(n, &mut digits);
-    put(text, end, &digits[0..k])
+    put(text, named, &digits[0..k])
 }
 
 // A digit below 16. The kit's hex digits are lower case.
@@ -41,12 +43,13 @@ fn capitals(p: u64, digits: &mut [u8])
     }
 }
 
-// "the faithful pattern in 16 capital hex digits"
-pub fn pattern(text: &mut [u8], end: usize, p: u64) -> usize
-    requires { ⌜ end + 16 ≤ length (now text) ⌝ }
-    ensures { λ r. ⌜ Placed (hexOf p) end (now (text .entry)) r (now (text .exit)) ⌝ }
+// A word, and a pattern "in 16 capital hex digits".
+pub fn pattern(text: &mut [u8], end: usize, word: &[u8], p: u64) -> usize
+    requires { ⌜ end + length (now word) + 16 ≤ length (now text) ⌝ }
+    ensures { λ r. ⌜ Placed (now (word .entry) ++ hexOf p) end (now (text .entry)) r (now (text .exit)) ⌝ }
 {
+    let named = put(text, end, word);
     let mut digits = [0u8; 16];
     capitals(p, &mut digits);
-    put(text, end, &digits)
+    put(text, named, &digits)
 }

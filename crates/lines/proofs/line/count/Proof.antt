@@ -9,22 +9,17 @@ use borrow.Author.Needs.{needs}
 use Rattle.lines.proofs.line.count.Statement.{statement}
 use Rattle.lines.proofs.line.count.Tie as tie
 
+slice-aggregate-decimal : tie.Need-slice-aggregate-decimal
+slice-aggregate-decimal c = search needs
+
+decimal-requires : tie.Need-decimal-requires
+decimal-requires c κs = omega (arith, count-length (c .before .before .before .args .n))
+
 slice-aggregate-put : tie.Need-slice-aggregate-put
 slice-aggregate-put c = search needs
 
 put-requires : tie.Need-put-requires
-put-requires c κs = omega (arith, count-length (c .before .before .before .args .n))
-
-decimal-requires : tie.Need-decimal-requires
-decimal-requires c κs = omega (arith, count-length (c .before .before .before .before .before .before .before .args .n))
-
-slice-aggregate-put-2 : tie.Need-slice-aggregate-put-2
-slice-aggregate-put-2 c = search needs
-
-put-requires-2 : tie.Need-put-requires-2
-put-requires-2 c κs =
-    let d = c .before .before .before .before in
-    omega (arith, count-length (d .before .before .before .before .before .before .before .before .args .n))
+put-requires c κs = let s = c .before .before .before .before .before .before .before .before in omega (arith, count-length (s .args .n))
 
 same-length : tie.Need-same-length
 same-length c = search needs
@@ -32,23 +27,20 @@ same-length c = search needs
 returns : tie.Need-returns
 unfolding countLine
 returns c =
-    let q = c .before .before in
-    let d = q .before .before .before .before .before in
-    let p = d .before .before .before .before in
-    let s = p .before .before .before .before in
+    let p = c .before .before in
+    let d = p .before .before .before .before .before in
+    let s = d .before .before .before .before in
     let l = count-length (s .args .n) in
     let h : s .args .end ≤ length (s .args .text .now) = omega (arith, s .pre) in
-    let k : p .put .result ≤ length (p .put .last .0) = omega (arith, s .pre) in
-    joined h (p .put .ensures) (joined k (d .decimal .ensures) (q .put2 .ensures))
+    joined h (d .decimal .ensures) (p .put .ensures)
 
 pub count-spec : {M : Type 1} → statement M
 count-spec =
     tie.close
     (tie.spec
+    slice-aggregate-decimal
+    decimal-requires
     slice-aggregate-put
     put-requires
-    decimal-requires
-    slice-aggregate-put-2
-    put-requires-2
     same-length
     returns)

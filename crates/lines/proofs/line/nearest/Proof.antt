@@ -9,23 +9,17 @@ use borrow.Author.Needs.{needs}
 use Rattle.lines.proofs.line.nearest.Statement.{statement}
 use Rattle.lines.proofs.line.nearest.Tie as tie
 
+slice-aggregate-pattern : tie.Need-slice-aggregate-pattern
+slice-aggregate-pattern c = search needs
+
+pattern-requires : tie.Need-pattern-requires
+pattern-requires c κs = omega (arith, nearest-length (c .before .before .before .args .p))
+
 slice-aggregate-put : tie.Need-slice-aggregate-put
 slice-aggregate-put c = search needs
 
 put-requires : tie.Need-put-requires
-put-requires c κs = omega (arith, nearest-length (c .before .before .before .args .p))
-
-pattern-requires : tie.Need-pattern-requires
-pattern-requires c κs = omega (arith, nearest-length (c .before .before .before .before .before .before .before .args .p))
-
-slice-aggregate-put-2 : tie.Need-slice-aggregate-put-2
-slice-aggregate-put-2 c = search needs
-
-put-requires-2 : tie.Need-put-requires-2
-put-requires-2 c κs =
-    let d = c .before .before .before .before in
-    let p = d .before .before .before .before .before .before .before .before .args .p in
-    omega (arith, nearest-length p, hex-length p)
+put-requires c κs = let s = c .before .before .before .before .before .before .before .before in omega (arith, nearest-length (s .args .p), hex-length (s .args .p))
 
 same-length : tie.Need-same-length
 same-length c = search needs
@@ -33,23 +27,20 @@ same-length c = search needs
 returns : tie.Need-returns
 unfolding nearestLine
 returns c =
-    let q = c .before .before in
-    let d = q .before .before .before .before .before in
-    let p = d .before .before .before .before in
-    let s = p .before .before .before .before in
+    let p = c .before .before in
+    let d = p .before .before .before .before .before in
+    let s = d .before .before .before .before in
     let l = nearest-length (s .args .p) in
     let h : s .args .end ≤ length (s .args .text .now) = omega (arith, s .pre) in
-    let k : p .put .result ≤ length (p .put .last .0) = omega (arith, s .pre) in
-    joined h (p .put .ensures) (joined k (d .pattern .ensures) (q .put2 .ensures))
+    joined h (d .pattern .ensures) (p .put .ensures)
 
 pub nearest-spec : {M : Type 1} → statement M
 nearest-spec =
     tie.close
     (tie.spec
+    slice-aggregate-pattern
+    pattern-requires
     slice-aggregate-put
     put-requires
-    pattern-requires
-    slice-aggregate-put-2
-    put-requires-2
     same-length
     returns)

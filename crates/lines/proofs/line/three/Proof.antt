@@ -1,8 +1,6 @@
 -- `lines::line::three` meets its contract: the lines one behind the other, of which 72 bytes hold the longest. Assumes nothing.
 use borrow.Author.Needs.{needs}
-use Prim.Native.Nat.{_≤_}
 use native.Mathlib.Omega.{arith}
-use lib.ListN.{length}
 use Rattle.lines.specs.TextLaws.{joined}
 use Rattle.lines.specs.LineLaws.{count-length, faithful-length, nearest-length, counted-length, rounds-length}
 use Rattle.lines.proofs.line.three.Statement.{statement}
@@ -38,12 +36,7 @@ returns c =
     let n = c .before .before in
     let f = n .before .before .before .before in
     let k = f .before .before .before .before in
-    let s = k .before .before .before in
-    let a = s .args in
-    let x = count-length (a .n) in
-    let y = counted-length (a .n) (s .pre .0) in
-    let h : k .count .result ≤ length (k .count .last .0) = omega (arith, s .pre .2) in
-    joined (omega arith) (k .count .ensures) (joined h (f .faithful .ensures) (n .nearest .ensures))
+    joined (omega arith) (joined (omega arith) (k .count .ensures) (f .faithful .ensures)) (n .nearest .ensures)
 
 pub three-spec : {M : Type 1} → statement M
 three-spec = tie.close (tie.spec count-requires faithful-requires nearest-requires same-length returns)

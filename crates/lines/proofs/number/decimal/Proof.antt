@@ -1,8 +1,15 @@
--- `lines::number::decimal` meets its contract: the kit's digits are those of the definition. Assumes nothing.
-use borrow.Author.Needs.{needs}
+-- `lines::number::decimal` meets its contract: the kit's digits are those of the definition, and stand behind the word. Assumes nothing.
+use Prim.Native.Nat.{_≤_}
+use native.Mathlib.Omega.{arith}
+use lib.ListN.{length}
+use Rattle.lines.specs.TextLaws.{joined}
 use Rattle.lines.specs.NumeralLaws.{front-decimal}
+use borrow.Author.Needs.{needs}
 use Rattle.lines.proofs.number.decimal.Statement.{statement}
 use Rattle.lines.proofs.number.decimal.Tie as tie
+
+put-requires : tie.Need-put-requires
+put-requires c κs = search needs
 
 decimal-requires : tie.Need-decimal-requires
 decimal-requires c κs = search needs
@@ -16,21 +23,36 @@ part-put-start c = search needs
 part-put-end : tie.Need-part-put-end
 part-put-end c = search needs
 
-put-requires : tie.Need-put-requires
-put-requires c κs =
+put-requires-2 : tie.Need-put-requires-2
+put-requires-2 c κs =
     let d = c .before .before .before in
-    let s = d .before .before .before in
-    rw (front-decimal (s .args .n) (d .decimal .result) (d .decimal .last .1 .0) (d .decimal .ensures .1 .0) (d .decimal .ensures .1 .1)) (s .pre)
+    let p = d .before .before .before .before in
+    let s = p .before .before .before .before in
+    let e = front-decimal (s .args .n) (d .decimal .result) (d .decimal .last .1 .0) (d .decimal .ensures .1 .0) (d .decimal .ensures .1 .1) in
+    rw e (omega (arith, p .put .ensures .end, p .put .kept .0, s .pre))
 
 same-length : tie.Need-same-length
 same-length c = search needs
 
 returns : tie.Need-returns
 returns c =
-    let p = c .before .before in
-    let d = p .before .before .before .before in
-    let n = d .before .before .before .args .n in
-    rw (front-decimal n (d .decimal .result) (d .decimal .last .1 .0) (d .decimal .ensures .1 .0) (d .decimal .ensures .1 .1)) at (p .put .ensures)
+    let q = c .before .before in
+    let d = q .before .before .before .before in
+    let p = d .before .before .before .before in
+    let s = p .before .before .before .before in
+    let e = front-decimal (s .args .n) (d .decimal .result) (d .decimal .last .1 .0) (d .decimal .ensures .1 .0) (d .decimal .ensures .1 .1) in
+    let h : s .args .end ≤ length (s .args .text .now) = omega (arith, s .pre) in
+    joined h (p .put .ensures) (rw e at (q .put2 .ensures))
 
 pub decimal-spec : {M : Type 1} → statement M
-decimal-spec = tie.close (tie.spec decimal-requires sub-put part-put-start part-put-end put-requires same-length returns)
+decimal-spec =
+    tie.close
+    (tie.spec
+    put-requires
+    decimal-requires
+    sub-put
+    part-put-start
+    part-put-end
+    put-requires-2
+    same-length
+    returns)
