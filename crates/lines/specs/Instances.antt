@@ -6,7 +6,7 @@ use lib.ListN.{drop}
 use lib.Ieee.{Float}
 use Rattle.kinds.specs.Heard.{placeOf}
 use Rattle.sheet.specs.Sheet.{readOf}
-use Rattle.lines.specs.Numerals.{decimalIn, decimalOf, capitalsOf, hexOf}
+use Rattle.numerals.specs.Numerals.{decimalIn, decimalOf, capitalsOf, hexOf}
 use Rattle.lines.specs.Lines.{countLine, faithfulLine, nearestLine, refusedLine, printed, linesAfter, linesOf}
 
 -- ---- numerals: `0`, `10`, `4094`, and every hex digit

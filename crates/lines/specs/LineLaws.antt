@@ -9,8 +9,8 @@ use lib.Dec.{ltb, eqb}
 use lib.ListN.{length, length-append}
 use Rattle.kinds.specs.Limits.{doubles}
 use Rattle.kinds.specs.Heard.{nowhere, at, placeOf, tells}
-use Rattle.lines.specs.Numerals.{decimalOf, hexOf, capitalsOf}
-use Rattle.lines.specs.NumeralLaws.{decimal-length}
+use Rattle.numerals.specs.Numerals.{decimalOf, hexOf, capitalsOf}
+use Rattle.numerals.specs.NumeralLaws.{decimal-length}
 use Rattle.lines.specs.Lines.{refusedWord, atWord, lineEnd, countLine, faithfulLine, nearestLine, refusedLine, told}
 
 pub hex-length : (p : ℕ) → length (hexOf p) ≡ 16

@@ -15,7 +15,7 @@ use Rattle.kinds.specs.declared.Sheet.the-variants as sheets
 use Rattle.sheet.specs.Sheet.{readOf}
 use Rattle.walk.specs.Walk.{faithfulOf}
 use Rattle.sums.specs.Sums.{nearestOf}
-use Rattle.lines.specs.Numerals.{decimalOf, hexOf}
+use Rattle.numerals.specs.Numerals.{decimalOf, hexOf}
 
 -- ---- words: `count `, `faithful `, ` rounds `, `nearest `, `refused `, ` at `, and the end of a line
 abbrev pub countWord : List ℕ

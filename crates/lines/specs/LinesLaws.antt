@@ -12,8 +12,8 @@ use Rattle.kinds.specs.declared.Sheet.the-variants.{Read, Refused}
 use Rattle.sheet.specs.Sheet.{countOf, Reading, reading, readOf}
 use Rattle.sheet.specs.SheetLaws.{Accepted, accepted, accepted-read}
 use Rattle.walk.specs.Walk.{faithfulOf}
-use Rattle.lines.specs.Text.{Placed}
-use Rattle.lines.specs.TextLaws.{first-end, first-text}
+use Rattle.numerals.specs.Text.{Placed}
+use Rattle.numerals.specs.TextLaws.{first-end, first-text}
 use Rattle.lines.specs.Lines.{refusedLine, listLines, Printed, printed, linesAfter, linesOf}
 
 module _ (sheet numbers : List ℕ) (work : List Float) (text : List ℕ) {answer : Sheet} {area : List ℕ}

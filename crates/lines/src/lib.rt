@@ -4,15 +4,13 @@ use kinds::Sheet;
 use kinds::Step;
 
 mod line;
-mod number;
-mod text;
 
 ghost use mathlib.Core.Path.{_≡_};
 ghost use Prim.Native.Nat.{_≤_};
 ghost use lib.ListN.{length};
 ghost use Rattle.kinds.specs.Limits.{doubles};
 ghost use Rattle.walk.specs.Walk.{faithfulOf};
-ghost use Rattle.lines.specs.Text.{Placed};
+ghost use Rattle.numerals.specs.Text.{Placed};
 ghost use Rattle.lines.specs.Lines.{listLines, printed, linesOf, longest};
 
 // Of a list: its three lines, or the line of its refusal. The undivided call answers no state.

@@ -1,14 +1,14 @@
 // The lines, each put behind a text.
-use crate::number::decimal;
-use crate::number::pattern;
-use crate::text::put;
+use numerals::decimal;
+use numerals::pattern;
+use numerals::put;
 ghost use mathlib.Core.Path.{_≡_};
 ghost use mathlib.Core.List.{_++_};
 ghost use Prim.Native.Nat.{_+_, _≤_};
 ghost use lib.ListN.{length};
 ghost use Rattle.kinds.specs.Limits.{doubles};
 ghost use Rattle.kinds.specs.Heard.{placeOf};
-ghost use Rattle.lines.specs.Text.{Placed};
+ghost use Rattle.numerals.specs.Text.{Placed};
 ghost use Rattle.lines.specs.Lines.{countLine, faithfulLine, nearestLine, refusedLine, told as Lines·told, longest};
 
 // `count 3`

@@ -4,7 +4,7 @@ use borrow.Author.Needs.{needs}
 use Rattle.walk.specs.Walk.{Walked}
 use Rattle.sums.specs.AnswerNumbers.{nearest-no-nan}
 use Rattle.runs.specs.AnswerNumbers.{faithful-no-nan, faithful-rounds}
-use Rattle.lines.specs.TextLaws.{nothing}
+use Rattle.numerals.specs.TextLaws.{nothing}
 use Rattle.lines.specs.SumLaws.{lines-more, lines-refused, lines-near-refused, lines-three}
 use Rattle.lines.proofs.summed.Statement.{statement}
 use Rattle.lines.proofs.summed.Tie as tie

@@ -3,7 +3,7 @@ use Prim.Native.Nat.{_≤_}
 use native.Mathlib.Omega.{arith}
 use lib.ListN.{length}
 use Rattle.lines.specs.Lines.{faithfulLine}
-use Rattle.lines.specs.TextLaws.{joined}
+use Rattle.numerals.specs.TextLaws.{joined}
 use Rattle.lines.specs.LineLaws.{hex-length, faithful-length}
 use borrow.Author.Needs.{needs}
 use Rattle.lines.proofs.line.faithful.Statement.{statement}

@@ -1,7 +1,7 @@
 -- `lines::line::refused` meets its contract: its pieces, one behind the other, are the line, with a place where one is told. Assumes nothing.
 use mathlib.Core.Path.{sym, _∙_}
 use native.Mathlib.Omega.{arith}
-use Rattle.lines.specs.TextLaws.{joined}
+use Rattle.numerals.specs.TextLaws.{joined}
 use Rattle.lines.specs.LineLaws.{word-length, line-told, line-untold}
 use borrow.Author.Needs.{needs}
 use Rattle.lines.proofs.line.refused.Statement.{statement}

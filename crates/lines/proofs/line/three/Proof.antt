@@ -1,7 +1,7 @@
 -- `lines::line::three` meets its contract: the lines one behind the other, of which 72 bytes hold the longest. Assumes nothing.
 use borrow.Author.Needs.{needs}
 use native.Mathlib.Omega.{arith}
-use Rattle.lines.specs.TextLaws.{joined}
+use Rattle.numerals.specs.TextLaws.{joined}
 use Rattle.lines.specs.LineLaws.{count-length, faithful-length, nearest-length, counted-length, rounds-length}
 use Rattle.lines.proofs.line.three.Statement.{statement}
 use Rattle.lines.proofs.line.three.Tie as tie

@@ -1,11 +1,11 @@
--- `lines::number::capitals` meets its contract: from the last place down to i the digits stand in the area. Assumes nothing.
+-- `numerals::capitals` meets its contract: from the last place down to i the digits stand in the area. Assumes nothing.
 use mathlib.Core.Path.{_≡_}
 use native.Mathlib.Omega.{arith}
 use borrow.Author.Needs.{needs}
 use lib.ListN.{length}
-use Rattle.lines.specs.NumeralLaws.{Spelling, spelling-begins, spelling-goes-on, spelling-ends}
-use Rattle.lines.proofs.number.capitals.Statement.{statement}
-use Rattle.lines.proofs.number.capitals.Tie as tie
+use Rattle.numerals.specs.NumeralLaws.{Spelling, spelling-begins, spelling-goes-on, spelling-ends}
+use Rattle.numerals.proofs.capitals.Statement.{statement}
+use Rattle.numerals.proofs.capitals.Tie as tie
 
 abbrev Inv-loop : tie.InvT-loop
 Inv-loop p digits₀ rest₀ i₀ digits rest i = Spelling p (length digits₀) digits rest i

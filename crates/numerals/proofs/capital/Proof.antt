@@ -1,8 +1,8 @@
--- `lines::number::capital` meets its contract: each return is a case of the definition. Assumes nothing.
+-- `numerals::capital` meets its contract: each return is a case of the definition. Assumes nothing.
 use borrow.Author.Needs.{needs}
 use borrow.Author.Tests.{lt-ltb, le-ltb}
-use Rattle.lines.proofs.number.capital.Statement.{statement}
-use Rattle.lines.proofs.number.capital.Tie as tie
+use Rattle.numerals.proofs.capital.Statement.{statement}
+use Rattle.numerals.proofs.capital.Tie as tie
 
 cast-result : tie.Need-cast-result
 cast-result c = search needs

@@ -1,11 +1,11 @@
--- `lines::number::pattern` meets its contract: 16 places are filled with digits, and stand behind the word. Assumes nothing.
+-- `numerals::pattern` meets its contract: 16 places are filled with digits, and stand behind the word. Assumes nothing.
 use Prim.Native.Nat.{_≤_}
 use native.Mathlib.Omega.{arith}
 use lib.ListN.{length}
-use Rattle.lines.specs.TextLaws.{joined}
+use Rattle.numerals.specs.TextLaws.{joined}
 use borrow.Author.Needs.{needs}
-use Rattle.lines.proofs.number.pattern.Statement.{statement}
-use Rattle.lines.proofs.number.pattern.Tie as tie
+use Rattle.numerals.proofs.pattern.Statement.{statement}
+use Rattle.numerals.proofs.pattern.Tie as tie
 
 put-requires : tie.Need-put-requires
 put-requires c κs = search needs

@@ -1,4 +1,4 @@
--- `lines::text::put` meets its contract: the places passed hold their bytes, and the others what they held. Assumes nothing.
+-- `numerals::put` meets its contract: the places passed hold their bytes, and the others what they held. Assumes nothing.
 use mathlib.Core.Path.{_≡_, ap, _∙_}
 use Prim.Native.Nat.{_+_, _-_, _≤_, _<_}
 use native.Mathlib.Numerals.{add-one}
@@ -6,8 +6,8 @@ use native.Mathlib.Omega.{arith}
 use borrow.Author.Needs.{needs}
 use lib.ListN.{length}
 use lib.Seq.{paste, paste-zero, paste-suc}
-use Rattle.lines.proofs.text.put.Statement.{statement}
-use Rattle.lines.proofs.text.put.Tie as tie
+use Rattle.numerals.proofs.put.Statement.{statement}
+use Rattle.numerals.proofs.put.Tie as tie
 
 abbrev Inv-loop : tie.InvT-loop
 Inv-loop text₀ end bytes i₀ text i = (length text ≡ length text₀) × (i ≤ length bytes) × (text ≡ paste text₀ end bytes i)

@@ -1,11 +1,23 @@
-// Words and numbers behind a text.
-use crate::text::put;
+// Bytes, words and numbers, put behind a text in a lent area.
 ghost use mathlib.Core.Path.{_≡_};
 ghost use mathlib.Core.List.{_++_};
 ghost use Prim.Native.Nat.{_+_, _≤_, _<_};
 ghost use lib.ListN.{length};
-ghost use Rattle.lines.specs.Text.{Placed};
-ghost use Rattle.lines.specs.Numerals.{decimalOf, capitalOf, capitalsOf, hexOf};
+ghost use Rattle.numerals.specs.Text.{Placed};
+ghost use Rattle.numerals.specs.Numerals.{decimalOf, capitalOf, capitalsOf, hexOf};
+
+// Puts bytes behind a text that ends at a place, and answers where it ends now.
+pub fn put(text: &mut [u8], end: usize, bytes: &[u8]) -> usize
+    requires { ⌜ end + length (now bytes) ≤ length (now text) ⌝ }
+    ensures { λ r. ⌜ Placed (now (bytes .entry)) end (now (text .entry)) r (now (text .exit)) ⌝ }
+{
+    let mut i = 0;
+    while i < bytes.len() {
+        text[end + i] = bytes[i];
+        i += 1;
+    }
+    end + i
+}
 
 // A word, and a number in decimal.
 pub fn decimal(text: &mut [u8], end: usize, word: &[u8], n: u64) -> usize

@@ -10,7 +10,7 @@ use lib.ListN.{length, take, drop, set, length-append, length-set}
 use lib.Seq.{set-split, drop-at, drop-length, length-take-le}
 use Rattle.units.specs.Powers.{le-or-lt}
 use Rattle.io.specs.Digits.{glyph, digits, Fewest}
-use Rattle.lines.specs.Numerals.{decimalIn, decimalOf, capitalOf, capitalsOf}
+use Rattle.numerals.specs.Numerals.{decimalIn, decimalOf, capitalOf, capitalsOf}
 
 -- ---- decimal
 

@@ -1,12 +1,12 @@
--- `lines::number::decimal` meets its contract: the kit's digits are those of the definition, and stand behind the word. Assumes nothing.
+-- `numerals::decimal` meets its contract: the kit's digits are those of the definition, and stand behind the word. Assumes nothing.
 use Prim.Native.Nat.{_≤_}
 use native.Mathlib.Omega.{arith}
 use lib.ListN.{length}
-use Rattle.lines.specs.TextLaws.{joined}
-use Rattle.lines.specs.NumeralLaws.{front-decimal}
+use Rattle.numerals.specs.TextLaws.{joined}
+use Rattle.numerals.specs.NumeralLaws.{front-decimal}
 use borrow.Author.Needs.{needs}
-use Rattle.lines.proofs.number.decimal.Statement.{statement}
-use Rattle.lines.proofs.number.decimal.Tie as tie
+use Rattle.numerals.proofs.decimal.Statement.{statement}
+use Rattle.numerals.proofs.decimal.Tie as tie
 
 put-requires : tie.Need-put-requires
 put-requires c κs = search needs

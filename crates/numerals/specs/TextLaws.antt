@@ -6,7 +6,7 @@ use native.Mathlib.Nat.{le-refl, zero-add}
 use native.Mathlib.Omega.{arith}
 use lib.ListN.{length, take, drop, length-append}
 use lib.Seq.{paste, paste-zero, take-paste, drop-paste, drop-drop, take-length}
-use Rattle.lines.specs.Text.{Placed}
+use Rattle.numerals.specs.Text.{Placed}
 
 -- two pieces are one
 module _ (xs ys area : List ℕ) (place : ℕ) (h : place ≤ length area) where
