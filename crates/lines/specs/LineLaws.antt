@@ -11,7 +11,7 @@ use Rattle.kinds.specs.Limits.{doubles}
 use Rattle.kinds.specs.Heard.{nowhere, at, placeOf, tells}
 use Rattle.numerals.specs.Numerals.{decimalOf, hexOf, capitalsOf}
 use Rattle.numerals.specs.NumeralLaws.{decimal-length}
-use Rattle.lines.specs.Lines.{refusedWord, atWord, lineEnd, countLine, faithfulLine, nearestLine, refusedLine, told}
+use Rattle.lines.specs.Lines.{refusedWord, atWord, lineEnd, countLine, faithfulLine, refusedLine, told}
 
 pub hex-length : (p : ℕ) → length (hexOf p) ≡ 16
 unfolding capitalsOf
@@ -24,10 +24,6 @@ count-length n = simp length-append (omega arith)
 pub faithful-length : (p rounds : ℕ) → length (faithfulLine p rounds) ≡ 34 + length (decimalOf rounds)
 unfolding faithfulLine
 faithful-length p rounds = simp (length-append, hex-length) (omega arith)
-
-pub nearest-length : (p : ℕ) → length (nearestLine p) ≡ 25
-unfolding nearestLine
-nearest-length p = simp (length-append, hex-length) (omega arith)
 
 -- "A list has 0 to 4,094 numbers", "hence at most 51"
 pub counted-length : (n : ℕ) → n ≤ doubles .length → length (decimalOf n) ≤ 4

@@ -9,11 +9,12 @@ ghost use lib.ListN.{length};
 ghost use Rattle.kinds.specs.Limits.{doubles};
 ghost use Rattle.kinds.specs.Heard.{placeOf};
 ghost use Rattle.numerals.specs.Text.{Placed};
+ghost use Rattle.numerals.specs.Numerals.{decimalOf};
 ghost use Rattle.lines.specs.Lines.{countLine, faithfulLine, nearestLine, refusedLine, told as Lines·told, longest};
 
 // `count 3`
 pub fn count(text: &mut [u8], end: usize, n: usize) -> usize
-    requires { ⌜ end + length (countLine n) ≤ length (now text) ⌝ }
+    requires { ⌜ end + 7 + length (decimalOf n) ≤ length (now text) ⌝ }
     ensures { λ r. ⌜ Placed (countLine n) end (now (text .entry)) r (now (text .exit)) ⌝ }
 {
     let counted = decimal(text, end, b"count ", n as u64);
@@ -22,7 +23,7 @@ pub fn count(text: &mut [u8], end: usize, n: usize) -> usize
 
 // `faithful 3FF0000000000000 rounds 2`
 pub fn faithful(text: &mut [u8], end: usize, p: u64, rounds: u32) -> usize
-    requires { ⌜ end + length (faithfulLine p rounds) ≤ length (now text) ⌝ }
+    requires { ⌜ end + 34 + length (decimalOf rounds) ≤ length (now text) ⌝ }
     ensures { λ r. ⌜ Placed (faithfulLine p rounds) end (now (text .entry)) r (now (text .exit)) ⌝ }
 {
     let summed = pattern(text, end, b"faithful ", p);
@@ -32,7 +33,7 @@ pub fn faithful(text: &mut [u8], end: usize, p: u64, rounds: u32) -> usize
 
 // `nearest 3FF0000000000000`
 pub fn nearest(text: &mut [u8], end: usize, p: u64) -> usize
-    requires { ⌜ end + length (nearestLine p) ≤ length (now text) ⌝ }
+    requires { ⌜ end + 25 ≤ length (now text) ⌝ }
     ensures { λ r. ⌜ Placed (nearestLine p) end (now (text .entry)) r (now (text .exit)) ⌝ }
 {
     let summed = pattern(text, end, b"nearest ", p);

@@ -1,6 +1,7 @@
 -- `lines::summed` meets its contract: each arm is a case of the list's lines, and the sums it prints are numbers. Assumes nothing.
 use mathlib.Core.Path.{sym, ap, _∙_}
 use borrow.Author.Needs.{needs}
+use native.Mathlib.Omega.{arith}
 use Rattle.walk.specs.Walk.{Walked}
 use Rattle.sums.specs.AnswerNumbers.{nearest-no-nan}
 use Rattle.runs.specs.AnswerNumbers.{faithful-no-nan, faithful-rounds}
@@ -56,7 +57,7 @@ three-requires c κs =
     let f = d .before .before .before .before in
     let s = f .before .before .before .before .before in
     let e = ap (λ (w : Walked). w .answer) (sym (f .faithful .ensures)) ∙ d .sum .given .1 in
-    (s .pre .0, faithful-rounds (s .args .list .now) (s .args .work .now) e, search needs)
+    (s .pre .0, omega (arith, faithful-rounds (s .args .list .now) (s .args .work .now) e), search needs)
 
 same-length : tie.Need-same-length
 same-length c = search needs

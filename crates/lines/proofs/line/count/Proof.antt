@@ -4,7 +4,6 @@ use native.Mathlib.Omega.{arith}
 use lib.ListN.{length}
 use Rattle.lines.specs.Lines.{countLine}
 use Rattle.numerals.specs.TextLaws.{joined}
-use Rattle.lines.specs.LineLaws.{count-length}
 use borrow.Author.Needs.{needs}
 use Rattle.lines.proofs.line.count.Statement.{statement}
 use Rattle.lines.proofs.line.count.Tie as tie
@@ -13,13 +12,13 @@ slice-aggregate-decimal : tie.Need-slice-aggregate-decimal
 slice-aggregate-decimal c = search needs
 
 decimal-requires : tie.Need-decimal-requires
-decimal-requires c κs = omega (arith, count-length (c .before .before .before .args .n))
+decimal-requires c κs = search needs
 
 slice-aggregate-put : tie.Need-slice-aggregate-put
 slice-aggregate-put c = search needs
 
 put-requires : tie.Need-put-requires
-put-requires c κs = let s = c .before .before .before .before .before .before .before .before in omega (arith, count-length (s .args .n))
+put-requires c κs = search needs
 
 same-length : tie.Need-same-length
 same-length c = search needs
@@ -30,7 +29,6 @@ returns c =
     let p = c .before .before in
     let d = p .before .before .before .before .before in
     let s = d .before .before .before .before in
-    let l = count-length (s .args .n) in
     let h : s .args .end ≤ length (s .args .text .now) = omega (arith, s .pre) in
     joined h (d .decimal .ensures) (p .put .ensures)
 

@@ -4,7 +4,7 @@ use native.Mathlib.Omega.{arith}
 use lib.ListN.{length}
 use Rattle.lines.specs.Lines.{faithfulLine}
 use Rattle.numerals.specs.TextLaws.{joined}
-use Rattle.lines.specs.LineLaws.{hex-length, faithful-length}
+use Rattle.lines.specs.LineLaws.{hex-length}
 use borrow.Author.Needs.{needs}
 use Rattle.lines.proofs.line.faithful.Statement.{statement}
 use Rattle.lines.proofs.line.faithful.Tie as tie
@@ -13,13 +13,13 @@ slice-aggregate-pattern : tie.Need-slice-aggregate-pattern
 slice-aggregate-pattern c = search needs
 
 pattern-requires : tie.Need-pattern-requires
-pattern-requires c κs = let a = c .before .before .before .args in omega (arith, faithful-length (a .p) (a .rounds))
+pattern-requires c κs = search needs
 
 slice-aggregate-decimal : tie.Need-slice-aggregate-decimal
 slice-aggregate-decimal c = search needs
 
 decimal-requires : tie.Need-decimal-requires
-decimal-requires c κs = let a = c .before .before .before .before .before .before .before .before .args in omega (arith, faithful-length (a .p) (a .rounds), hex-length (a .p))
+decimal-requires c κs = omega (arith, hex-length (c .before .before .before .before .before .before .before .before .args .p))
 
 slice-aggregate-put : tie.Need-slice-aggregate-put
 slice-aggregate-put c = search needs
@@ -28,7 +28,7 @@ put-requires : tie.Need-put-requires
 put-requires c κs =
     let d = c .before .before .before .before in
     let a = d .before .before .before .before .before .before .before .before .before .args in
-    omega (arith, faithful-length (a .p) (a .rounds), hex-length (a .p))
+    omega (arith, hex-length (a .p))
 
 same-length : tie.Need-same-length
 same-length c = search needs
@@ -40,7 +40,6 @@ returns c =
     let d = q .before .before .before .before .before in
     let p = d .before .before .before .before .before in
     let s = p .before .before .before .before in
-    let l = faithful-length (s .args .p) (s .args .rounds) in
     let h : s .args .end ≤ length (s .args .text .now) = omega (arith, s .pre) in
     joined h (joined h (p .pattern .ensures) (d .decimal .ensures)) (q .put .ensures)
 

@@ -4,7 +4,7 @@ use native.Mathlib.Omega.{arith}
 use lib.ListN.{length}
 use Rattle.lines.specs.Lines.{nearestLine}
 use Rattle.numerals.specs.TextLaws.{joined}
-use Rattle.lines.specs.LineLaws.{hex-length, nearest-length}
+use Rattle.lines.specs.LineLaws.{hex-length}
 use borrow.Author.Needs.{needs}
 use Rattle.lines.proofs.line.nearest.Statement.{statement}
 use Rattle.lines.proofs.line.nearest.Tie as tie
@@ -13,13 +13,13 @@ slice-aggregate-pattern : tie.Need-slice-aggregate-pattern
 slice-aggregate-pattern c = search needs
 
 pattern-requires : tie.Need-pattern-requires
-pattern-requires c κs = omega (arith, nearest-length (c .before .before .before .args .p))
+pattern-requires c κs = search needs
 
 slice-aggregate-put : tie.Need-slice-aggregate-put
 slice-aggregate-put c = search needs
 
 put-requires : tie.Need-put-requires
-put-requires c κs = let s = c .before .before .before .before .before .before .before .before in omega (arith, nearest-length (s .args .p), hex-length (s .args .p))
+put-requires c κs = let s = c .before .before .before .before .before .before .before .before in omega (arith, hex-length (s .args .p))
 
 same-length : tie.Need-same-length
 same-length c = search needs
@@ -30,7 +30,6 @@ returns c =
     let p = c .before .before in
     let d = p .before .before .before .before .before in
     let s = d .before .before .before .before in
-    let l = nearest-length (s .args .p) in
     let h : s .args .end ≤ length (s .args .text .now) = omega (arith, s .pre) in
     joined h (d .pattern .ensures) (p .put .ensures)
 

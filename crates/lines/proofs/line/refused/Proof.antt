@@ -52,7 +52,10 @@ slice-aggregate-put-2 : tie.Need-slice-aggregate-put-2
 slice-aggregate-put-2 c = search needs
 
 put-requires-2 : tie.Need-put-requires-2
-put-requires-2 c κs = let s = c .before .before .before .before .before .before .before .before .before .before in omega (arith, word-length (s .args .k) (s .fits .k .fits))
+put-requires-2 c κs =
+    let d = c .before .before .before .before .before .before in
+    let s = d .before .before .before .before in
+    omega (arith, word-length (s .args .k) (s .fits .k .fits))
 
 same-length-2 : tie.Need-same-length-2
 same-length-2 c = search needs
@@ -63,7 +66,8 @@ returns-2 c =
     let t = p .before .before .before in
     let d = t .before .before .before .before in
     let s = d .before .before .before .before in
-    rw (line-untold (s .args .k) (s .args .place) (sym (t .before .tells .ensures) ∙ t .if1 .left)) (joined (omega arith) (d .decimal .ensures) (p .put2 .ensures))
+    rw (line-untold (s .args .k) (s .args .place) (sym (t .before .tells .ensures) ∙ t .if1 .left))
+    (joined (omega arith) (d .decimal .ensures) (p .put2 .ensures))
 
 pub refused-spec : {M : Type 1} → statement M
 refused-spec =

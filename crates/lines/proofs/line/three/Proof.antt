@@ -2,31 +2,28 @@
 use borrow.Author.Needs.{needs}
 use native.Mathlib.Omega.{arith}
 use Rattle.numerals.specs.TextLaws.{joined}
-use Rattle.lines.specs.LineLaws.{count-length, faithful-length, nearest-length, counted-length, rounds-length}
+use Rattle.lines.specs.LineLaws.{count-length, faithful-length, counted-length, rounds-length}
 use Rattle.lines.proofs.line.three.Statement.{statement}
 use Rattle.lines.proofs.line.three.Tie as tie
 
 count-requires : tie.Need-count-requires
-count-requires c κs = let a = c .before .before .args in omega (arith, count-length (a .n), counted-length (a .n) (c .before .before .pre .0))
+count-requires c κs = let s = c .before .before in omega (arith, counted-length (s .args .n) (s .pre .0))
 
 faithful-requires : tie.Need-faithful-requires
 faithful-requires c κs =
-    let s = c .before .before .before .before .before .before in
-    let a = s .args in
-    omega (arith, count-length (a .n), counted-length (a .n) (s .pre .0), faithful-length (a .sum) (a .rounds), rounds-length (a .rounds) (s .pre .1))
+    let k = c .before .before .before in
+    let s = k .before .before .before in
+    let e = rw count-length at (k .count .ensures .end) in
+    omega (arith, counted-length (s .args .n) (s .pre .0), rounds-length (s .args .rounds) (s .pre .1))
 
 nearest-requires : tie.Need-nearest-requires
 nearest-requires c κs =
-    let s = c .before .before .before .before .before .before .before .before .before .before in
-    let a = s .args in
-    omega (
-      arith,
-      count-length (a .n),
-      counted-length (a .n) (s .pre .0),
-      faithful-length (a .sum) (a .rounds),
-      rounds-length (a .rounds) (s .pre .1),
-      nearest-length (a .near),
-    )
+    let f = c .before .before .before in
+    let k = f .before .before .before .before in
+    let s = k .before .before .before in
+    let e = rw count-length at (k .count .ensures .end) in
+    let g = rw faithful-length at (f .faithful .ensures .end) in
+    omega (arith, counted-length (s .args .n) (s .pre .0), rounds-length (s .args .rounds) (s .pre .1))
 
 same-length : tie.Need-same-length
 same-length c = search needs
