@@ -27,7 +27,8 @@ use Rattle.walk.specs.Round as R
 use Rattle.walk.specs.Walk as W
 use Rattle.sums.specs.Sums as S
 use Rattle.sums.specs.AnswerLaws.{nearest-good}
-use Rattle.sheet.specs.Sheet.{patternsOf, Reading, reading, readOf}
+use Rattle.octets.specs.Octets.{eights}
+use Rattle.sheet.specs.Sheet.{Reading, reading, readOf}
 use Rattle.sheet.specs.SheetLaws.{read-all}
 use Rattle.sheet.specs.Instances.{three}
 use Rattle.sheet.specs.Instances as sheets
@@ -77,7 +78,7 @@ three-printed xs h =
 -- ---- "For the sheet .. it prints all of"
 module _ (numbers : List ℕ) (work : List Float) (text : List ℕ) (h : 3 ≤ length numbers) (k : 3 ≤ length work) where
   read-three : readOf doubles sheets.printed numbers ≡ reading (Read 3) (three ++ drop 3 numbers)
-  unfolding patternsOf number
+  unfolding eights number
   read-three = read-all doubles sheets.printed numbers (omega arith) refl (omega arith) refl h
 
   pub example-printed : linesOf sheets.printed numbers work text

@@ -82,14 +82,14 @@ placed k zero h = refl
 placed k (suc i) (inl e) = let z : _≡_ {A = ℕ} 0 1 = cc in absurd (omega arith)
 placed k (suc i) (inr t) = rw (is-true (tells k) t)
 
--- the rows of a list
-given-placed : (W : Width) (area parts : Bool) (ps : List ℕ) (k i : ℕ) → GivenWhen W area parts ps (verdicts.Refused k i) → placeOf k i ≡ told k i
+-- the rows of a list, one by one
+pub row : (b : Bool) {A B X : Type 0} → cond b A B → (T b → A → X) → (B → X) → X
+row true G f g = f tt G
+row false G f g = g G
+
+pub given-placed : (W : Width) (area parts : Bool) (ps : List ℕ) (k i : ℕ) → GivenWhen W area parts ps (verdicts.Refused k i) → placeOf k i ≡ told k i
 given-placed W area parts ps k i G = placed k i (row (eqb k 1) G (λ t A. inl (A .0))
     (λ G. row (eqb k 4) G (λ t A. inl (A .0)) (λ G. row (eqb k 5) G (λ t A. inl (A .0)) (λ G. row (tells k) G (λ t A. inr t) absurd))))
-  where
-    row : (b : Bool) {A B X : Type 0} → cond b A B → (T b → A → X) → (B → X) → X
-    row true G f g = f tt G
-    row false G f g = g G
 
 module _ (ps : List ℕ) where
   pub nearest-heard : (k : ℕ) (p : Place) → (nearestHeard (nearestOf ps) ≡ refused k p)

@@ -3,12 +3,12 @@
 use mathlib.Core.Path.{_≡_, refl, sym, ap, _∙_}
 use mathlib.Core.List.{List, [], _∷_, _++_}
 use Prim.Native.Nat.{ℕ, zero, suc, _+_, _*_, _/_, _%_, _^_, _≤_, _<_}
-use native.Mathlib.Nat.{mul-zero, mul-suc, mod-lt, add-comm}
+use native.Mathlib.Nat.{mul-zero, mul-suc, mul-comm, mod-lt, add-comm, div-one, div-div-eq-div-mul}
 use native.Mathlib.Omega.{arith}
 use lib.Pow.{pow-add, pow-pos, mod-pow-add}
 use lib.Arith.{digits-div, digits-mod, digits-lt}
 use lib.ListN.{length, getD, take, drop, set, take-append-drop}
-use lib.Seq.{length-take-le}
+use lib.Seq.{length-take-le, getD-drop}
 use Rattle.lists.specs.Digits.{number, digits, Digits}
 
 module _ (w : ℕ) where
@@ -86,6 +86,24 @@ module _ (w : ℕ) where
   unfolding digits
   digits-below zero v = record { below = λ i. pow-pos w }
   digits-below (suc n) v = digits-more (mod-lt v (pow-pos w)) (digits-below n (v / 2 ^ w))
+
+  pub digits-take : (i : ℕ) (ds : List ℕ) → Digits w ds → Digits w (take i ds)
+  digits-take zero ds D = record { below = λ j. pow-pos w }
+  digits-take (suc i) [] D = D
+  digits-take (suc i) (d ∷ ds) D = digits-more (digits-head D) (digits-take i ds (digits-tail D))
+
+  pub digits-drop : (i : ℕ) (ds : List ℕ) → Digits w ds → Digits w (drop i ds)
+  digits-drop i ds D = record { below = λ j. rw (getD-drop i ds j 0) (D .below (i + j)) }
+
+  -- one digit more
+  pub digits-none : (v : ℕ) → digits w 0 v ≡ []
+  unfolding digits
+  digits-none v = refl
+
+  pub digits-last : (n v : ℕ) → digits w (suc n) v ≡ digits w n v ++ (v / 2 ^ (w * n) % 2 ^ w ∷ [])
+  unfolding digits
+  digits-last zero v = rw (weight-zero, div-one)
+  digits-last (suc n) v = rw (digits-last n (v / 2 ^ w), div-div-eq-div-mul v (2 ^ w) (2 ^ (w * n)), weight-next n, mul-comm (2 ^ (w * n)) (2 ^ w))
 
   -- the n lowest digits are the number cut off at 2 ^ (w * n)
   pub number-digits : (n v : ℕ) → number w (digits w n v) ≡ v % 2 ^ (w * n)

@@ -8,7 +8,7 @@ use lib.Pow.{pow-pos}
 use lib.ListN.{length, getD, take, set}
 use lib.Seq.{take-suc, take-suc-set, length-take-le}
 use Rattle.lists.specs.Digits.{number, Digits}
-use Rattle.lists.specs.DigitLaws.{number-nil, number-cons, number-append, number-cut, number-lt, digits-head, digits-tail, digits-more}
+use Rattle.lists.specs.DigitLaws.{number-nil, number-cons, number-append, number-cut, number-lt, digits-take}
 
 module _ (w : ℕ) (ds : List ℕ) where
   longer : (i d : ℕ) → i < length ds → number w (take i ds ++ (d ∷ [])) ≡ number w (take i ds) + d * 2 ^ (w * i)
@@ -21,12 +21,7 @@ module _ (w : ℕ) (ds : List ℕ) where
   number-next-set {i} d h = ap (number w) (take-suc-set ds i d h) ∙ longer i d h
 
   pub number-take-lt : {i : ℕ} → Digits w ds → i ≤ length ds → number w (take i ds) < 2 ^ (w * i)
-  number-take-lt {i} D h = rw (length-take-le i ds h) at (number-lt w (take i ds) (digits-take i ds D))
-    where
-      digits-take : (i : ℕ) (ds : List ℕ) → Digits w ds → Digits w (take i ds)
-      digits-take zero ds D = record { below = λ j. pow-pos w }
-      digits-take (suc i) [] D = D
-      digits-take (suc i) (d ∷ ds) D = digits-more w (digits-head w D) (digits-take i ds (digits-tail w D))
+  number-take-lt {i} D h = rw (length-take-le i ds h) at (number-lt w (take i ds) (digits-take w i ds D))
 
   -- a digit that isn't zero
   pub number-some : {i : ℕ} → i < length ds → 0 < getD ds i 0 → 0 < number w ds

@@ -1,3 +1,4 @@
 -- A number in bytes.
 pub mod Octets
 pub mod OctetsLaws
+pub mod EightsLaws

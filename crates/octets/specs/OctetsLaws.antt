@@ -1,16 +1,17 @@
 -- Numbers in bytes: one byte more, the bound, and that bytes and number determine each other, most significant byte first and least. Assumes nothing.
-use mathlib.Core.Path.{_≡_, ap, _∙_}
-use mathlib.Core.List.{List, [], _∷_, _++_, reverse, reverseAux, reverse-append, reverse-reverse}
-use Prim.Native.Nat.{ℕ, _+_, _*_, _^_, _≤_, _<_}
-use native.Mathlib.Nat.{mod-eq-of-lt}
+use mathlib.Core.Path.{_≡_, sym, ap, _∙_}
+use mathlib.Core.List.{List, [], _∷_, _++_, append-assoc, append-nil, reverse, reverseAux, reverse-append, reverse-reverse}
+use Prim.Native.Nat.{ℕ, suc, _+_, _*_, _/_, _%_, _^_, _≤_, _<_}
+use native.Mathlib.Nat.{add-zero, mod-eq-of-lt, div-div-eq-div-mul}
 use native.Mathlib.Numerals.{add-one}
 use native.Mathlib.Omega.{arith}
 use lib.Pow.{pow-pos, pow-mono}
-use lib.ListN.{length, getD, take, drop, length-drop, length-reverse}
-use lib.Seq.{take-suc, getD-drop}
+use lib.ListN.{length, getD, take, drop, set, take-append-drop, length-append, length-drop, length-reverse}
+use lib.Seq.{take-suc, drop-cons, getD-drop, length-take-le}
 use Rattle.lists.specs.Digits.{number, digits, Digits}
 use Rattle.lists.specs.DigitLaws.{weight-next, number-nil, number-cons, number-lt, digits-number, number-digits}
-use Rattle.lists.specs.DigitLaws.{digits-head, digits-tail, digits-more, digits-length, digits-below}
+use Rattle.lists.specs.DigitLaws.{digits-head, digits-tail, digits-more, digits-length, digits-below, digits-none, digits-last}
+use Rattle.lists.specs.Front.{store-front}
 use Rattle.octets.specs.Octets.{littleEndian, bigEndian, little, big, bytesAt}
 
 -- ---- one byte more
@@ -25,6 +26,40 @@ big-next bs at i h =
     let k : i < length (drop at bs) = rw (length-drop at bs) (omega arith) in
     rw (add-one, take-suc (drop at bs) i 0 k, big-more (take i (drop at bs)) (getD (drop at bs) i 0), getD-drop at bs i 0)
 
+-- ---- one byte less significant
+pub little-none : (bs : List ℕ) (at : ℕ) → little (bytesAt bs at 0) ≡ 0
+little-none bs at = number-nil 8
+
+pub little-next : (bs : List ℕ) (at i : ℕ) → at < length bs → little (bytesAt bs at (i + 1)) ≡ little (bytesAt bs (at + 1) i) * 256 + getD bs at 0
+little-next bs at i h = rw (add-one, add-one, drop-cons bs at 0 h, number-cons 8 (getD bs at 0) (take i (drop (suc at) bs))) (omega arith)
+
+-- the first i bytes of a number, and the one after them
+pub little-last : (i v : ℕ) → littleEndian (i + 1) v ≡ littleEndian i v ++ (v / 2 ^ (8 * i) % 256 ∷ [])
+little-last i v = rw add-one (digits-last 8 i v)
+
+pub little-length : (k v : ℕ) → length (littleEndian k v) ≡ k
+little-length k v = digits-length 8 k v
+
+-- what is left of a number without its first i bytes
+pub rest-next : (i v : ℕ) → v / 2 ^ (8 * i) / 256 ≡ v / 2 ^ (8 * (i + 1))
+rest-next i v = rw (add-one, weight-next 8 i) (div-div-eq-div-mul v (2 ^ (8 * i)) (2 ^ 8))
+
+-- ---- a number written to a place, its first i bytes so far
+module _ (bs : List ℕ) (at v : ℕ) where
+  pub written-none : bs ≡ (take at bs ++ littleEndian 0 v) ++ drop (at + 0) bs
+  written-none = rw (digits-none 8 v, append-nil (take at bs), add-zero at) (sym (take-append-drop at bs))
+
+  pub written-next : (i : ℕ) → at + i < length bs
+      → set ((take at bs ++ littleEndian i v) ++ drop (at + i) bs) (at + i) (v / 2 ^ (8 * i) % 256)
+      ≡ (take at bs ++ littleEndian (i + 1) v) ++ drop (at + (i + 1)) bs
+  written-next i h =
+      let x = v / 2 ^ (8 * i) % 256 in
+      let l : length (take at bs ++ littleEndian i v) ≡ at + i =
+      rw (length-append (take at bs) (littleEndian i v), length-take-le at bs (omega arith), little-length i v) in
+      let e : at + i + 1 ≡ at + (i + 1) = omega arith in
+      rw (store-front 0 (take at bs ++ littleEndian i v) bs (at + i) l h x, little-last i v, append-assoc (take at bs) (littleEndian i v) (x ∷ []), e)
+
+-- ---- room
 -- a number of i bytes, i below 8, has room for a byte more
 pub room : {v i b : ℕ} → v < 2 ^ (8 * i) → i < 8 → b < 256 → v * 256 + b < 2 ^ 64
 room {v} {i} {b} h k c =

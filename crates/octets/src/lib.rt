@@ -1,4 +1,6 @@
 // Numbers in bytes.
+pub mod little;
+
 ghost use mathlib.Core.Path.{_≡_};
 ghost use Prim.Native.Nat.{_+_, _≤_, _<_};
 ghost use lib.ListN.{length};

@@ -6,9 +6,10 @@ use Prim.Native.Nat.{ℕ, _≤_}
 use lib.Dec.{lit≤}
 use lib.ListN.{length, drop}
 use Rattle.lists.specs.Digits.{Digits, number, digits}
+use Rattle.octets.specs.Octets.{joined, eights}
 use Rattle.kinds.specs.Limits.{doubles}
 use Rattle.kinds.specs.declared.Sheet.the-variants.{Read, Refused}
-use Rattle.sheet.specs.Sheet.{body, sheetOf, patternsOf, reading, readOf}
+use Rattle.sheet.specs.Sheet.{sheetOf, reading, readOf}
 use Rattle.sheet.specs.SheetLaws.{sheet-read}
 
 pub doubles-read : (ps area : List ℕ) → length ps ≤ 4094 → Digits 64 ps → length ps ≤ length area
@@ -24,38 +25,38 @@ abbrev pub three : List ℕ
 three = 0x4630000000000000 ∷ 0x3FF0000000000000 ∷ 0xC630000000000000 ∷ []
 
 pub printed-is : sheetOf three ≡ printed
-unfolding sheetOf body digits
+unfolding sheetOf joined digits
 printed-is = refl
 
 pub printed-read : readOf doubles printed (7 ∷ 7 ∷ 7 ∷ 7 ∷ []) ≡ reading (Read 3) (three ++ (7 ∷ []))
-unfolding readOf patternsOf number
+unfolding readOf eights number
 printed-read = refl
 
 -- the first of several refusals that hold is told
 pub one-byte : readOf doubles (2 ∷ []) [] ≡ reading (Refused 11 0) []
-unfolding readOf patternsOf number
+unfolding readOf eights number
 one-byte = refl
 
 pub four-bytes : readOf doubles (2 ∷ 0 ∷ 0 ∷ 0 ∷ []) [] ≡ reading (Refused 11 0) []
-unfolding readOf patternsOf number
+unfolding readOf eights number
 four-bytes = refl
 
 pub five-bytes : readOf doubles (1 ∷ 0 ∷ 0 ∷ 0 ∷ 0 ∷ []) (7 ∷ []) ≡ reading (Read 0) (7 ∷ [])
-unfolding readOf patternsOf number
+unfolding readOf eights number
 five-bytes = refl
 
 pub six-bytes : readOf doubles (1 ∷ 0 ∷ 0 ∷ 0 ∷ 0 ∷ 0 ∷ []) [] ≡ reading (Refused 13 0) []
-unfolding readOf patternsOf number
+unfolding readOf eights number
 six-bytes = refl
 
 pub version-first : readOf doubles (2 ∷ 0xFF ∷ 0xFF ∷ 0xFF ∷ 0xFF ∷ []) [] ≡ reading (Refused 12 0) []
-unfolding readOf patternsOf number
+unfolding readOf eights number
 version-first = refl
 
 pub limit-before-length : readOf doubles (1 ∷ 0 ∷ 0 ∷ 0x10 ∷ 0 ∷ []) [] ≡ reading (Refused 1 0) []
-unfolding readOf patternsOf number
+unfolding readOf eights number
 limit-before-length = refl
 
 pub count-before-area : readOf doubles (1 ∷ 0 ∷ 0 ∷ 0 ∷ 1 ∷ []) [] ≡ reading (Refused 11 0) []
-unfolding readOf patternsOf number
+unfolding readOf eights number
 count-before-area = refl

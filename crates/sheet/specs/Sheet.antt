@@ -1,18 +1,17 @@
 -- The contribution sheet: its format from patterns to bytes, and what the reader answers. Definitions only.
 use mathlib.Core.Bool.{cond, not}
-use mathlib.Core.List.{List, [], _∷_, _++_}
-use Prim.Native.Nat.{ℕ, zero, suc, _+_, _*_}
+use mathlib.Core.List.{List, _∷_, _++_}
+use Prim.Native.Nat.{ℕ, _+_, _*_}
 use lib.Dec.{ltb, eqb}
 use lib.ListN.{length, drop, getD}
-use Rattle.octets.specs.Octets.{bigEndian, big, bytesAt}
+use Rattle.octets.specs.Octets.{bigEndian, big, bytesAt, joined, eights}
 use Rattle.kinds.specs.Limits.{Width}
 use Rattle.kinds.specs.declared.Sheet.{Sheet}
 use Rattle.kinds.specs.declared.Sheet.the-variants.{Read, Refused}
 
 -- ---- "Version byte 1, then a count in 4 bytes, then that many 8-byte patterns; all big-endian."
-unfoldable pub body : List ℕ → List ℕ
-body [] = []
-body (p ∷ ps) = bigEndian 8 p ++ body ps
+abbrev pub body : List ℕ → List ℕ
+body ps = joined (bigEndian 8) ps
 
 unfoldable pub sheetOf : List ℕ → List ℕ
 sheetOf ps = 1 ∷ (bigEndian 4 (length ps) ++ body ps)
@@ -24,9 +23,8 @@ versionOf bytes = getD bytes 0 0
 abbrev pub countOf : List ℕ → ℕ
 countOf bytes = big (bytesAt bytes 1 4)
 
-unfoldable pub patternsOf : ℕ → List ℕ → List ℕ
-patternsOf zero bytes = []
-patternsOf (suc n) bytes = big (bytesAt bytes 0 8) ∷ patternsOf n (drop 8 bytes)
+abbrev pub patternsOf : ℕ → List ℕ → List ℕ
+patternsOf n bytes = eights big n bytes
 
 -- the answer, and the area afterwards
 pub record Reading : Type 0 where

@@ -2,43 +2,20 @@
 use mathlib.Core.Path.{_≡_, refl, sym, ap, _∙_}
 use mathlib.Core.Bool.{Bool, true, false, cond, not}
 use mathlib.Core.List.{List, [], _∷_, _++_}
-use Prim.Native.Nat.{ℕ, zero, suc, _+_, _*_, _^_, _≤_, _<_}
-use native.Mathlib.Numerals.{add-one}
+use Prim.Native.Nat.{ℕ, _+_, _*_, _^_, _≤_, _<_}
 use native.Mathlib.Omega.{arith}
-use lib.Pow.{pow-pos}
 use borrow.Author.Tests.{lt-ltb, le-ltb, eq-eqb, ne-eqb}
 use lib.Dec.{T, ltb, eqb, eqb→eq, nltb→le}
-use lib.ListN.{length, take, drop, getD, take-append-drop, length-append, length-drop}
-use lib.Seq.{length-take-le, take-at, drop-at, drop-drop, getD-drop}
+use lib.ListN.{length, take, drop, take-append-drop, length-append, length-drop}
+use lib.Seq.{length-take-le, take-at, drop-at}
 use Rattle.lists.specs.Digits.{Digits}
-use Rattle.lists.specs.DigitLaws.{digits-head, digits-tail, digits-more}
-use Rattle.octets.specs.Octets.{bigEndian, big, bytesAt}
+use Rattle.lists.specs.DigitLaws.{digits-tail, digits-take, digits-drop}
+use Rattle.octets.specs.Octets.{bigEndian, big}
 use Rattle.octets.specs.OctetsLaws.{big-length, big-back, big-bytes-back}
+use Rattle.octets.specs.EightsLaws.{eights-length, joined-length, eights-joined, joined-eights}
 use Rattle.kinds.specs.Limits.{Width}
 use Rattle.kinds.specs.declared.Sheet.the-variants.{Read, Refused}
 use Rattle.sheet.specs.Sheet.{body, sheetOf, versionOf, countOf, patternsOf, Reading, reading, readOf}
-
--- ---- n patterns from bytes
-pub patterns-none : (bytes : List ℕ) → patternsOf 0 bytes ≡ []
-unfolding patternsOf
-patterns-none bytes = refl
-
-pub patterns-length : (n : ℕ) (bytes : List ℕ) → length (patternsOf n bytes) ≡ n
-unfolding patternsOf
-patterns-length zero bytes = refl
-patterns-length (suc n) bytes = ap suc (patterns-length n (drop 8 bytes))
-
-patterns-more : (i : ℕ) (bytes : List ℕ) → patternsOf (suc i) bytes ≡ patternsOf i bytes ++ (big (bytesAt bytes (8 * i) 8) ∷ [])
-unfolding patternsOf
-patterns-more zero bytes = refl
-patterns-more (suc i) bytes =
-    let e : 8 + 8 * i ≡ 8 * suc i = omega arith in
-    rw (patterns-more i (drop 8 bytes), drop-drop (8 * i) 8 bytes, e)
-
--- behind a header of k bytes
-pub patterns-next : (i k : ℕ) (bytes : List ℕ)
-    → patternsOf (i + 1) (drop k bytes) ≡ patternsOf i (drop k bytes) ++ (big (bytesAt bytes (k + 8 * i) 8) ∷ [])
-patterns-next i k bytes = rw (add-one, patterns-more i (drop k bytes), drop-drop (8 * i) k bytes)
 
 -- ---- case by case
 module _ (W : Width) (bytes area : List ℕ) where
@@ -150,29 +127,15 @@ pub accepted-read : (W : Width) (bytes area : List ℕ) → Accepted W bytes are
     → readOf W bytes area ≡ reading (Read (countOf bytes)) (patternsOf (countOf bytes) (drop 5 bytes) ++ drop (countOf bytes) area)
 accepted-read W bytes area A = read-all W bytes area (A .header) (A .version) (A .few) (A .exact) (A .room)
 
--- ---- bytes from a place on are bytes
-bytes-take : (k : ℕ) (bs : List ℕ) → Digits 8 bs → Digits 8 (take k bs)
-bytes-take zero bs B = record { below = λ i. pow-pos 8 }
-bytes-take (suc k) [] B = B
-bytes-take (suc k) (b ∷ bs) B = digits-more 8 (digits-head 8 B) (bytes-take k bs (digits-tail 8 B))
-
-bytes-drop : (k : ℕ) (bs : List ℕ) → Digits 8 bs → Digits 8 (drop k bs)
-bytes-drop k bs B = record { below = λ i. rw (getD-drop k bs i 0) (B .below (k + i)) }
-
 -- k bytes at the front, read and written again
 front-back : (k : ℕ) (bs : List ℕ) → Digits 8 bs → k ≤ length bs → bigEndian k (big (take k bs)) ≡ take k bs
 front-back k bs B h =
     let e : length (take k bs) ≡ k = length-take-le k bs h in
-    rw e at (big-bytes-back (take k bs) (bytes-take k bs B))
+    rw e at (big-bytes-back (take k bs) (digits-take 8 k bs B))
 
 -- ---- what is read is the format
 body-patterns : (n : ℕ) (bs : List ℕ) → Digits 8 bs → length bs ≡ 8 * n → body (patternsOf n bs) ≡ bs
-unfolding body patternsOf
-body-patterns zero [] B h = refl
-body-patterns zero (b ∷ bs) B h = absurd (omega arith)
-body-patterns (suc n) bs B h =
-    let k : 8 ≤ length bs = omega arith in
-    rw (front-back 8 bs B k, body-patterns n (drop 8 bs) (bytes-drop 8 bs B) (rw (length-drop 8 bs) (omega arith))) (take-append-drop 8 bs)
+body-patterns = joined-eights (bigEndian 8) big (λ bs B l. rw l at (big-bytes-back bs B))
 
 header-back : (bs : List ℕ) → Digits 8 bs → 5 ≤ length bs → versionOf bs ≡ 1 → 1 ∷ (bigEndian 4 (countOf bs) ++ drop 5 bs) ≡ bs
 header-back [] B h v = absurd (omega arith)
@@ -191,25 +154,16 @@ read-is-sheet W bytes area {n} {after} B e =
     let a : Read (countOf bytes) ≡ Read n = ap (λ (x : Reading). x .answer) r in
     let c : countOf bytes ≡ n = cc in
     let l : ps ++ drop (countOf bytes) area ≡ after = ap (λ (x : Reading). x .area) r in
-    let t : take n after ≡ ps = rw (← c, ← l) (take-at ps (drop (countOf bytes) area) (countOf bytes) (patterns-length (countOf bytes) (drop 5 bytes))) in
+    let t : take n after ≡ ps = rw (← c, ← l) (take-at ps (drop (countOf bytes) area) (countOf bytes) (eights-length big (countOf bytes) (drop 5 bytes))) in
     let d : length (drop 5 bytes) ≡ 8 * countOf bytes = rw (length-drop 5 bytes) (omega (arith, A .exact)) in (
-      rw (t, patterns-length (countOf bytes) (drop 5 bytes), body-patterns (countOf bytes) (drop 5 bytes) (bytes-drop 5 bytes B) d)
+      rw (t, eights-length big (countOf bytes) (drop 5 bytes), body-patterns (countOf bytes) (drop 5 bytes) (digits-drop 8 5 bytes B) d)
           (sym (header-back bytes B (A .header) (A .version))),
-      rw (t, patterns-length (countOf bytes) (drop 5 bytes)) (sym c),
+      rw (t, eights-length big (countOf bytes) (drop 5 bytes)) (sym c),
     )
 
 -- ---- what is written is read back
-body-length : (ps : List ℕ) → length (body ps) ≡ 8 * length ps
-unfolding body
-body-length [] = refl
-body-length (p ∷ ps) = rw (length-append (bigEndian 8 p) (body ps), big-length 8 p, body-length ps) (omega arith)
-
 patterns-body : (ps : List ℕ) → Digits 64 ps → patternsOf (length ps) (body ps) ≡ ps
-unfolding body patternsOf
-patterns-body [] D = refl
-patterns-body (p ∷ ps) D =
-    let l : length (bigEndian 8 p) ≡ 8 = big-length 8 p in
-    rw (take-at (bigEndian 8 p) (body ps) 8 l, drop-at (bigEndian 8 p) (body ps) 8 l, big-back 8 p (digits-head 64 D), patterns-body ps (digits-tail 64 D))
+patterns-body = eights-joined (bigEndian 8) (big-length 8) big (big-back 8)
 
 module _ (ps : List ℕ) where
   count-size : length (bigEndian 4 (length ps)) ≡ 4
@@ -225,7 +179,7 @@ module _ (ps : List ℕ) where
 
   pub sheet-length : length (sheetOf ps) ≡ 5 + 8 * length ps
   unfolding sheetOf
-  sheet-length = rw (length-append (bigEndian 4 (length ps)) (body ps), count-size, body-length ps) (omega arith)
+  sheet-length = rw (length-append (bigEndian 4 (length ps)) (body ps), count-size, joined-length (bigEndian 8) (big-length 8) ps) (omega arith)
 
   sheet-version : versionOf (sheetOf ps) ≡ 1
   unfolding sheetOf

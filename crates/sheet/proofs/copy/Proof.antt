@@ -7,7 +7,8 @@ use borrow.Author.Needs.{needs}
 use lib.ListN.{length, drop}
 use Rattle.lists.specs.Front.{store-front}
 use Rattle.sheet.specs.Sheet.{patternsOf}
-use Rattle.sheet.specs.SheetLaws.{patterns-none, patterns-length, patterns-next}
+use Rattle.octets.specs.Octets.{big}
+use Rattle.octets.specs.EightsLaws.{eights-none, eights-length, eights-next}
 use Rattle.sheet.proofs.copy.Statement.{statement}
 use Rattle.sheet.proofs.copy.Tie as tie
 
@@ -18,7 +19,7 @@ abbrev μ-loop : tie.MeasureT-loop
 μ-loop sheet area₀ n i₀ area i = n - i
 
 loop-holds : tie.Need-loop-holds Inv-loop μ-loop
-loop-holds c = let a = c .before .before .args in (refl, omega arith, rw (patterns-none (drop 5 (a .sheet .now))))
+loop-holds c = let a = c .before .before .args in (refl, omega arith, rw (eights-none big (drop 5 (a .sheet .now))))
 
 mul-big-endian : tie.Need-mul-big-endian Inv-loop μ-loop
 mul-big-endian c = search needs
@@ -48,8 +49,8 @@ loop-again c =
     let h : l .loop .i < length (a .area .now) = omega arith in (
       search needs,
       omega arith,
-      rw (c .big-endian .ensures, l .loop .inv .2, patterns-next (l .loop .i) 5 (a .sheet .now))
-          (store-front 0 (patternsOf (l .loop .i) (drop 5 (a .sheet .now))) (a .area .now) (l .loop .i) (patterns-length _ _) h _),
+      rw (c .big-endian .ensures, l .loop .inv .2, eights-next big (l .loop .i) 5 (a .sheet .now))
+          (store-front 0 (patternsOf (l .loop .i) (drop 5 (a .sheet .now))) (a .area .now) (l .loop .i) (eights-length big _ _) h _),
     )
 
 same-length : tie.Need-same-length Inv-loop μ-loop

@@ -1,0 +1,120 @@
+-- The C calls case by case: the lengths, what is heard as a code and bytes, and the areas of the exported faithful sum. Assumes nothing.
+use mathlib.Core.Path.{_≡_, refl, sym, ap, _∙_}
+use mathlib.Core.Bool.{Bool, true, false, cond, not}
+use mathlib.Core.List.{List, [], _∷_}
+use Prim.Native.Nat.{ℕ, zero, suc, _+_, _*_, _/_, _%_, _≤_, _<_}
+use native.Mathlib.Omega.{arith}
+use borrow.Author.Tests.{lt-ltb, le-ltb, eq-eqb, ne-eqb}
+use lib.Dec.{T, ltb, eqb, eqb→eq, nltb→le}
+use lib.Ieee.{Float, ofBits}
+use lib.ListN.{length, take, replicate, length-replicate}
+use lib.Seq.{length-take-le}
+use Rattle.kinds.specs.Limits.{doubles}
+use Rattle.kinds.specs.Heard.{Heard, refused, done, nearest, accepted, tells, placeOf, stepHeard}
+use Rattle.octets.specs.Octets.{little, packed, unpacked}
+use Rattle.octets.specs.EightsLaws.{eights-length}
+use Rattle.walk.specs.Walk.{faithfulOf}
+use Rattle.register.specs.Register.{Entered}
+use Rattle.calls.specs.Calls.{called, placeCode, answered, lengthFault, summed, sumCall, own, faithfulHeard, sumHeard}
+use Rattle.calls.specs.Calls.{registered, registerCall}
+use Rattle.calls.specs.Inner.{Told, Fitting}
+
+-- ---- the lengths
+module _ (list out : ℕ) where
+  pub fault-1 : 32752 < list → lengthFault list out ≡ 1
+  fault-1 h = rw (lt-ltb 32752 list h)
+
+  pub fault-list : list ≤ 32752 → (list % 8 ≡ 0 → ⊥) → lengthFault list out ≡ 4
+  fault-list h m = rw (le-ltb 32752 list h, ne-eqb (list % 8) 0 m)
+
+  pub fault-out : list ≤ 32752 → list % 8 ≡ 0 → (out ≡ 16 → ⊥) → lengthFault list out ≡ 4
+  fault-out h m o = rw (le-ltb 32752 list h, eq-eqb (list % 8) 0 m, ne-eqb out 16 o)
+
+  pub fault-0 : list ≤ 32752 → list % 8 ≡ 0 → out ≡ 16 → lengthFault list out ≡ 0
+  fault-0 h m o = rw (le-ltb 32752 list h, eq-eqb (list % 8) 0 m, eq-eqb out 16 o)
+
+module _ (list out : ℕ) (e : lengthFault list out ≡ 0) where
+  passed : (a b c : Bool) → _≡_ {A = ℕ} (cond a 1 (cond (not b) 4 (cond (not c) 4 0))) 0 → (a ≡ false) × (b ≡ true) × (c ≡ true)
+  passed true b c e = absurd (omega arith)
+  passed false true true e = (refl, refl, refl)
+  passed false true false e = absurd (omega arith)
+  passed false false c e = absurd (omega arith)
+
+  tests : (ltb 32752 list ≡ false) × (eqb (list % 8) 0 ≡ true) × (eqb out 16 ≡ true)
+  tests = passed (ltb 32752 list) (eqb (list % 8) 0) (eqb out 16) e
+
+  pub fitting : Fitting 4094 list
+  fitting =
+      let m : list % 8 ≡ 0 = eqb→eq (list % 8) 0 (rw (tests .1) tt) in
+      let l : list ≤ 32752 = nltb→le 32752 list (rw (tests .0) tt) in
+      record { whole = omega arith; few = omega arith }
+
+  pub sixteen : out ≡ 16
+  sixteen = eqb→eq out 16 (rw (tests .2) tt)
+
+-- ---- the calls
+module _ (heardOf : List ℕ → Heard) (list out : List ℕ) where
+  pub sum-refused : (lengthFault (length list) (length out) ≡ 0 → ⊥) → sumCall heardOf list out ≡ called (lengthFault (length list) (length out)) out
+  unfolding sumCall
+  sum-refused h = rw (ne-eqb (lengthFault (length list) (length out)) 0 h)
+
+  pub sum-summed : lengthFault (length list) (length out) ≡ 0 → sumCall heardOf list out ≡ summed heardOf list out
+  unfolding sumCall
+  sum-summed h = rw (eq-eqb (lengthFault (length list) (length out)) 0 h)
+
+module _ (enteredIn : List ℕ → Entered) (register : List ℕ) where
+  pub register-refused : (length register ≡ 264 → ⊥) → registerCall enteredIn register ≡ called 4 register
+  unfolding registerCall
+  register-refused h = rw (ne-eqb (length register) 264 h)
+
+  pub register-registered : length register ≡ 264 → registerCall enteredIn register ≡ registered enteredIn register
+  unfolding registerCall
+  register-registered h = rw (eq-eqb (length register) 264 h)
+
+-- ---- what is heard
+module _ (before words : List ℕ) where
+  pub answered-refused : (k i : ℕ) → answered (refused k (placeOf k i)) before words ≡ called (k + placeCode (placeOf k i)) before
+  unfolding answered
+  answered-refused k i = refl
+
+  pub answered-done : (x rounds : ℕ) → answered (done x rounds) before words ≡ called 0 (packed (x ∷ rounds ∷ []))
+  unfolding answered
+  answered-done x rounds = refl
+
+  pub answered-nearest : (x : ℕ) → answered (nearest x) before words ≡ called 0 (packed (x ∷ 0 ∷ []))
+  unfolding answered
+  answered-nearest x = refl
+
+  pub answered-accepted : answered accepted before words ≡ called 0 (packed words)
+  unfolding answered
+  answered-accepted = refl
+
+-- ---- the numbers and the work area of a sum
+pub faithful-within : (list numbers out : List ℕ) (work : List Float) (n : ℕ) → length list ≡ 8 * n → numbers ≡ unpacked n list → work ≡ own n
+    → answered (stepHeard (faithfulOf doubles numbers work .answer)) out [] ≡ summed faithfulHeard list out
+faithful-within list numbers out work n l e w =
+    let d : length list / 8 ≡ n = omega arith in
+    rw (d, e, w, eights-length little n list)
+
+pub nearest-within : (list numbers out : List ℕ) (n : ℕ) → length list ≡ 8 * n → numbers ≡ unpacked n list
+    → answered (sumHeard numbers) out [] ≡ summed sumHeard list out
+nearest-within list numbers out n l e =
+    let d : length list / 8 ≡ n = omega arith in
+    rw (d, e)
+
+-- the first places of an area that holds the list
+pub front-length : {A : Type 0} {most bytes : ℕ} → Fitting most bytes → (x : A) → length (take (bytes / 8) (replicate most x)) ≡ bytes / 8
+front-length {A} {most} {bytes} F x = length-take-le (bytes / 8) (replicate most x) (rw (length-replicate most) (F .few))
+
+pub own-front : (n k : ℕ) → n ≤ k → take n (own k) ≡ own n
+own-front zero k h = refl
+own-front (suc n) zero h = absurd (omega arith)
+own-front (suc n) (suc k) h = ap (λ (xs : List Float). ofBits (doubles .format) 0 ∷ xs) (own-front n k (omega arith))
+
+-- ---- the code of a refusal
+module _ {k i : ℕ} (R : Told k i) where
+  pub code-told : tells k ≡ true → placeCode (placeOf k i) ≡ 32 * (i + 1)
+  code-told t = ap placeCode (R .as-told) ∙ rw t
+
+  pub code-silent : tells k ≡ false → placeCode (placeOf k i) ≡ 0
+  code-silent t = ap placeCode (R .as-told) ∙ rw t

@@ -1,0 +1,5 @@
+-- The calls with the C calling convention.
+pub mod Calls
+pub mod Inner
+pub mod CallsLaws
+pub mod ToldLaws

@@ -1,0 +1,50 @@
+// What the calls have in common: the code of a refusal, the judgement of the lengths, and the 16 bytes of a sum.
+use kinds::Doubles;
+use octets::little::SIZE;
+ghost use mathlib.Core.Path.{_≡_};
+ghost use mathlib.Core.List.{[], _∷_};
+ghost use Prim.Native.Nat.{_+_};
+ghost use lib.ListN.{length};
+ghost use Rattle.kinds.specs.Heard.{placeOf};
+ghost use Rattle.octets.specs.Octets.{packed};
+ghost use Rattle.calls.specs.Calls.{placeCode, lengthFault};
+ghost use Rattle.calls.specs.Inner.{Told};
+
+// The bytes of a sum: "16 bytes: the pattern, then the rounds"
+pub const SUM: usize = 16;
+
+// "the refusal number plus 32·(place + 1) where a place is told and plus 0 where none is": 2 and 3 tell one.
+pub fn refusal(number: u32, place: u32) -> u32
+    requires { ⌜ Told number place ⌝ }
+    ensures { λ r. ⌜ r ≡ number + placeCode (placeOf number place) ⌝ }
+{
+    if (number == 2) | (number == 3) {
+        return number + 32 * (place + 1);
+    }
+    number
+}
+
+// "A list above 32,752 bytes is refusal 1; other lengths that aren't a multiple of 8, and wrong lengths of the 16 .. bytes, are refusal 4." 0 for neither.
+pub fn lengths(list: &[u8], out: &[u8]) -> u32
+    ensures { λ r. ⌜ r ≡ lengthFault (length (now (list .entry))) (length (now (out .entry))) ⌝ }
+{
+    if SIZE * Doubles::LENGTH < list.len() {
+        return 1;
+    }
+    if list.len() % SIZE != 0 {
+        return 4;
+    }
+    if out.len() != SUM {
+        return 4;
+    }
+    0
+}
+
+// An accepted sum to its 16 bytes.
+pub fn answer(pattern: u64, rounds: u64, out: &mut [u8])
+    requires { ⌜ length (now out) ≡ 16 ⌝ }
+    ensures { λ _. ⌜ now (out .exit) ≡ packed (pattern ∷ rounds ∷ []) ⌝ }
+{
+    let pair = [pattern, rounds];
+    octets::little::pack(&pair, out);
+}

@@ -1,0 +1,51 @@
+-- `exports::entries::written` meets its contract. Assumes nothing.
+use mathlib.Core.Path.{sym, ap, subst, _∙_}
+use Prim.Native.Nat.{ℕ}
+use borrow.Author.Needs.{needs}
+use Rattle.kinds.specs.Heard.{entryHeard}
+use Rattle.kinds.specs.declared.Entry.{Entry}
+use Rattle.calls.specs.Calls.{called, answered}
+use Rattle.calls.specs.Inner.{EntryTold}
+use Rattle.calls.specs.CallsLaws.{answered-accepted, answered-refused}
+use Rattle.exports.proofs.entries.written.Statement.{statement}
+use Rattle.exports.proofs.entries.written.Tie as tie
+
+enum-told : tie.Need-enum-told
+enum-told c = search needs
+
+pack-requires : tie.Need-pack-requires
+pack-requires c κs = search needs
+
+enum-known-entry : tie.Need-enum-known-entry
+enum-known-entry c = search needs
+
+refusal-requires : tie.Need-refusal-requires
+refusal-requires c κs = subst EntryTold (c .before .entry .given .1) (c .before .before .before .before .before .pre .0)
+
+same-length : tie.Need-same-length
+same-length c = search needs
+
+returns : tie.Need-returns
+returns c =
+    let a = c .before .before .before .before .before .before .before .before .args in
+    ap (called 0) (c .before .before .pack .ensures) ∙ sym (answered-accepted (a .register .now) (a .words .now))
+    ∙ ap (λ (e : Entry). answered (entryHeard e) (a .register .now) (a .words .now)) (sym (c .before .before .before .before .enum-told .given .1))
+
+returns-2 : tie.Need-returns-2
+returns-2 c =
+    let a = c .before .before .before .before .before .before .args in
+    ap (λ (n : ℕ). called n (a .register .now)) (c .refusal .ensures)
+    ∙ sym (answered-refused (a .register .now) (a .words .now) (c .before .before .entry .given .0 .0) (c .before .before .entry .given .0 .1 .0))
+    ∙ ap (λ (e : Entry). answered (entryHeard e) (a .register .now) (a .words .now)) (sym (c .before .before .entry .given .1))
+
+pub written-spec : {M : Type 1} → statement M
+written-spec =
+    tie.close
+    (tie.spec
+    enum-told
+    pack-requires
+    enum-known-entry
+    refusal-requires
+    same-length
+    returns
+    returns-2)

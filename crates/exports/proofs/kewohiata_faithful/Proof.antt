@@ -1,0 +1,39 @@
+-- `kewohiata_faithful` meets its contract: a wrong length is refused, and the bytes of every other list are summed. Assumes nothing.
+use mathlib.Core.Path.{sym, ap, _∙_}
+use Prim.Native.Nat.{ℕ}
+use borrow.Author.Needs.{needs}
+use lib.ListN.{length}
+use Rattle.calls.specs.Calls.{called, faithfulHeard}
+use Rattle.calls.specs.CallsLaws.{fitting, sixteen, sum-refused, sum-summed}
+use Rattle.exports.proofs.kewohiata_faithful.Statement.{statement}
+use Rattle.exports.proofs.kewohiata_faithful.Tie as tie
+
+lengths-requires : tie.Need-lengths-requires
+lengths-requires c κs = search needs
+
+same-length : tie.Need-same-length
+same-length c = search needs
+
+returns : tie.Need-returns
+returns c =
+    let a = c .before .before .before .before .before .args in
+    let e = c .before .lengths .ensures in
+    ap (λ (n : ℕ). called n (a .out .now)) e ∙ sym (sum-refused faithfulHeard (a .list .now) (a .out .now) (λ z. c .if1 .taken (e ∙ z)))
+
+sum-requires : tie.Need-sum-requires
+sum-requires c κs =
+    let a = c .before .before .before .before .before .before .args in
+    let e = sym (c .before .before .lengths .ensures) ∙ c .before .if1 .left in
+    (fitting (length (a .list .now)) (length (a .out .now)) e, sixteen (length (a .list .now)) (length (a .out .now)) e)
+
+same-length-2 : tie.Need-same-length-2
+same-length-2 c = search needs
+
+returns-2 : tie.Need-returns-2
+returns-2 c =
+    let a = c .before .before .before .before .before .before .before .before .before .args in
+    c .before .before .sum .ensures ∙ sym (sum-summed faithfulHeard (a .list .now) (a .out .now) (sym (c .before .before .before .before .before .lengths .ensures) ∙ c .before .before .before .before .if1 .left))
+
+pub kewohiata-faithful-spec : {M : Type 1} → statement M
+kewohiata-faithful-spec =
+    tie.close (tie.spec lengths-requires same-length returns sum-requires same-length-2 returns-2)

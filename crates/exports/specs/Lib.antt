@@ -1,0 +1,3 @@
+-- What the calls with the C calling convention promise.
+pub mod Promised
+pub mod RegisterBytes

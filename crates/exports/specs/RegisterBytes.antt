@@ -1,0 +1,86 @@
+-- A register in bytes: a withdrawal of the number that was added gives the same 264 bytes again, and the other way round. Assumes nothing.
+use mathlib.Core.Path.{_≡_, refl, sym, ap, _∙_}
+use mathlib.Core.List.{List, [], _∷_}
+use Prim.Native.Nat.{ℕ, zero, suc, _+_, _*_, _^_, _<_}
+use native.Mathlib.Omega.{arith}
+use lib.IntN.{ℤ, _+ℤ_, _-ℤ_}
+use lib.Pow.{pow-pos}
+use lib.ListN.{length, take, drop, length-drop}
+use lib.Seq.{length-take-le}
+use Rattle.lists.specs.Digits.{Digits}
+use Rattle.lists.specs.DigitLaws.{digits-more, digits-take, digits-drop, number-lt}
+use Rattle.kinds.specs.Limits.{doubles}
+use Rattle.kinds.specs.Heard.{entryHeard}
+use Rattle.kinds.specs.declared.Entry.{Entry}
+use Rattle.kinds.specs.declared.Entry.the-variants as entries
+use Rattle.judge.specs.Judge.{faultOf}
+use Rattle.octets.specs.Octets.{littleEndian, little, packed, unpacked, eights}
+use Rattle.octets.specs.OctetsLaws.{little-length, little-back, little-bytes-back}
+use Rattle.octets.specs.EightsLaws.{eights-length, eights-joined, joined-eights, joined-length}
+use Rattle.words.specs.Words.{wholeOf}
+use Rattle.register.specs.Register.{Entered, unitsOf, enter, added, withdrawn}
+use Rattle.register.specs.Steps.{Held, outcome}
+use Rattle.register.specs.Entries.{EntryWhen, entered, wrong-length, bad-number, out-of-range}
+use Rattle.register.specs.RegisterLaws.{entry-when, held-after, withdraw-undoes, add-undoes}
+use Rattle.calls.specs.Calls.{Called, called, placeCode, answered, registered, registerCall, addCall, withdrawCall}
+use Rattle.calls.specs.CallsLaws.{register-registered, answered-accepted}
+
+-- ---- words from bytes, and back
+eights-below : (n : ℕ) (bs : List ℕ) → Digits 8 bs → length bs ≡ 8 * n → Digits 64 (unpacked n bs)
+unfolding eights
+eights-below zero bs B l = record { below = λ i. pow-pos 64 }
+eights-below (suc n) bs B l =
+    let t : length (take 8 bs) ≡ 8 = length-take-le 8 bs (omega arith) in
+    digits-more 64 (rw t at (number-lt 8 (take 8 bs) (digits-take 8 8 bs B)))
+    (eights-below n (drop 8 bs) (digits-drop 8 8 bs B) (rw (length-drop 8 bs) (omega arith)))
+
+words-back : (ws : List ℕ) → Held ws → unpacked 33 (packed ws) ≡ ws
+words-back ws W = ap (λ (n : ℕ). unpacked n (packed ws)) (sym (W .long)) ∙ eights-joined (littleEndian 8) (little-length 8) little (little-back 8) ws (W .below)
+
+-- ---- an entry that returns 0 was entered
+enters : (ws : List ℕ) (p : ℕ) (z : ℤ) (register words : List ℕ) (a : Entry) → EntryWhen ws p z a → answered (entryHeard a) register words .code ≡ 0
+    → a ≡ entries.Entered
+unfolding answered
+enters ws p z register words a (entered l f s) e = refl
+enters ws p z register words a (wrong-length l) e = absurd (omega arith)
+enters ws p z register words a (bad-number l f) e = absurd (f (omega arith))
+enters ws p z register words a (out-of-range l f s) e = absurd (omega arith)
+
+-- ---- one call, and the one that undoes it
+module _ (register : List ℕ) (B : Digits 8 register) (l : length register ≡ 264) (p : ℕ) (z : List ℕ → ℤ) (undone : List ℕ → Entered)
+    (undoes : (ws : List ℕ) → Held ws → enter ws p (z ws) .answer ≡ entries.Entered → undone (enter ws p (z ws) .words) ≡ outcome entries.Entered ws) where
+  abbrev ws : List ℕ
+  ws = unpacked 33 register
+
+  abbrev e : Entered
+  e = enter ws p (z ws)
+
+  abbrev doing : List ℕ → Entered
+  doing vs = enter vs p (z vs)
+
+  held : Held ws
+  held = record { long = eights-length little 33 register; below = eights-below 33 register B l }
+
+  back : registerCall doing register .code ≡ 0 → registerCall undone (registerCall doing register .bytes) ≡ called 0 register
+  back c =
+      let r : registerCall doing register ≡ registered doing register = register-registered doing register l in
+      let d : registered doing register .code ≡ 0 = ap (λ (x : Called). x .code) (sym r) ∙ c in
+      let a : e .answer ≡ entries.Entered = enters ws p (z ws) register (e .words) (e .answer) (entry-when ws p (z ws) (e .answer) .0 refl) d in
+      let h : Held (e .words) = held-after ws p (z ws) held in
+      let y : registered doing register ≡ called 0 (packed (e .words)) =
+      ap (λ (x : Entry). answered (entryHeard x) register (e .words)) a ∙ answered-accepted register (e .words) in
+      let s : length (packed (e .words)) ≡ 264 = joined-length (littleEndian 8) (little-length 8) (e .words) ∙ ap (λ (n : ℕ). 8 * n) (h .long) in
+      let u : undone (unpacked 33 (packed (e .words))) ≡ outcome entries.Entered ws = ap undone (words-back (e .words) h) ∙ undoes ws held a in
+      let w : packed ws ≡ register = joined-eights (littleEndian 8) little (λ bs D k. rw k at (little-bytes-back bs D)) 33 register B l in
+      ap (λ (x : Called). registerCall undone (x .bytes)) (r ∙ y)
+      ∙ register-registered undone (packed (e .words)) s
+      ∙ ap (λ (x : Entered). answered (entryHeard (x .answer)) (packed (e .words)) (x .words)) u
+      ∙ answered-accepted (packed (e .words)) ws
+      ∙ ap (called 0) w
+
+module _ (register : List ℕ) (B : Digits 8 register) (l : length register ≡ 264) (p : ℕ) where
+  pub add-call-undone : addCall register p .code ≡ 0 → withdrawCall (addCall register p .bytes) p ≡ called 0 register
+  add-call-undone = back register B l p (λ ws. wholeOf ws +ℤ unitsOf p) (λ ws. withdrawn ws p) (λ ws W. withdraw-undoes W p)
+
+  pub withdraw-call-undone : withdrawCall register p .code ≡ 0 → addCall (withdrawCall register p .bytes) p ≡ called 0 register
+  withdraw-call-undone = back register B l p (λ ws. wholeOf ws -ℤ unitsOf p) (λ ws. added ws p) (λ ws W. add-undoes W p)

@@ -1,0 +1,91 @@
+-- `faithful_bytes::answer` meets its contract: a sum is a number, a refusal is one of the table, and the undivided call answers no state. Assumes nothing.
+use mathlib.Core.Path.{sym, ap, _∙_}
+use mathlib.Core.List.{List, []}
+use Prim.Native.Nat.{ℕ}
+use borrow.Author.Needs.{needs}
+use Rattle.kinds.specs.Heard.{Heard, stepHeard}
+use Rattle.walk.specs.Walk.{Walked}
+use Rattle.runs.specs.AnswerNumbers.{faithful-no-nan, faithful-not-more}
+use Rattle.calls.specs.Calls.{called, answered}
+use Rattle.calls.specs.CallsLaws.{answered-done, answered-refused}
+use Rattle.calls.specs.ToldLaws.{faithful-told}
+use Rattle.faithful_bytes.proofs.answer.Statement.{statement}
+use Rattle.faithful_bytes.proofs.answer.Tie as tie
+
+faithful-requires : tie.Need-faithful-requires
+faithful-requires c κs = search needs
+
+enum-known-x : tie.Need-enum-known-x
+enum-known-x c = search needs
+
+float-to-bits-answer : tie.Need-float-to-bits-answer
+float-to-bits-answer c =
+    let a = c .before .before .before .before .before .before .before .before .before .before .args in
+    faithful-no-nan (a .numbers .now) (a .work .now) (sym (ap (λ (w : Walked). w .answer) (c .before .before .before .before .before .faithful .ensures)) ∙ c .before .x .given .1)
+
+cast-answer : tie.Need-cast-answer
+cast-answer c = search needs
+
+answer-requires : tie.Need-answer-requires
+answer-requires c κs = search needs
+
+enum-known-number : tie.Need-enum-known-number
+enum-known-number c = search needs
+
+refusal-requires : tie.Need-refusal-requires
+refusal-requires c κs =
+    let a = c .before .before .before .before .before .before .before .before .before .before .args in
+    faithful-told (a .numbers .now) (a .work .now) _ _ (sym (ap (λ (w : Walked). w .answer) (c .before .before .before .before .before .faithful .ensures)) ∙ c .before .number .given .1)
+
+enum-told : tie.Need-enum-told
+enum-told c = search needs
+
+same-length : tie.Need-same-length
+same-length c = search needs
+
+same-length-2 : tie.Need-same-length-2
+same-length-2 c = search needs
+
+returns : tie.Need-returns
+returns c =
+    let a = c .before .before .before .before .before .before .before .before .before .before .before .before .before .before .args in
+    let e = sym (ap (λ (w : Walked). w .answer) (c .before .before .before .before .before .before .before .before .before .faithful .ensures)) ∙ c .before .before .before .before .before .x .given .1 in
+    ap (called 0) (c .before .before .answer .ensures) ∙ sym (answered-done (a .out .now) [] _ _) ∙ ap (λ (x : Heard). answered x (a .out .now) []) (sym (ap stepHeard e))
+
+same-length-3 : tie.Need-same-length-3
+same-length-3 c = search needs
+
+returns-2 : tie.Need-returns-2
+returns-2 c =
+    let a = c .before .before .before .before .before .before .before .before .before .before .before .args in
+    let e = sym (ap (λ (w : Walked). w .answer) (c .before .before .before .before .before .before .faithful .ensures)) ∙ c .before .before .number .given .1 in
+    ap (λ (n : ℕ). called n (a .out .now)) (c .refusal .ensures) ∙ sym (answered-refused (a .out .now) [] (c .before .before .number .given .0 .0) (c .before .before .number .given .0 .1 .0))
+    ∙ ap (λ (x : Heard). answered x (a .out .now) []) (sym (ap stepHeard e))
+
+same-length-4 : tie.Need-same-length-4
+same-length-4 c = search needs
+
+returns-3 : tie.Need-returns-3
+returns-3 c =
+    let a = c .before .before .before .before .before .before .before .before .before .args in
+    absurd (faithful-not-more (a .numbers .now) (a .work .now) _ (sym (ap (λ (w : Walked). w .answer) (c .before .before .before .before .faithful .ensures)) ∙ c .enum-told .given .1))
+
+pub answer-spec : {M : Type 1} → statement M
+answer-spec =
+    tie.close
+    (tie.spec
+    faithful-requires
+    enum-known-x
+    float-to-bits-answer
+    cast-answer
+    answer-requires
+    enum-known-number
+    refusal-requires
+    enum-told
+    same-length
+    same-length-2
+    returns
+    same-length-3
+    returns-2
+    same-length-4
+    returns-3)

@@ -1,0 +1,77 @@
+// The nearest sum of a list in bytes, with the numbers on the stack as in the faithful sum.
+use kinds::Nearest;
+use octets::little::SIZE;
+ghost use mathlib.Core.Path.{_≡_};
+ghost use mathlib.Core.List.{[]};
+ghost use Prim.Native.Nat.{_*_};
+ghost use lib.ListN.{length};
+ghost use Rattle.calls.specs.Calls.{called, answered, summed, sumHeard};
+ghost use Rattle.calls.specs.Inner.{Fitting};
+
+// Of numbers: what is answered goes to the 16 bytes.
+fn answer(numbers: &[u64], out: &mut [u8]) -> u32
+    requires { ⌜ length (now out) ≡ 16 ⌝ }
+    ensures { λ r. ⌜ called r (now (out .exit)) ≡ answered (sumHeard (now (numbers .entry))) (now (out .entry)) [] ⌝ }
+{
+    match sums::nearest(numbers) {
+        Nearest::Sum(x) => {
+            calls::answer(f64::to_bits(x), 0, out);
+            0
+        }
+        Nearest::Refused(number, place) => calls::refusal(number, place),
+    }
+}
+
+// In an area of the list's own length.
+fn within(list: &[u8], numbers: &mut [u64], out: &mut [u8]) -> u32
+    requires { ⌜ (length (now list) ≡ 8 * length (now numbers)) × (length (now out) ≡ 16) ⌝ }
+    ensures { λ r. ⌜ called r (now (out .exit)) ≡ summed sumHeard (now (list .entry)) (now (out .entry)) ⌝ }
+{
+    octets::little::unpack(list, numbers);
+    answer(numbers, out)
+}
+
+// Up to 64 numbers.
+fn short(list: &[u8], out: &mut [u8]) -> u32
+    requires { ⌜ Fitting 64 (length (now list)) × (length (now out) ≡ 16) ⌝ }
+    ensures { λ r. ⌜ called r (now (out .exit)) ≡ summed sumHeard (now (list .entry)) (now (out .entry)) ⌝ }
+{
+    let n = list.len() / SIZE;
+    let mut numbers = [0u64; 64];
+    within(list, &mut numbers[..n], out)
+}
+
+// Up to 512.
+fn middle(list: &[u8], out: &mut [u8]) -> u32
+    requires { ⌜ Fitting 512 (length (now list)) × (length (now out) ≡ 16) ⌝ }
+    ensures { λ r. ⌜ called r (now (out .exit)) ≡ summed sumHeard (now (list .entry)) (now (out .entry)) ⌝ }
+{
+    let n = list.len() / SIZE;
+    let mut numbers = [0u64; 512];
+    within(list, &mut numbers[..n], out)
+}
+
+// Every list.
+fn long(list: &[u8], out: &mut [u8]) -> u32
+    requires { ⌜ Fitting 4094 (length (now list)) × (length (now out) ≡ 16) ⌝ }
+    ensures { λ r. ⌜ called r (now (out .exit)) ≡ summed sumHeard (now (list .entry)) (now (out .entry)) ⌝ }
+{
+    let n = list.len() / SIZE;
+    let mut numbers = [0u64; 4094];
+    within(list, &mut numbers[..n], out)
+}
+
+// In the shortest of them that holds the list.
+pub fn sum(list: &[u8], out: &mut [u8]) -> u32
+    requires { ⌜ Fitting 4094 (length (now list)) × (length (now out) ≡ 16) ⌝ }
+    ensures { λ r. ⌜ called r (now (out .exit)) ≡ summed sumHeard (now (list .entry)) (now (out .entry)) ⌝ }
+{
+    let n = list.len() / SIZE;
+    if n <= 64 {
+        return short(list, out);
+    }
+    if n <= 512 {
+        return middle(list, out);
+    }
+    long(list, out)
+}
