@@ -4,12 +4,15 @@ use mathlib.Core.List.{List, _++_}
 use Prim.Native.Nat.{ℕ, _≤_}
 use native.Mathlib.Omega.{arith}
 use lib.ListN.{length, take, drop, length-append}
+use lib.Seq.{take-at}
 use lib.Ieee.{Float}
 use Rattle.kinds.specs.Limits.{doubles}
 use Rattle.kinds.specs.Heard.{placeOf}
 use Rattle.kinds.specs.declared.Sheet.{Sheet}
 use Rattle.kinds.specs.declared.Sheet.the-variants.{Read, Refused}
-use Rattle.sheet.specs.Sheet.{countOf, Reading, reading, readOf}
+use Rattle.octets.specs.Octets.{big}
+use Rattle.octets.specs.EightsLaws.{eights-length}
+use Rattle.sheet.specs.Sheet.{countOf, patternsOf, Reading, reading, readOf}
 use Rattle.sheet.specs.SheetLaws.{Accepted, accepted, accepted-read}
 use Rattle.walk.specs.Walk.{faithfulOf}
 use Rattle.numerals.specs.Text.{Placed}
@@ -46,6 +49,13 @@ module _ (sheet numbers : List ℕ) (work : List Float) (text : List ℕ) {answe
 
     allowed : Accepted doubles sheet numbers
     allowed = accepted doubles sheet numbers (sym e ∙ ap (λ (a : Sheet). reading a area) s)
+
+    -- what was read
+    pub read-list : take n area ≡ patternsOf n (drop 5 sheet)
+    read-list =
+        let l : area ≡ patternsOf (countOf sheet) (drop 5 sheet) ++ drop (countOf sheet) numbers =
+        ap (λ (x : Reading). x .area) (e ∙ accepted-read doubles sheet numbers allowed) in
+        rw (l, count) (take-at (patternsOf n (drop 5 sheet)) (drop n numbers) n (eights-length big n (drop 5 sheet)))
 
     pub read-few : n ≤ doubles .length
     read-few = omega (arith, allowed .few, count)
