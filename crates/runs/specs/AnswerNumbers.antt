@@ -1,10 +1,9 @@
--- What the undivided call answers, whatever list and work area it is handed: never a state; and a sum only that is a number, so that its bits may be read,
+-- What the undivided call answers, whatever list and work area it is handed: never a state; and only a sum that is a number, so that its bits may be read,
 -- after at most as many rounds as document 01 says. Assumes nothing.
-use mathlib.Core.Path.{_≡_, refl, sym, ap, _∙_, subst}
+use mathlib.Core.Path.{_≡_, refl, sym, ap, subst}
 use mathlib.Core.Bool.{true, not}
 use mathlib.Core.List.{List}
 use Prim.Native.Nat.{ℕ, suc, _≤_}
-use native.Mathlib.Omega.{arith}
 use lib.Dec.{T, eqb}
 use lib.ListN.{length}
 use lib.Ieee.{Float, isNan}

@@ -21,7 +21,7 @@ abbrev pub printed : List ℕ
 printed =
     1 ∷ 0 ∷ 0 ∷ 0 ∷ 3 ∷ 0x46 ∷ 0x30 ∷ 0 ∷ 0 ∷ 0 ∷ 0 ∷ 0 ∷ 0 ∷ 0x3F ∷ 0xF0 ∷ 0 ∷ 0 ∷ 0 ∷ 0 ∷ 0 ∷ 0 ∷ 0xC6 ∷ 0x30 ∷ 0 ∷ 0 ∷ 0 ∷ 0 ∷ 0 ∷ 0 ∷ []
 
-abbrev three : List ℕ
+abbrev pub three : List ℕ
 three = 0x4630000000000000 ∷ 0x3FF0000000000000 ∷ 0xC630000000000000 ∷ []
 
 pub printed-is : sheetOf three ≡ printed

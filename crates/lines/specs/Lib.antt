@@ -1,0 +1,7 @@
+-- What the sheet program prints.
+pub mod Lines
+pub mod LineLaws
+pub mod SumLaws
+pub mod LinesLaws
+pub mod SheetAlone
+pub mod Instances

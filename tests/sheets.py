@@ -1,0 +1,252 @@
+#!/usr/bin/env python3
+"""Runs the sheet program, target/bin/sum_sheet, over the sheets of tests/sheets and compares what it prints byte by byte.
+
+    python3 tests/sheets.py          exit status 1 where one differs
+    python3 tests/sheets.py --make   writes tests/sheets/NAME.sheet and NAME.out
+
+NAME.sheet is what the program reads and NAME.out what it must print: document 01's order of refusals is written here, the sums are those of tests/walk.py and
+tests/trial.py, and where a line is written by hand beside its sheet the two have to agree. Nothing of the library is used. Each sheet is read as a file and
+through a pipe in small pieces with pauses, and there are inputs longer than the program's buffer.
+"""
+import os
+import subprocess
+import sys
+import time
+
+sys.dont_write_bytecode = True
+import kit  # noqa: E402
+import trial  # noqa: E402
+import walk  # noqa: E402
+
+HERE = os.path.dirname(os.path.abspath(__file__))
+FOLDER = os.path.join(HERE, "sheets")
+PROGRAM = os.path.join(os.path.dirname(HERE), "target", "bin", "sum_sheet")
+BUFFER = 32758
+SIGN, INFINITY, ONE, LIMIT = trial.SIGN, trial.INFINITY, trial.ONE, trial.MAGNITUDE
+TOP, TINY = 0x4630000000000000, 0x3CA0000000000000  # 2^100, 2^-53
+
+
+# ---- document 01, "The contribution sheet"
+def sheet(patterns, version=1, count=None):
+    header = bytes([version]) + (len(patterns) if count is None else count).to_bytes(4, "big")
+    return header + b"".join(pattern.to_bytes(8, "big") for pattern in patterns)
+
+
+def read(data):
+    """The patterns of a sheet, or the refusal: 11 for fewer than 5 bytes, 12, 1, 11, 13."""
+    if len(data) < 5:
+        raise trial.Refused(11, 0)
+    if data[0] != 1:
+        raise trial.Refused(12, 0)
+    count = int.from_bytes(data[1:5], "big")
+    if count > trial.LENGTH:
+        raise trial.Refused(1, 0)
+    if len(data) < 5 + 8 * count:
+        raise trial.Refused(11, 0)
+    if len(data) > 5 + 8 * count:
+        raise trial.Refused(13, 0)
+    return [int.from_bytes(data[i : i + 8], "big") for i in range(5, len(data), 8)]
+
+
+def printed(data):
+    """What the program prints of its input, of which it reads as much as its buffer holds."""
+    try:
+        patterns = read(data[:BUFFER])
+        near = trial.nearest_sum(patterns)
+    except trial.Refused as refused:
+        number, place = refused.args
+        return f"refused {number} at {place}\n" if number in (2, 3) else f"refused {number}\n"
+    told, sum_of, rounds = walk.faithful(patterns, [0] * len(patterns))
+    assert told == "done"
+    return f"count {len(patterns)}\nfaithful {sum_of:016X} rounds {rounds}\nnearest {near:016X}\n"
+
+
+# ---- the sheets: a name, the bytes, and what is printed where it is written by hand
+def three(count, faithful, rounds, near):
+    return f"count {count}\nfaithful {faithful} rounds {rounds}\nnearest {near}\n"
+
+
+ZEROS = "0" * 16
+UNITY = "3FF" + "0" * 13
+RANDOM = trial.filled(4094, 0, trial.seed(7, 1))
+LADDER = trial.ladder(4094, 102, 41)
+
+SHEETS = [
+    ("example", sheet([TOP, ONE, SIGN + TOP]), three(3, UNITY, 2, UNITY)),
+    # lengths
+    ("bytes_0", b"", "refused 11\n"),
+    ("bytes_1", b"\1", "refused 11\n"),
+    ("bytes_4", bytes(4), "refused 11\n"),
+    ("bytes_5", sheet([]), three(0, ZEROS, 0, ZEROS)),
+    ("bytes_6", sheet([]) + b"\0", "refused 13\n"),
+    ("short_by_one", sheet([ONE, ONE])[:-1], "refused 11\n"),
+    ("short_by_a_pattern", sheet([ONE], count=2), "refused 11\n"),
+    ("long_by_one", sheet([ONE, ONE]) + b"\0", "refused 13\n"),
+    ("long_by_a_pattern", sheet([ONE, ONE], count=1), "refused 13\n"),
+    # the order of refusals
+    ("version_2_alone", b"\2", "refused 11\n"),
+    ("version_0", sheet([ONE], version=0), "refused 12\n"),
+    ("version_2_too_many", sheet([], version=2, count=2**32 - 1), "refused 12\n"),
+    ("too_many_alone", sheet([], count=0x1000), "refused 1\n"),
+    ("too_many_by_one", sheet([ONE], count=4095), "refused 1\n"),
+    ("too_many_most", sheet([], count=2**32 - 1), "refused 1\n"),
+    ("count_little_endian", b"\1\1\0\0\0" + sheet([ONE])[5:], "refused 1\n"),
+    ("short_and_nan", sheet([INFINITY], count=2), "refused 11\n"),
+    ("long_and_nan", sheet([INFINITY, ONE], count=1), "refused 13\n"),
+    # faults of a list
+    ("infinity_first", sheet([INFINITY]), "refused 2 at 0\n"),
+    ("nan_third", sheet([ONE, SIGN, 0x7FF8000000000001, INFINITY]), "refused 2 at 2\n"),
+    ("above_first", sheet([LIMIT + 1]), "refused 3 at 0\n"),
+    ("above_second", sheet([ONE, SIGN + LIMIT + 1, INFINITY]), "refused 3 at 1\n"),
+    ("fault_at_10", sheet([ONE] * 10 + [SIGN + INFINITY - 1, INFINITY]), "refused 3 at 10\n"),
+    ("fault_last", sheet([LIMIT] * 4093 + [SIGN + INFINITY]), "refused 2 at 4093\n"),
+    # sums
+    ("one", sheet([ONE]), three(1, UNITY, 1, UNITY)),
+    ("minus_zeros", sheet([SIGN, SIGN]), three(2, ZEROS, 0, ZEROS)),
+    ("cancelled", sheet([ONE, SIGN + ONE]), three(2, ZEROS, 1, ZEROS)),
+    ("tie", sheet([ONE, TINY]), three(2, UNITY, 1, UNITY)),
+    ("faithful_not_nearest", sheet([ONE, TINY, 1]), three(3, UNITY, 1, "3FF0000000000001")),
+    ("two_units", sheet([1, 1]), three(2, "0000000000000002", 1, "0000000000000002")),
+    ("negative", sheet([SIGN + ONE, SIGN + TINY, SIGN + 1]), three(3, "BFF" + "0" * 13, 1, "BFF0000000000001")),
+    ("limits", sheet([LIMIT, LIMIT]), three(2, "7E8" + "0" * 13, 1, "7E8" + "0" * 13)),
+    ("all_digits", sheet([0x0123456789ABCDEF]), three(1, "0123456789ABCDEF", 1, "0123456789ABCDEF")),
+    ("subnormals", sheet([0xFEDCBA987654F, SIGN + 0x123456789ABCD] * 5), None),
+    ("ten_numbers", sheet(trial.filled(10, 5, trial.seed(7, 2))), None),
+    ("numbers_65", sheet(trial.cancelling(65, 0, *[trial.seed(7, 3)] * 3)), None),
+    ("numbers_1000", sheet(trial.filled(1000, 0, trial.seed(7, 4))), None),
+    ("numbers_4094", sheet(RANDOM), None),
+    # the longest lines: 4 digits of count and 2 of rounds
+    ("rounds_51", sheet(LADDER), three(4094, "0000000000000001", 51, "0000000000000001")),
+]
+
+# longer than the buffer: how many bytes, what they begin with, and what is printed
+LONGER = [
+    (BUFFER, sheet(RANDOM), "refused 13\n"),
+    (BUFFER + 1, sheet(RANDOM), "refused 13\n"),
+    (40000, sheet([ONE]), "refused 13\n"),
+    (40000, b"\2", "refused 12\n"),
+    (200000, sheet(RANDOM), "refused 13\n"),
+    (200000, sheet([], count=4095), "refused 1\n"),
+]
+
+
+# ---- running the program
+def started(stdin):
+    return subprocess.Popen(
+        [*kit.run_prefix(), PROGRAM], stdin=stdin, stdout=subprocess.PIPE, stderr=subprocess.PIPE, env=kit.environment(), cwd=FOLDER
+    )
+
+
+def ended(process):
+    out, err = process.communicate()
+    return out if process.returncode == 0 and not err else (process.returncode, out, err)
+
+
+def from_file(path):
+    with open(path, "rb") as stdin:
+        return ended(started(stdin))
+
+
+def in_pieces(data, size):
+    """Through a pipe, with a pause before each piece. A program that has read enough may have ended before the last."""
+    process = started(subprocess.PIPE)
+    try:
+        for i in range(0, len(data), size):
+            time.sleep(0.002)
+            process.stdin.write(data[i : i + size])
+            process.stdin.flush()
+    except BrokenPipeError:
+        pass
+    return ended(process)
+
+
+def at_once(data):
+    process = started(subprocess.PIPE)
+    out, err = process.communicate(data)
+    return out if process.returncode == 0 and not err else (process.returncode, out, err)
+
+
+# ---- the check
+DIFFERENCES = []
+
+
+def same(name, got, expected):
+    """Whether the program printed what it must; where not, it is a difference."""
+    if got != expected:
+        DIFFERENCES.append((name, got, expected))
+    return got == expected
+
+
+def flipped(data, i):
+    return data[:i] + bytes([data[i] ^ 1]) + data[i + 1 :]
+
+
+def notices(name, got, expected):
+    """A test that can't fail shows nothing: each byte of the expected lines turned, and one more or less, has to be a difference."""
+    before = len(DIFFERENCES)
+    wrong = [flipped(expected, i) for i in range(len(expected))] + [expected[:-1], expected + b"\n"]
+    noticed = sum(not same(name, got, other) for other in wrong)
+    del DIFFERENCES[before:]
+    if noticed != len(wrong):
+        DIFFERENCES.append((name, "a wrong line passed", noticed, len(wrong)))
+
+
+def held(name):
+    """What the two files of a sheet hold."""
+    with open(os.path.join(FOLDER, name + ".sheet"), "rb") as data, open(os.path.join(FOLDER, name + ".out"), "rb") as lines:
+        return data.read(), lines.read()
+
+
+def check_sheet(name, data, by_hand):
+    expected = printed(data).encode()
+    same(name + ": by hand", expected, (by_hand or expected.decode()).encode())
+    same(name + ": the files", held(name), (data, expected))
+    got = from_file(os.path.join(FOLDER, name + ".sheet"))
+    same(name + ": from a file", got, expected)
+    notices(name, got, expected)
+    same(name + ": in pieces", in_pieces(data, 1 if len(data) < 64 else 997), expected)
+
+
+def check_longer(length, start, expected):
+    data = (start + bytes(length))[:length]
+    same(f"{length} bytes", printed(data), expected)
+    same(f"{length} bytes at once", at_once(data), expected.encode())
+    same(f"{length} bytes in pieces", in_pieces(data, 4999), expected.encode())
+
+
+def make():
+    os.makedirs(FOLDER, exist_ok=True)
+    for name, data, by_hand in SHEETS:
+        lines = printed(data)
+        assert by_hand in (None, lines), (name, lines)
+        for suffix, content in ((".sheet", data), (".out", lines.encode())):
+            with open(os.path.join(FOLDER, name + suffix), "wb") as f:
+                f.write(content)
+    print(f"sheets: {len(SHEETS)} made")
+    return 0
+
+
+def main():
+    if sys.argv[1:] == ["--make"]:
+        return make()
+    if not os.path.exists(PROGRAM):
+        print("sheets: the program is not built: rt check sum_sheet")
+        return 1
+    names = {name for name, _, _ in SHEETS}
+    same("the folder", set(os.listdir(FOLDER)), {name + suffix for name in names for suffix in (".sheet", ".out")})
+    for entry in SHEETS:
+        check_sheet(*entry)
+    for entry in LONGER:
+        check_longer(*entry)
+    example, lines = held("example")
+    for i in range(len(example)):
+        if at_once(flipped(example, i)) == lines:
+            DIFFERENCES.append(("example", "a byte that the program doesn't read", i))
+    for difference in DIFFERENCES[:9]:
+        print("sheets:", *difference)
+    print(f"sheets: {len(SHEETS)} sheets, {len(LONGER)} inputs longer than the buffer; {len(DIFFERENCES)} differences")
+    return 1 if DIFFERENCES else 0
+
+
+if __name__ == "__main__":
+    sys.exit(main())
