@@ -16,7 +16,7 @@ use Rattle.register.specs.Register.{enter, rounded}
 use Rattle.extract.specs.Extract.{remainders, gathered, lastSum, largest}
 use Rattle.exponent.specs.Power.{powerOf}
 use Rattle.sound.specs.Sound as N
-use Rattle.walk.specs.Round as R
+use Rattle.rounds.specs.Round as R
 use Rattle.walk.specs.Walk as W
 use Rattle.sums.specs.Sums as S
 use Rattle.kinds.specs.Heard.{nowhere, at, Heard, refused, more, done, nearest, parts, accepted, count}

@@ -23,7 +23,7 @@ use Rattle.judge.specs.Judge.{faultOf, firstFault, judged}
 use Rattle.extract.specs.Extract.{remainders, gathered, lastSum, largest}
 use Rattle.exponent.specs.Power.{powerOf}
 use Rattle.sound.specs.Sound as N
-use Rattle.walk.specs.Round as R
+use Rattle.rounds.specs.Round as R
 use Rattle.walk.specs.Walk as W
 use Rattle.sums.specs.Sums as S
 use Rattle.sums.specs.AnswerLaws.{nearest-good}

@@ -25,7 +25,8 @@ use Rattle.kinds.specs.declared.Entry.{Entry}
 use Rattle.kinds.specs.declared.Entry.the-variants as entries
 use Rattle.judge.specs.Table.{GivenWhen}
 use Rattle.words.specs.Words.{wholeOf}
-use Rattle.register.specs.Register.{unitsOf, added, withdrawn, enter, rounded}
+use Rattle.finite.specs.Finite.{unitsOf}
+use Rattle.register.specs.Register.{added, withdrawn, enter, rounded}
 use Rattle.register.specs.Entries.{EntryWhen, wrong-length, bad-number, out-of-range}
 use Rattle.register.specs.RegisterLaws.{entry-when}
 use Rattle.sums.specs.Sums.{nearestOf, fitting, partsOf}

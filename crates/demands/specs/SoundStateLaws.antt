@@ -25,7 +25,7 @@ use Rattle.sound.specs.Sound.{unitsAt, soundSigma, atMost, soundNumbers, soundP
 use Rattle.sound.specs.SigmaLaws.{split, Sigma, sigma-holds, sigma-exponent}
 use Rattle.sound.specs.SoundLaws.{Numbers, pending-holds, sound-holds}
 use Rattle.sound.specs.DoublesLaws.{magnitude-exponent}
-use Rattle.walk.specs.Instances.{doubles-fit}
+use Rattle.rounds.specs.Instances.{doubles-fit}
 use Rattle.demands.specs.SoundState.{PowerBetween, FiniteWithin, WorkNumber, SoundState, limitExponent}
 
 -- ---- a set with no member from B on is below 2^B, and one that isn't 0 has a member

@@ -20,11 +20,11 @@ use Rattle.kinds.specs.declared.Verdict.the-variants as verdicts
 use Rattle.judge.specs.Judge.{judged, floats, zeroSign}
 use Rattle.judge.specs.JudgeLaws.{given-when}
 use Rattle.sound.specs.Sound.{unitsAt, gated}
+use Rattle.rounds.specs.Fitting.{Fitting}
 use Rattle.walk.specs.NoRefusal.{verdictOf, fresh-accepted, taken-accepted}
 use Rattle.walk.specs.Walk.{Walked, opened, openedAfter, stepped, steppedAfter, faithfulOf}
 use Rattle.walk.specs.OpeningLaws.{opened-refused}
 use Rattle.walk.specs.Undivided as undivided
-use Rattle.walk.specs.Fitting.{Fitting}
 use Rattle.runs.specs.Faithful.{faithful-promised}
 use Rattle.demands.specs.Tables.{StepWhen, WalkWhen}
 use Rattle.demands.specs.TablesLaws.{step-when}

@@ -18,8 +18,9 @@ use Rattle.octets.specs.Octets.{littleEndian, little, packed, unpacked, eights}
 use Rattle.octets.specs.OctetsLaws.{little-length, little-back, little-bytes-back}
 use Rattle.octets.specs.EightsLaws.{eights-length, eights-joined, joined-eights, joined-length}
 use Rattle.words.specs.Words.{wholeOf}
-use Rattle.register.specs.Register.{Entered, unitsOf, enter, added, withdrawn}
-use Rattle.register.specs.Steps.{Held, outcome}
+use Rattle.register.specs.Register.{Entered, enter, added, withdrawn}
+use Rattle.finite.specs.Finite.{unitsOf, Held}
+use Rattle.register.specs.Steps.{outcome}
 use Rattle.register.specs.Entries.{EntryWhen, entered, wrong-length, bad-number, out-of-range}
 use Rattle.register.specs.RegisterLaws.{entry-when, held-after, withdraw-undoes, add-undoes}
 use Rattle.calls.specs.Calls.{Called, called, placeCode, answered, registered, registerCall, addCall, withdrawCall}

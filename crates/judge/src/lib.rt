@@ -1,5 +1,6 @@
 // Which lists are allowed: the fault of one pattern, the first refusal of a list, and the copy of an allowed list as floats.
 use kinds::Doubles;
+use kinds::SIGN;
 use kinds::Verdict;
 ghost use mathlib.Core.Path.{_≡_};
 ghost use Prim.Native.Nat.{_≤_};
@@ -7,9 +8,6 @@ ghost use lib.ListN.{length};
 ghost use Rattle.kinds.specs.Limits.{doubles};
 ghost use Rattle.kinds.specs.declared.Verdict.the-variants.{Good};
 ghost use Rattle.judge.specs.Judge.{faultOf, firstFault, judged, floats, zeroSign};
-
-// What the sign adds to a pattern. Patterns without it are in the order of their magnitudes.
-pub const SIGN: u64 = 0x8000_0000_0000_0000;
 
 // The pattern of the infinity. From it on, a pattern without its sign stands for no number.
 pub const INFINITY: u64 = 0x7FF0_0000_0000_0000;

@@ -4,6 +4,9 @@ ghost use Prim.Native.Nat.{_≤_};
 ghost use Rattle.kinds.specs.Limits.{doubles, exponentOf, blocksOf, Tied};
 ghost use Rattle.kinds.specs.States.{stateOf};
 
+// What the sign adds to a pattern. Patterns without it are in the order of their magnitudes.
+pub const SIGN: u64 = 0x8000_0000_0000_0000;
+
 // A list of binary64 patterns, by its length. Document 01's limits on lists are constants of this type, and stand in no other function.
 pub struct Doubles {
     pub n: usize,

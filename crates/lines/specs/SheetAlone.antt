@@ -22,7 +22,7 @@ use Rattle.sheet.specs.TableLaws.{sheet-when}
 use Rattle.walk.specs.Walk.{Walked, openedAfter, roundsFrom, faithfulOf}
 use Rattle.walk.specs.OpeningLaws.{opened-refused}
 use Rattle.walk.specs.Undivided.{faithful-refused}
-use Rattle.walk.specs.Instances.{doubles-fit}
+use Rattle.rounds.specs.Instances.{doubles-fit}
 use Rattle.sums.specs.Sums.{nearestOf}
 use Rattle.lines.specs.Lines.{sumLines, listLines, Printed, linesAfter, linesOf}
 use Rattle.lines.specs.LinesLaws.{read-few, read-list}

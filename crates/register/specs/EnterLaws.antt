@@ -7,20 +7,20 @@ use mathlib.Core.List.{List}
 use Prim.Native.Nat.{ℕ, _*_, _%_, _^_, _<_}
 use native.Mathlib.Decide.{ℕ-discrete}
 use borrow.Author.Tests.{eq-eqb, ne-eqb}
-use lib.Dec.{T}
-use lib.IntN.{ℤ, negℤ, _+ℤ_, _-ℤ_}
-use lib.Ieee.{ones, hid, top, ofBits}
-use lib.Ieee.Scale.{finite}
+use lib.IntN.{ℤ, _+ℤ_, _-ℤ_}
+use lib.Ieee.{ones, hid, top}
 use lib.ListN.{length}
 use Rattle.units.specs.Powers.{le-or-lt}
-use Rattle.register.specs.OppositePattern.{opposite, opposite-mod, opposite-value}
 use Rattle.lists.specs.Digits.{inside}
 use Rattle.kinds.specs.Limits.{doubles}
 use Rattle.kinds.specs.declared.Entry.the-variants.{Refused, Entered}
 use Rattle.judge.specs.Judge.{faultOf}
 use Rattle.judge.specs.FaultLaws.{fault-0, pattern-0, pattern-2, pattern-3, proper-doubles}
 use Rattle.words.specs.Words.{wordCount, registerBits, wholeOf, wordsOf}
-use Rattle.register.specs.Register.{unitsOf, enter, added, withdrawn}
+use Rattle.finite.specs.Finite.{unitsOf}
+use Rattle.finite.specs.OppositePattern.{opposite, opposite-mod}
+use Rattle.finite.specs.RegisterWords.{opposite-units}
+use Rattle.register.specs.Register.{enter, added, withdrawn}
 use Rattle.register.specs.Steps.{outcome}
 
 module _ (ws : List ℕ) (p : ℕ) (z : ℤ) where
@@ -70,12 +70,9 @@ module _ (p : ℕ) (h : p < 2 ^ 64) where
   unfolding q
   fault = fault-mod p q (opposite-mod (doubles .format) p h)
 
-  pub opposite-units : T (finite (ofBits (doubles .format) p)) → unitsOf (opposite (doubles .format) p) ≡ negℤ (unitsOf p)
-  opposite-units F = opposite-value (doubles .format) p h F
-
   pub withdrawn-added : (ws : List ℕ) → withdrawn ws p ≡ added ws (opposite (doubles .format) p)
   unfolding q
   withdrawn-added ws = by-fault ws p q (wholeOf ws -ℤ unitsOf p) fault ∙ elim (ℕ-discrete (faultOf doubles p) 0) [
-    | yes e ↦ ap (λ (u : ℤ). enter ws q (wholeOf ws +ℤ u)) (sym (opposite-units (fault-0 doubles p .0 e .0)))
+    | yes e ↦ ap (λ (u : ℤ). enter ws q (wholeOf ws +ℤ u)) (sym (opposite-units p h (fault-0 doubles p .0 e .0)))
     | no e ↦ whatever ws q (wholeOf ws -ℤ unitsOf p) (wholeOf ws +ℤ unitsOf q) (λ k. e (sym fault ∙ k))
   ]

@@ -12,7 +12,8 @@ use Rattle.kinds.specs.declared.Entry.the-variants.{Entered, Refused}
 use Rattle.judge.specs.Judge.{faultOf}
 use Rattle.register.specs.Register as R
 use Rattle.words.specs.Words.{wordCount, registerBits, wholeOf, wordsOf}
-use Rattle.register.specs.Register.{unitsOf, enter}
+use Rattle.finite.specs.Finite.{unitsOf}
+use Rattle.register.specs.Register.{enter}
 
 -- the table, a row for each answer, 4 and 9 without a place, 2 and 3 at place 0. z is the whole number that would be there afterwards.
 pub data EntryWhen (ws : List ℕ) (p : ℕ) (z : ℤ) : Entry → Type 0 where

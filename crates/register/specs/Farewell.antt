@@ -8,8 +8,7 @@ use lib.IntN.{ℤ, negℤ, _+ℤ_, _-ℤ_, +ℤ-assoc, +ℤ-comm, -ℤ-+ℤ-canc
 use Rattle.units.specs.Whole.{exactSum}
 use Rattle.lists.specs.SignedDigits.{cut-whole}
 use Rattle.words.specs.Words.{wordBits, wordCount, wholeOf, wordsOf}
-use Rattle.register.specs.Register.{unitsOf}
-use Rattle.register.specs.Steps.{Held}
+use Rattle.finite.specs.Finite.{unitsOf, Held}
 use Rattle.register.specs.Entries.{Change, add, withdraw, patternOf, changeOf, changed, run, AllEntered}
 use Rattle.register.specs.RegisterLaws.{held-after}
 use Rattle.register.specs.RunLaws.{run-whole}

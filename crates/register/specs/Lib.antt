@@ -2,9 +2,6 @@
 pub mod Register
 pub mod Steps
 pub mod Entries
-pub mod PatternFields
-pub mod OppositePattern
-pub mod RegisterWords
 pub mod EnterLaws
 pub mod Range
 pub mod RegisterLaws

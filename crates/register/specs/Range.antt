@@ -11,7 +11,7 @@ use lib.Dec.{lit<, lit≤}
 use lib.IntN.{ℤ, negℤ, _+ℤ_, _-ℤ_, +ℤ-negℤ-cancel}
 use lib.Ieee.{top}
 use Rattle.units.specs.Powers.{le-or-lt}
-use Rattle.register.specs.PatternFields.{pattern-plus, pattern-minus}
+use Rattle.finite.specs.PatternFields.{pattern-plus, pattern-minus}
 use Rattle.lists.specs.Digits.{inside}
 use Rattle.lists.specs.SignedDigits.{cut-plus, cut-whole, cut-plus-inside, cut-minus-inside}
 use Rattle.kinds.specs.Limits.{doubles}
@@ -20,8 +20,9 @@ use Rattle.judge.specs.Judge.{faultOf}
 use Rattle.judge.specs.Table.{sizeOf}
 use Rattle.judge.specs.FaultLaws.{fault-0, most-doubles}
 use Rattle.words.specs.Words.{wordBits, wordCount, registerBits, wholeOf, wordsOf}
-use Rattle.register.specs.Register.{unitsOf, added}
-use Rattle.register.specs.Steps.{Held, signBit, leaves, outcome}
+use Rattle.finite.specs.Finite.{unitsOf, Held}
+use Rattle.register.specs.Register.{added}
+use Rattle.register.specs.Steps.{signBit, leaves, outcome}
 use Rattle.register.specs.EnterLaws.{enter-out, enter-in}
 
 module _ {ws : List ℕ} (W : Held ws) where

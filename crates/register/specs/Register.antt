@@ -5,21 +5,17 @@ use Prim.Native.Nat.{ℕ}
 use lib.Dec.{eqb}
 use lib.IntN.{ℤ, _+ℤ_, _-ℤ_}
 use lib.ListN.{length}
-use lib.Ieee.{ofBits}
 use lib.Ieee.Scale.{finite}
 use Rattle.lists.specs.Digits.{inside}
 use Rattle.words.specs.Words.{wordCount, registerBits, wholeOf, wordsOf}
-use Rattle.ieee.specs.Units.{value, nearestFloat}
+use Rattle.ieee.specs.Units.{nearestFloat}
 use Rattle.kinds.specs.Limits.{doubles}
 use Rattle.kinds.specs.declared.Entry.{Entry}
 use Rattle.kinds.specs.declared.Entry.the-variants as entries
 use Rattle.kinds.specs.declared.Nearest.{Nearest}
 use Rattle.kinds.specs.declared.Nearest.the-variants as nearests
 use Rattle.judge.specs.Judge.{faultOf}
-
--- the units of a pattern
-abbrev pub unitsOf : ℕ → ℤ
-unitsOf p = value (doubles .format) (ofBits (doubles .format) p)
+use Rattle.finite.specs.Finite.{unitsOf}
 
 -- the answer, and the words afterwards
 pub record Entered : Type 0 where

@@ -25,10 +25,10 @@ use Rattle.judge.specs.Judge.{faultOf}
 use Rattle.judge.specs.Table.{floatOf, sizeOf, most, Allowed}
 use Rattle.judge.specs.FaultLaws.{fault-0, fault-number, most-doubles}
 use Rattle.words.specs.Words.{wordBits, wordCount, registerBits, wholeOf, wordsOf}
-use Rattle.register.specs.Register.{unitsOf, added, withdrawn}
+use Rattle.finite.specs.Finite.{unitsOf, Held}
+use Rattle.register.specs.Register.{added, withdrawn}
 use Rattle.register.specs.Entries.{EntryWhen, entered, wrong-length, bad-number, out-of-range}
 use Rattle.register.specs.Entries.{Change, add, withdraw, patternOf, changeOf, changed, run, AllEntered, zeros}
-use Rattle.register.specs.Steps.{Held}
 use Rattle.register.specs.RegisterLaws.{entry-when, entry-leaves, no-fault, whole-after}
 
 apart {ℓ} : {X : Type ℓ} → _≡_ {A = ℕ} 0 1 → X

@@ -1,26 +1,14 @@
 -- What the register's inner steps come to. Definitions only.
-use mathlib.Core.Path.{_≡_}
 use mathlib.Core.Bool.{Bool, cond}
 use mathlib.Core.List.{List}
-use Prim.Native.Nat.{ℕ, _+_, _-_, _<_}
+use Prim.Native.Nat.{ℕ, _-_}
 use lib.Dec.{ltb}
-use lib.Ieee.{top, ofBits}
-use Rattle.ieee.specs.Units.{magnitude}
-use Rattle.lists.specs.Carry.{two}
-use Rattle.lists.specs.SignedDigits.{Words, topBit}
+use lib.Ieee.{top}
+use Rattle.lists.specs.SignedDigits.{topBit}
 use Rattle.kinds.specs.Limits.{doubles}
 use Rattle.kinds.specs.declared.Entry.{Entry}
 use Rattle.words.specs.Words.{wordBits, wordCount}
 use Rattle.register.specs.Register.{Entered}
-
--- 33 words of 64 bits
-abbrev pub Held : List ℕ → Type 0
-Held ws = Words wordBits wordCount ws
-
--- lo at the word k and hi at the next are the magnitude of the pattern p, and the two words are there
-pub record Placed (p k lo hi : ℕ) : Type 0 where
-  pub within : k + 1 < wordCount
-  pub units : two wordBits k lo hi ≡ magnitude (doubles .format) (ofBits (doubles .format) p)
 
 -- the sign of the words
 abbrev pub signBit : List ℕ → ℕ

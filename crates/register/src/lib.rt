@@ -4,8 +4,6 @@ use kinds::Entry;
 use kinds::Nearest;
 use words::WORDS;
 
-pub mod finite;
-mod place;
 mod range;
 
 ghost use mathlib.Core.Path.{_≡_};

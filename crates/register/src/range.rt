@@ -4,7 +4,7 @@ ghost use Prim.Native.Nat.{_-_, _<_};
 ghost use lib.ListN.{length};
 ghost use Rattle.words.specs.Words.{wordCount};
 ghost use Rattle.register.specs.Steps.{signBit, leaves};
-use judge::SIGN;
+use kinds::SIGN;
 use words::WORDS;
 
 // The sign of the register. It has to have its words.

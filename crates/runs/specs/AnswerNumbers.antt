@@ -17,11 +17,11 @@ use Rattle.kinds.specs.declared.Verdict.the-variants as verdicts
 use Rattle.judge.specs.Judge.{judged}
 use Rattle.judge.specs.JudgeLaws.{given-when}
 use Rattle.sums.specs.SplitLaws.{no-nan}
+use Rattle.rounds.specs.Fitting.{Fitting}
+use Rattle.rounds.specs.Instances.{doubles-fit}
 use Rattle.walk.specs.Walk.{Walked, faithfulOf}
 use Rattle.walk.specs.OpeningLaws.{opened-refused}
 use Rattle.walk.specs.Undivided.{faithful-refused}
-use Rattle.walk.specs.Fitting.{Fitting}
-use Rattle.walk.specs.Instances.{doubles-fit}
 use Rattle.runs.specs.Faithful.{faithful-promised}
 
 -- an answer of the undivided call

@@ -22,10 +22,10 @@ use Rattle.kinds.specs.declared.Verdict.the-variants.{Good}
 use Rattle.judge.specs.Judge.{floats}
 use Rattle.judge.specs.Table.{GivenWhen}
 use Rattle.extract.specs.Extract.{plusZero, remainders, gathered}
-use Rattle.walk.specs.Round.{allZero, blockOf, roundOf, closed}
+use Rattle.rounds.specs.Round.{allZero, blockOf, roundOf, closed}
+use Rattle.rounds.specs.Fitting.{Fitting}
+use Rattle.rounds.specs.Begun.{Begun}
 use Rattle.walk.specs.Walk.{Walked, walked, opened, onward, rising, roundsFrom, faithfulOf}
-use Rattle.walk.specs.Fitting.{Fitting}
-use Rattle.walk.specs.Begun.{Begun}
 use Rattle.walk.specs.Run.{Running, allTaken, allLeft, all-taken, still, run-round, run-running, run-accepted, run-done}
 use Rattle.runs.specs.Taken.{pendingAt, mixed}
 use Rattle.runs.specs.TakenLaws.{mixed-nothing}

@@ -13,8 +13,8 @@ use Rattle.kinds.specs.declared.Step.{Step}
 use Rattle.kinds.specs.declared.Step.the-variants.{More, Done, Refused}
 use Rattle.kinds.specs.declared.Verdict.the-variants.{Good}
 use Rattle.judge.specs.Table.{GivenWhen}
+use Rattle.rounds.specs.Fitting.{Fitting}
 use Rattle.walk.specs.Walk.{Walked, walked, opened, onward, rising, stepped, faithfulOf}
-use Rattle.walk.specs.Fitting.{Fitting}
 use Rattle.runs.specs.Runs.{heeded, tried, runOf, ordered, joined}
 use Rattle.runs.specs.Faithful.{faithful-promised}
 use Rattle.runs.specs.AnyOrder.{any-order}

@@ -18,8 +18,8 @@ use Rattle.ieee.specs.InRange.{add-rounds, sub-rounds}
 use Rattle.lists.specs.Each.{Each}
 use Rattle.extract.specs.Extract.{plusZero, lastSum}
 use Rattle.extract.specs.LargestLaws.{zero-positive}
-use Rattle.walk.specs.Round.{finished}
-use Rattle.walk.specs.InUnits.{Small, wholes}
+use Rattle.rounds.specs.Round.{finished}
+use Rattle.rounds.specs.InUnits.{Small, wholes}
 
 pub zero-whole : (f : Format) → whole f (plusZero f) ≡ nat 0
 unfolding whole

@@ -12,9 +12,9 @@ use Rattle.ieee.specs.Units.{whole}
 use Rattle.lists.specs.Each.{Each}
 use Rattle.kinds.specs.Limits.{Width, exponentOf}
 use Rattle.extract.specs.Extract.{plusZero, remainderOf, remainders, gathered}
-use Rattle.walk.specs.Fitting.{Fitting}
-use Rattle.walk.specs.InUnits.{Small, wholes, high-units, remainder-exact}
-use Rattle.walk.specs.Begun.{tau-all}
+use Rattle.rounds.specs.Fitting.{Fitting}
+use Rattle.rounds.specs.InUnits.{Small, wholes, high-units, remainder-exact}
+use Rattle.rounds.specs.Begun.{tau-all}
 use Rattle.runs.specs.CloseUnits.{held, tau1-units, tau2-units}
 use Rattle.runs.specs.Taken.{pendingAt, mixed, takenOf}
 use Rattle.runs.specs.Summing.{Summing, closes, two, half, few}

@@ -19,9 +19,9 @@ use Rattle.kinds.specs.declared.Verdict.the-variants.{Good, Refused}
 use Rattle.sums.specs.Sums.{sumOf}
 use Rattle.extract.specs.Extract.{plusZero, gathered}
 use Rattle.sound.specs.Sound.{sound, gated}
-use Rattle.walk.specs.Round.{allZero, blockOf, turned}
+use Rattle.rounds.specs.Round.{allZero, blockOf, turned}
+use Rattle.rounds.specs.Exactness.{Exact, ExactSums}
 use Rattle.walk.specs.Walk.{faithfulOf}
-use Rattle.walk.specs.Exactness.{Exact, ExactSums}
 use Rattle.runs.specs.Runs.{Ran, tried, members}
 
 -- as a round closes, with tau and the area that all its blocks have left: tau1 is t', tau2 is tau - (tau1 - t)

@@ -16,9 +16,9 @@ use Rattle.kinds.specs.declared.Step.the-variants.{More, Done}
 use Rattle.kinds.specs.declared.Verdict.the-variants.{Good}
 use Rattle.judge.specs.Table.{GivenWhen}
 use Rattle.judge.specs.Judge.{floats}
-use Rattle.walk.specs.Round.{allZero}
+use Rattle.rounds.specs.Round.{allZero}
+use Rattle.rounds.specs.Fitting.{Fitting}
 use Rattle.walk.specs.Walk.{Walked, opened, faithfulOf}
-use Rattle.walk.specs.Fitting.{Fitting}
 use Rattle.runs.specs.Faithful.{FaithfulSum, faithful-promised}
 use Rattle.runs.specs.Runs.{Ran, tried, runOf, members}
 use Rattle.runs.specs.OpenedSum.{zeroOf, opened-zero, opened-round}

@@ -19,10 +19,10 @@ use Rattle.kinds.specs.declared.Verdict.the-variants.{Good}
 use Rattle.judge.specs.Judge.{floats, zeroSign}
 use Rattle.judge.specs.Table.{GivenWhen}
 use Rattle.sums.specs.Sums.{sumOf}
-use Rattle.walk.specs.Round.{allZero, roundOf}
+use Rattle.rounds.specs.Round.{allZero, roundOf}
+use Rattle.rounds.specs.Fitting.{Fitting}
 use Rattle.walk.specs.Walk.{Walked, roundsFrom, faithfulOf}
 use Rattle.walk.specs.Undivided.{faithful-done}
-use Rattle.walk.specs.Fitting.{Fitting}
 use Rattle.runs.specs.OpenedSum.{zeroOf, opened-zero, zero-sum, opened-round, opened-summing}
 use Rattle.runs.specs.SumRun.{run-faithful}
 

@@ -26,15 +26,15 @@ use Rattle.kinds.specs.declared.Verdict.the-variants.{Good}
 use Rattle.sums.specs.Sums.{sumOf}
 use Rattle.extract.specs.Extract.{plusZero, remainders, gathered}
 use Rattle.sound.specs.Sound.{gated}
-use Rattle.walk.specs.Closes.{carried}
-use Rattle.walk.specs.Round.{allZero, blockOf, turned}
+use Rattle.rounds.specs.Closes.{carried}
+use Rattle.rounds.specs.Round.{allZero, blockOf, turned}
+use Rattle.rounds.specs.Fitting.{Fitting}
+use Rattle.rounds.specs.InUnits.{Small, wholes, taken-exact, gathers-exact}
+use Rattle.rounds.specs.Exactness.{Exact, ExactSums}
+use Rattle.rounds.specs.Begun.{begun-rounds}
 use Rattle.walk.specs.Walk.{Walked, walked, taken}
 use Rattle.walk.specs.StepLaws.{stepped-good}
 use Rattle.walk.specs.NoRefusal.{verdictOf, taken-accepted}
-use Rattle.walk.specs.Fitting.{Fitting}
-use Rattle.walk.specs.InUnits.{Small, wholes, taken-exact, gathers-exact}
-use Rattle.walk.specs.Exactness.{Exact, ExactSums}
-use Rattle.walk.specs.Begun.{begun-rounds}
 use Rattle.walk.specs.Stepping.{stepping-sound}
 use Rattle.runs.specs.Summing.{sums-nothing}
 use Rattle.runs.specs.Taken.{pendingAt, mixed}

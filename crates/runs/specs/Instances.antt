@@ -11,8 +11,8 @@ use Rattle.kinds.specs.declared.State.{State}
 use Rattle.kinds.specs.declared.Step.the-variants.{More, Done}
 use Rattle.kinds.specs.declared.Verdict.the-variants.{Good}
 use Rattle.judge.specs.Table.{GivenWhen}
+use Rattle.rounds.specs.Instances.{doubles-fit, singles, singles-fit}
 use Rattle.walk.specs.Walk.{opened, rising, faithfulOf}
-use Rattle.walk.specs.Instances.{doubles-fit, singles, singles-fit}
 use Rattle.runs.specs.Faithful.{FaithfulSum, faithful-promised}
 use Rattle.runs.specs.Runs.{runOf, joined, members}
 use Rattle.runs.specs.AnyRun.{any-run}

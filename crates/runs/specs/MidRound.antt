@@ -21,10 +21,10 @@ use Rattle.lists.specs.Each.{Each, each-take, each-drop}
 use Rattle.kinds.specs.Limits.{Width, exponentOf, blocksOf}
 use Rattle.kinds.specs.States.{stateOf}
 use Rattle.extract.specs.Extract.{plusZero, gathered}
-use Rattle.walk.specs.Round.{blockOf}
-use Rattle.walk.specs.Fitting.{Fitting}
-use Rattle.walk.specs.InUnits.{Small, Tau, wholes, all-ready, gathers, left-small}
-use Rattle.walk.specs.Begun.{Begun, begun-rounds, first-tau, tau-bound}
+use Rattle.rounds.specs.Round.{blockOf}
+use Rattle.rounds.specs.Fitting.{Fitting}
+use Rattle.rounds.specs.InUnits.{Small, Tau, wholes, all-ready, gathers, left-small}
+use Rattle.rounds.specs.Begun.{Begun, begun-rounds, first-tau, tau-bound}
 use Rattle.walk.specs.Stepping.{Stepping}
 use Rattle.runs.specs.CloseUnits.{zero-whole}
 use Rattle.runs.specs.Taken.{pendingAt, mixed, takenOf}

@@ -26,12 +26,12 @@ use Rattle.kinds.specs.declared.Step.the-variants.{More}
 use Rattle.kinds.specs.declared.Verdict.the-variants.{Good, Refused}
 use Rattle.extract.specs.Extract.{plusZero, remainders, gathered}
 use Rattle.sound.specs.Sound.{gated}
-use Rattle.walk.specs.Round.{blockOf, closed}
-use Rattle.walk.specs.Walk.{walked, takenState, stepped}
+use Rattle.rounds.specs.Round.{blockOf, takenState, closed}
+use Rattle.rounds.specs.Fitting.{Fitting}
+use Rattle.rounds.specs.InUnits.{Tau, wholes, all-ready, gathers}
+use Rattle.rounds.specs.Begun.{Begun, first-tau}
+use Rattle.walk.specs.Walk.{walked, stepped}
 use Rattle.walk.specs.StepLaws.{stepped-good, taken-closes, taken-goes}
-use Rattle.walk.specs.Fitting.{Fitting}
-use Rattle.walk.specs.InUnits.{Tau, wholes, all-ready, gathers}
-use Rattle.walk.specs.Begun.{Begun, first-tau}
 use Rattle.walk.specs.Stepping.{stepping-sound, stepping-accepted}
 use Rattle.runs.specs.CloseUnits.{zero-whole}
 use Rattle.runs.specs.Taken.{pendingAt, mixed, takenOf}

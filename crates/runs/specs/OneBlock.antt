@@ -15,7 +15,7 @@ use Rattle.lists.specs.Bitset.{has, without}
 use Rattle.lists.specs.BitsetLaws.{has-without, has-other}
 use Rattle.kinds.specs.Limits.{Width, blocksOf}
 use Rattle.extract.specs.Extract.{remainders}
-use Rattle.walk.specs.Round.{blockOf, turned}
+use Rattle.rounds.specs.Round.{blockOf, turned}
 use Rattle.runs.specs.Taken.{pendingAt, mixed, takenOf}
 use Rattle.runs.specs.TakenLaws.{Over, mixed-join, mixed-agree, mixed-nothing, mixed-all, mixed-length, taken-join, taken-agree, taken-nothing, taken-all}
 

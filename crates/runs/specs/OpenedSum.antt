@@ -27,13 +27,13 @@ use Rattle.judge.specs.Table.{GivenWhen}
 use Rattle.judge.specs.JudgeLaws.{given-when}
 use Rattle.sums.specs.Sums.{sumOf}
 use Rattle.extract.specs.Extract.{plusZero, largest}
-use Rattle.walk.specs.Round.{allZero, sigmaOf, roundOf, fresh}
+use Rattle.rounds.specs.Round.{allZero, sigmaOf, roundOf, fresh}
+use Rattle.rounds.specs.ClosedLaws.{fresh-zero, fresh-round}
+use Rattle.rounds.specs.Fitting.{Fitting}
+use Rattle.rounds.specs.InUnits.{wholes, all-ready}
+use Rattle.rounds.specs.Begun.{Begun}
 use Rattle.walk.specs.Walk.{walked, openedAfter, opened}
 use Rattle.walk.specs.OpeningLaws.{opened-good}
-use Rattle.walk.specs.ClosedLaws.{fresh-zero, fresh-round}
-use Rattle.walk.specs.Fitting.{Fitting}
-use Rattle.walk.specs.InUnits.{wholes, all-ready}
-use Rattle.walk.specs.Begun.{Begun}
 use Rattle.walk.specs.Opening.{opens}
 use Rattle.runs.specs.CloseUnits.{zero-whole}
 use Rattle.runs.specs.Summing.{Summing, all-zero}

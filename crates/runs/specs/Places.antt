@@ -11,7 +11,7 @@ use Rattle.lists.specs.Front.{map-at}
 use Rattle.kinds.specs.Limits.{Width}
 use Rattle.extract.specs.Extract.{remainderOf, remainders}
 use Rattle.extract.specs.ExtractLaws.{remainders-length}
-use Rattle.walk.specs.Round.{blockOf, turned}
+use Rattle.rounds.specs.Round.{blockOf, turned}
 
 module _ (W : Width) (sigma : Float) (b : ℕ) (xs : List Float) (j : ℕ) (inside : j < length xs) where
   -- a place before the block

@@ -25,13 +25,13 @@ use Rattle.judge.specs.Judge.{floats}
 use Rattle.judge.specs.Table.{GivenWhen}
 use Rattle.sums.specs.Sums.{sumOf}
 use Rattle.extract.specs.Extract.{plusZero, remainders, gathered}
-use Rattle.walk.specs.Round.{allZero, blockOf, roundOf, closed}
+use Rattle.rounds.specs.Round.{allZero, blockOf, roundOf, closed}
+use Rattle.rounds.specs.Fitting.{Fitting}
+use Rattle.rounds.specs.Begun.{begun-rounds}
 use Rattle.walk.specs.Walk.{Walked, walked, opened, roundsFrom, stepped, faithfulOf}
 use Rattle.walk.specs.Undivided.{faithful-done}
 use Rattle.sound.specs.Sound.{gated}
 use Rattle.walk.specs.StepLaws.{stepped-refused}
-use Rattle.walk.specs.Fitting.{Fitting}
-use Rattle.walk.specs.Begun.{begun-rounds}
 use Rattle.walk.specs.Run.{Running, run-ends, run-goes}
 use Rattle.runs.specs.Taken.{pendingAt, mixed}
 use Rattle.runs.specs.TakenLaws.{mixed-nothing}

@@ -16,11 +16,11 @@ use Rattle.kinds.specs.declared.Step.{Step}
 use Rattle.kinds.specs.declared.Step.the-variants.{More, Done, Refused}
 use Rattle.extract.specs.Extract.{plusZero, absolute, remainders, gathered}
 use Rattle.extract.specs.LargestLaws.{zero-positive}
-use Rattle.walk.specs.Round.{allZero, sigmaOf, leastNormal, scaled, finished, roundOf, fresh, closed}
+use Rattle.rounds.specs.Round.{allZero, sigmaOf, leastNormal, scaled, finished, roundOf, fresh, closed}
+use Rattle.rounds.specs.Fitting.{Fitting}
+use Rattle.rounds.specs.Closes.{carried}
+use Rattle.rounds.specs.Begun.{begun-rounds}
 use Rattle.walk.specs.Walk.{Walked, walked, roundsFrom}
-use Rattle.walk.specs.Fitting.{Fitting}
-use Rattle.walk.specs.Closes.{carried}
-use Rattle.walk.specs.Begun.{begun-rounds}
 use Rattle.walk.specs.Run.{Running, allTaken, allLeft, all-taken, run-ends, run-goes, run-accepted, run-counted}
 use Rattle.runs.specs.CloseUnits.{zero-whole}
 use Rattle.runs.specs.Summing.{Summing, finished-units, sums-nothing, sums-restart, sums-finish, sums-further}

@@ -27,11 +27,11 @@ use Rattle.kinds.specs.Limits.{Width, exponentOf}
 use Rattle.extract.specs.Extract.{plusZero, absolute, remainders, gathered, largest}
 use Rattle.extract.specs.ExtractLaws.{largest-bounds}
 use Rattle.extract.specs.LargestLaws.{zero-positive, absolute-is}
-use Rattle.walk.specs.Round.{allZero, sigmaOf, leastNormal, scaled, finished}
-use Rattle.walk.specs.Closes.{carried, restarts, further, above, reached, below-normal, above-normal, threshold}
-use Rattle.walk.specs.InUnits.{wholes, all-ready, gathers, remainders-units, remainders-small}
-use Rattle.walk.specs.Fitting.{Fitting}
-use Rattle.walk.specs.Begun.{Begun, first-tau, tau-all}
+use Rattle.rounds.specs.Round.{allZero, sigmaOf, leastNormal, scaled, finished}
+use Rattle.rounds.specs.Closes.{carried, restarts, further, above, reached, below-normal, above-normal, threshold}
+use Rattle.rounds.specs.InUnits.{wholes, all-ready, gathers, remainders-units, remainders-small}
+use Rattle.rounds.specs.Fitting.{Fitting}
+use Rattle.rounds.specs.Begun.{Begun, first-tau, tau-all}
 use Rattle.runs.specs.CloseUnits.{zero-whole, Held, held, last-sum, tau1-units, answer-units}
 
 equals-zero : (f : Format) (x : Float) → Number f x → eq x (plusZero f) ≡ true → whole f x ≈ nat 0

@@ -1,19 +1,12 @@
 // The tests that run: what the library answers on lists and registers made by a generator, one line for each. tests/trial.py says what document 01 asks for.
-mod areas;
-mod contents;
-mod generator;
-mod ladders;
-mod lengths;
-mod lists;
-mod refusals;
-mod registers;
-mod shapes;
-mod states;
-mod text;
-mod walks;
-
-use areas::HELD;
 use kinds::Doubles;
+use samples::areas::HELD;
+use trial_sums::lists;
+use trial_sums::registers;
+use trial_walks::lengths;
+use trial_walks::refusals;
+use trial_walks::states;
+use trial_walks::walks;
 use words::WORDS;
 
 fn main() {

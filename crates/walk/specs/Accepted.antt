@@ -19,12 +19,11 @@ use Rattle.extract.specs.ExtractLaws.{remainders-length}
 use Rattle.sound.specs.Sound.{unitsAt, gated}
 use Rattle.sound.specs.PassedLaws.{Passed, passed}
 use Rattle.sound.specs.SoundLaws.{Within}
-use Rattle.walk.specs.Round.{blockOf, turned}
-use Rattle.walk.specs.Walk.{takenState}
-use Rattle.walk.specs.InUnits.{Small, Scale, remainders-small}
-use Rattle.walk.specs.Closing.{Closing}
-use Rattle.walk.specs.Fitting.{Fitting}
-use Rattle.walk.specs.Opening.{exponent-some}
+use Rattle.rounds.specs.Round.{blockOf, turned, takenState}
+use Rattle.rounds.specs.InUnits.{Small, Scale, remainders-small}
+use Rattle.rounds.specs.Closing.{Closing}
+use Rattle.rounds.specs.Fitting.{Fitting}
+use Rattle.rounds.specs.FreshRound.{exponent-some}
 
 pub passes : {W : Width} (F : Fitting W) (s : State) (b : ℕ) (xs : List Float) → T (fits (W .format) (s .sigma)) → gated W s b xs ≡ Good
     → Passed W (F .top) s b xs

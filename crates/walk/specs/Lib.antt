@@ -1,22 +1,11 @@
 -- The faithful walk.
-pub mod Round
 pub mod Walk
-pub mod Exactness
 pub mod StepLaws
-pub mod InUnits
-pub mod Closing
-pub mod Fitting
 pub mod Stepping
-pub mod Begun
 pub mod OpeningLaws
 pub mod Opening
 pub mod Accepted
 pub mod Rising
-pub mod Closes
 pub mod Run
 pub mod Undivided
-pub mod Instances
-pub mod CutLaws
-pub mod SigmaLaws
-pub mod ClosedLaws
 pub mod NoRefusal

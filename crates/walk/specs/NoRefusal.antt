@@ -12,9 +12,9 @@ use Rattle.kinds.specs.declared.Step.the-variants.{More, Done, Refused}
 use Rattle.kinds.specs.declared.Verdict.{Verdict}
 use Rattle.kinds.specs.declared.Verdict.the-variants as verdicts
 use Rattle.extract.specs.Extract.{plusZero}
-use Rattle.walk.specs.Round.{turned, allZero, fresh, closed}
-use Rattle.walk.specs.Walk.{takenState, taken}
-use Rattle.walk.specs.ClosedLaws.{tau1Of, finishes}
+use Rattle.rounds.specs.Round.{turned, takenState, allZero, fresh, closed}
+use Rattle.rounds.specs.ClosedLaws.{tau1Of, finishes}
+use Rattle.walk.specs.Walk.{taken}
 
 -- the verdict that an answer comes from
 abbrev pub verdictOf : Step → Verdict

@@ -1,72 +1,27 @@
--- A round that takes sigma from the work area, as an opening and a restart do, is one of a run; so is the opening of an allowed list. Assumes nothing.
+-- The opening of an allowed list is a round of a run: its numbers are small, and sigma is taken from them. Assumes nothing.
 use mathlib.Core.Path.{_≡_}
 use mathlib.Core.Bool.{false}
-use mathlib.Core.List.{List, [], _∷_}
-use Prim.Native.Nat.{ℕ, zero, suc, _+_, _-_, _*_, _^_, _≤_, _<_}
+use mathlib.Core.List.{List}
+use Prim.Native.Nat.{ℕ, _-_, _^_, _≤_, _<_}
 use native.Mathlib.Nat.{zero-mul}
 use native.Mathlib.Omega.{arith}
-use borrow.Author.Tests.{eqb-false}
 use lib.ListN.{length, length-map}
-use lib.Ieee.{Float, Format, prec, nan, ofBits}
+use lib.Ieee.{prec, nan, ofBits}
 use Rattle.units.specs.Rounding.{ceil}
-use Rattle.units.specs.Ceiling.{ceil-ge, ceil-least}
-use Rattle.ieee.specs.Units.{magnitude}
-use Rattle.lists.specs.Each.{Each, each-from, each-weaker, each-both}
+use Rattle.units.specs.Ceiling.{ceil-least}
+use Rattle.lists.specs.Each.{Each, each-from, each-weaker}
 use Rattle.kinds.specs.Limits.{Width, exponentOf}
 use Rattle.judge.specs.Judge.{floats}
 use Rattle.judge.specs.Table.{Allowed}
 use Rattle.judge.specs.FirstFaultLaws.{allowed-float, allowed-size}
 use Rattle.extract.specs.Extract.{plusZero, largest}
-use Rattle.extract.specs.ExtractLaws.{largest-bounds, largest-le, largest-none}
-use Rattle.extract.specs.LargestLaws.{zero-positive}
-use Rattle.exponent.specs.Power.{powers}
-use Rattle.exponent.specs.PowerLaws.{power-number, power-negative, power-magnitude}
+use Rattle.extract.specs.ExtractLaws.{largest-le}
 use Rattle.sound.specs.Sound.{unitsAt}
-use Rattle.walk.specs.Round.{allZero, sigmaOf}
-use Rattle.walk.specs.Fitting.{Fitting}
-use Rattle.walk.specs.InUnits.{Small}
-use Rattle.walk.specs.Begun.{Begun}
-
-pub exponent-some : (n : ℕ) → 0 < exponentOf n
-exponent-some n = positive (exponentOf n) (ceil-ge (n + 2))
-  where
-    positive : (M : ℕ) → n + 2 ≤ 2 ^ M → 0 < M
-    positive zero h = absurd (omega arith)
-    positive (suc M) h = omega arith
-
--- ---- "mu is the largest magnitude, e the least whole number with mu at most 2^e, sigma = 2^(M+e), t = +0"
-module _ {W : Width} {F : Fitting W} {n rounds : ℕ} {xs : List Float} (most : ℕ) where
-  pub begins : 1 ≤ n → n ≤ W .length → length xs ≡ n → Each (Small (W .format) most) xs
-      → rounds * (prec (W .format) - exponentOf n) + ceil (largest (W .format) xs) ≤ F .top
-      → Begun W F (ceil (largest (W .format) xs)) n (sigmaOf (W .format) n xs) (plusZero (W .format)) rounds xs
-  begins some few count work lowered = record {
-    some = some;
-    few = few;
-    count = count;
-    lowered = lowered;
-    scale = record {
-      some = exponent-some n;
-      few = omega (arith, M-most, F .half);
-      room = omega (arith, M-most, lowered, F .room);
-      power = record { number = power-number f inside; sign = power-negative f inside; units = power-magnitude f inside };
-    };
-    kept = record { number = zero-positive f .number; within = omega (arith, zero-positive f .units) };
-    work = each-both (Small f most) (λ y. magnitude f y ≤ largest f xs) (Small f (2 ^ ceil (largest f xs)))
-        (λ y Y h. record { number = Y .number; within = omega (arith, ceil-ge (largest f xs)) }) xs work (largest-bounds f xs);
-  }
-    where
-      f : Format
-      f = W .format
-
-      M-most : exponentOf n ≤ F .most
-      M-most = F .most-is n few
-
-      inside : exponentOf n + ceil (largest f xs) < powers f
-      inside = omega (arith, M-most, lowered, F .room)
-
-pub some-left : (f : Format) (xs : List Float) → allZero f xs ≡ false → 1 ≤ length xs
-some-left f [] h = absurd (eqb-false _ 0 h (largest-none f))
-some-left f (x ∷ xs) h = omega arith
+use Rattle.rounds.specs.Round.{allZero, sigmaOf}
+use Rattle.rounds.specs.Fitting.{Fitting}
+use Rattle.rounds.specs.InUnits.{Small}
+use Rattle.rounds.specs.Begun.{Begun}
+use Rattle.rounds.specs.FreshRound.{begins, some-left}
 
 module _ {W : Width} {ps : List ℕ} (A : Allowed W ps) where
   floats-length : length (floats W ps) ≡ length ps

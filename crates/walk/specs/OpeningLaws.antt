@@ -12,7 +12,7 @@ use Rattle.kinds.specs.declared.Step.the-variants.{Refused}
 use Rattle.kinds.specs.declared.Verdict.{Verdict}
 use Rattle.kinds.specs.declared.Verdict.the-variants as verdicts
 use Rattle.judge.specs.Judge.{floats, zeroSign}
-use Rattle.walk.specs.Round.{fresh}
+use Rattle.rounds.specs.Round.{fresh}
 use Rattle.walk.specs.Walk.{walked, openedAfter}
 
 pub opened-refused : (W : Width) (v : Verdict) (k p : ℕ) (ps : List ℕ) (work : List Float) → v ≡ verdicts.Refused k p

@@ -15,15 +15,15 @@ use Rattle.kinds.specs.declared.Step.{Step}
 use Rattle.kinds.specs.declared.Step.the-variants.{More, Done, Refused}
 use Rattle.extract.specs.Extract.{plusZero, remainders, gathered}
 use Rattle.extract.specs.ExtractLaws.{remainders-length}
-use Rattle.walk.specs.Round.{roundOf, closed}
+use Rattle.rounds.specs.Round.{roundOf, closed}
+use Rattle.rounds.specs.InUnits.{Small, remainders-small}
+use Rattle.rounds.specs.Closing.{Closing}
+use Rattle.rounds.specs.Fitting.{Fitting}
+use Rattle.rounds.specs.Begun.{Begun, begun-rounds}
+use Rattle.rounds.specs.Closes.{Next, ends, goes, falls}
 use Rattle.walk.specs.Walk.{Walked, walked, onward, rising, roundsFrom}
 use Rattle.sound.specs.Sound.{unitsAt}
-use Rattle.walk.specs.InUnits.{Small, remainders-small}
-use Rattle.walk.specs.Closing.{Closing}
-use Rattle.walk.specs.Fitting.{Fitting}
-use Rattle.walk.specs.Begun.{Begun, begun-rounds}
 use Rattle.walk.specs.Rising.{round-closes}
-use Rattle.walk.specs.Closes.{Next, ends, goes, falls}
 
 module _ (W : Width) (blocks : ℕ) where
   pub still : (x : Float) (r : ℕ) (ys : List Float) (bs : List ℕ) → foldl (onward W) (walked (Done x r) ys) bs ≡ walked (Done x r) ys

@@ -12,8 +12,8 @@ use Rattle.kinds.specs.declared.Step.{Step}
 use Rattle.kinds.specs.declared.Step.the-variants.{More, Refused}
 use Rattle.kinds.specs.declared.Verdict.{Verdict}
 use Rattle.kinds.specs.declared.Verdict.the-variants as verdicts
-use Rattle.walk.specs.Round.{turned, closed}
-use Rattle.walk.specs.Walk.{walked, takenState, taken, steppedAfter}
+use Rattle.rounds.specs.Round.{turned, takenState, closed}
+use Rattle.walk.specs.Walk.{walked, taken, steppedAfter}
 
 module _ (W : Width) (s : State) (b : ℕ) (work : List Float) where
   pub stepped-refused : (v : Verdict) (k p : ℕ) → v ≡ verdicts.Refused k p → walked (Refused k p) work ≡ steppedAfter W v s b work

@@ -1,13 +1,14 @@
 -- A state of a run, with its work area, is sound: what holds of it, and that the gate lets each pending block pass. Assumes nothing.
-use mathlib.Core.Path.{_≡_, refl}
+use mathlib.Core.Path.{_≡_, refl, _∙_}
 use mathlib.Core.Bool.{true}
-use mathlib.Core.List.{List, [], _∷_}
+use mathlib.Core.List.{List, [], _∷_, _++_}
 use Prim.Native.Nat.{ℕ, _+_, _*_, _^_, _≤_, _<_}
 use native.Mathlib.Nat.{mul-le-mul-left}
 use native.Mathlib.Numerals.{add-one}
 use native.Mathlib.Omega.{arith}
 use borrow.Author.Tests.{eq-eqb, le-leb, lt-ltb, lt-leb}
-use lib.ListN.{length}
+use lib.ListN.{length, take, drop}
+use lib.Seq.{length-front}
 use lib.Pow.{pow-add, pow-mono}
 use lib.Ieee.{Float}
 use lib.Ieee.Bits.{is-true}
@@ -15,13 +16,17 @@ use lib.Ieee.Scale.{finite}
 use Rattle.units.specs.Ceiling.{ceil-power}
 use Rattle.ieee.specs.Units.{magnitude}
 use Rattle.lists.specs.Bitset.{has}
-use Rattle.lists.specs.Each.{Each}
+use Rattle.lists.specs.Each.{Each, each-join, each-take, each-drop}
 use Rattle.kinds.specs.Limits.{Width, exponentOf, blocksOf}
+use Rattle.kinds.specs.States.{stateOf}
 use Rattle.kinds.specs.declared.State.{State}
 use Rattle.kinds.specs.declared.Verdict.the-variants.{Good}
+use Rattle.extract.specs.Extract.{plusZero, remainders, gathered}
+use Rattle.extract.specs.ExtractLaws.{remainders-length}
 use Rattle.sound.specs.Sound.{unitsAt, soundSigma, atMost, soundNumbers, soundPending, badPlace, sound, gated}
-use Rattle.walk.specs.Fitting.{Fitting}
-use Rattle.walk.specs.InUnits.{Small, Scale}
+use Rattle.rounds.specs.Fitting.{Fitting}
+use Rattle.rounds.specs.InUnits.{Small, Scale, remainders-small}
+use Rattle.rounds.specs.Begun.{Begun, begun-rounds, tau-small}
 
 -- what holds of a state of a run and its work area: sigma is 2^(M + e) units, and the work numbers are at most 2^e
 pub record Stepping (W : Width) (F : Fitting W) (e : ℕ) (s : State) (xs : List Float) : Type 0 where
@@ -91,3 +96,23 @@ module _ {W : Width} {F : Fitting W} {e : ℕ} {s : State} {xs : List Float} (I 
   pub stepping-accepted : (b : ℕ) → b < blocksOf W (s .n) → has (s .pending) b ≡ true → gated W s b xs ≡ Good
   unfolding gated
   stepping-accepted b h p = simp (eq-eqb _ _ (I .count), stepping-sound, lt-leb _ _ h, p)
+
+module _ {W : Width} {F : Fitting W} {e n : ℕ} {sigma t : Float} {rounds : ℕ} {xs : List Float} (B : Begun W F e n sigma t rounds xs) where
+  -- of a round that has begun: the state and the work area after the first k numbers, whatever blocks are pending
+  pub stepping : (k P : ℕ) → 0 < P → P < 2 ^ blocksOf W n
+      → Stepping W F e (stateOf n sigma t (gathered (W .format) sigma (plusZero (W .format)) (take k xs)) P rounds)
+      (remainders (W .format) sigma (take k xs) ++ drop k xs)
+  stepping k P l h = record {
+    some = B .some;
+    few = B .few;
+    count = length-front xs (remainders (W .format) sigma (take k xs)) k (remainders-length (W .format) sigma (take k xs)) ∙ B .count;
+    rounds = begun-rounds B;
+    low = omega (arith, B .lowered);
+    scale = B .scale;
+    t = B .kept;
+    tau = tau-small B k;
+    work = each-join (Small (W .format) (2 ^ e)) (remainders (W .format) sigma (take k xs)) (drop k xs)
+        (remainders-small (B .scale) (take k xs) (each-take (Small (W .format) (2 ^ e)) k xs (B .work))) (each-drop (Small (W .format) (2 ^ e)) k xs (B .work));
+    left = l;
+    inside = h;
+  }

@@ -19,9 +19,9 @@ use Rattle.kinds.specs.declared.Verdict.the-variants as verdicts
 use Rattle.judge.specs.Judge.{judged, floats, zeroSign}
 use Rattle.judge.specs.JudgeLaws.{given-when}
 use Rattle.extract.specs.Extract.{plusZero}
-use Rattle.walk.specs.Round.{allZero, sigmaOf, roundOf, fresh}
+use Rattle.rounds.specs.Round.{allZero, sigmaOf, roundOf, fresh}
+use Rattle.rounds.specs.Fitting.{Fitting}
 use Rattle.walk.specs.Walk.{Walked, walked, openedAfter, opened, roundsFrom, faithfulOf}
-use Rattle.walk.specs.Fitting.{Fitting}
 use Rattle.walk.specs.Opening.{opens}
 use Rattle.walk.specs.Run.{Running, run-done, run-refused}
 

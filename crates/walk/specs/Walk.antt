@@ -7,18 +7,15 @@ use lib.IntN.{pos}
 use lib.ListN.{length}
 use lib.Ieee.{Float}
 use Rattle.ieee.specs.Units.{nearestFloat}
-use Rattle.lists.specs.Bitset.{without}
 use Rattle.kinds.specs.Limits.{Width, blocksOf}
-use Rattle.kinds.specs.States.{stateOf}
 use Rattle.kinds.specs.declared.State.{State}
 use Rattle.kinds.specs.declared.Step.{Step}
 use Rattle.kinds.specs.declared.Step.the-variants.{More, Done, Refused}
 use Rattle.kinds.specs.declared.Verdict.{Verdict}
 use Rattle.kinds.specs.declared.Verdict.the-variants as verdicts
 use Rattle.judge.specs.Judge.{judged, floats, zeroSign}
-use Rattle.extract.specs.Extract.{gathered}
 use Rattle.sound.specs.Sound.{gated}
-use Rattle.walk.specs.Round.{turned, blockOf, fresh, closed}
+use Rattle.rounds.specs.Round.{turned, takenState, fresh, closed}
 
 -- the answer, and the work area afterwards
 pub record Walked : Type 0 where
@@ -41,10 +38,6 @@ abbrev pub opened : Width → List ℕ → List Float → Walked
 opened W ps work = openedAfter W (judged W (eqb (length work) (length ps)) true ps) ps work
 
 -- ---- a step of an accepted block: its numbers become their remainders, tau gathers them, and after the last pending block the round closes
-abbrev pub takenState : Width → State → ℕ → List Float → State
-takenState W s b work =
-    stateOf (s .n) (s .sigma) (s .t) (gathered (W .format) (s .sigma) (s .tau) (blockOf W b work)) (without (s .pending) b) (s .rounds)
-
 unfoldable pub taken : Width → State → ℕ → List Float → Walked
 taken W s b work =
     let next = takenState W s b work in

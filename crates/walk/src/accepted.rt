@@ -1,8 +1,8 @@
 // A block that the gate let pass.
-use crate::close;
-use crate::round;
 use kinds::State;
 use kinds::Step;
+use rounds::close;
+use rounds::round;
 ghost use mathlib.Core.Path.{_≡_};
 ghost use Rattle.kinds.specs.Limits.{doubles};
 ghost use Rattle.kinds.specs.declared.Verdict.the-variants.{Good};

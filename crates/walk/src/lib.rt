@@ -4,9 +4,7 @@ use kinds::Step;
 use kinds::Verdict;
 
 mod accepted;
-mod close;
 mod opening;
-mod round;
 mod run;
 
 ghost use mathlib.Core.Path.{_≡_};

@@ -1,18 +1,14 @@
-// How a walk opens, and how it starts afresh.
-use crate::round;
+// How a walk opens.
 use kinds::Step;
+use rounds::fresh::fresh;
 ghost use mathlib.Core.Path.{_≡_};
 ghost use Prim.Native.Nat.{_≤_};
 ghost use lib.IntN.{pos};
 ghost use lib.ListN.{length};
 ghost use Rattle.ieee.specs.Units.{nearestFloat};
-ghost use Rattle.lists.specs.Each.{Each};
 ghost use Rattle.kinds.specs.Limits.{doubles};
 ghost use Rattle.kinds.specs.declared.Verdict.the-variants.{Good};
 ghost use Rattle.judge.specs.Judge.{firstFault};
-ghost use Rattle.sound.specs.Sound.{unitsAt};
-ghost use Rattle.walk.specs.InUnits.{Small};
-ghost use Rattle.walk.specs.Round.{fresh};
 ghost use Rattle.walk.specs.Walk.{walked, openedAfter};
 
 // The zero of a sign. `judge::zero_sign` is the one definition of which zero a list with exact sum zero answers, here and in the nearest sum; document 01
@@ -21,20 +17,6 @@ fn zero(negative: bool) -> f64
     ensures { λ r. ⌜ r ≡ nearestFloat (doubles .format) negative (pos 0) ⌝ }
 {
     if negative { -0.0 } else { 0.0 }
-}
-
-// "mu is the largest magnitude, e the least whole number with mu at most 2^e, sigma = 2^(M+e), t = +0": at an opening and at a restart alike. Where every
-// number is zero the answer is `zero`.
-pub fn fresh(zero: f64, n: usize, work: &[f64], rounds: u32) -> Step
-    requires { ⌜ (length (now work) ≡ n) × (n ≤ doubles .length) × Each (Small (doubles .format) (unitsAt doubles (doubles .magnitude))) (now work) ⌝ }
-    ensures { λ r. ⌜ r ≡ fresh doubles zero n (now (work .entry)) rounds ⌝ }
-{
-    let mu = extract::largest(work);
-    if mu == 0.0 {
-        return Step::Done(zero, rounds);
-    }
-    let sigma = round::sigma(n, mu);
-    Step::More(round::begin(n, sigma, 0.0, rounds))
 }
 
 // "Opening copies the list to the work area". Of an allowed list only, as the copy asks.

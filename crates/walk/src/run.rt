@@ -1,14 +1,14 @@
 // The undivided run: rounds with their blocks in rising order, over a core that doesn't look at soundness again.
-use crate::close;
-use crate::round;
 use kinds::State;
 use kinds::Step;
+use rounds::close;
+use rounds::round;
 ghost use mathlib.Core.Path.{_≡_};
 ghost use Prim.Native.Nat.{suc, _-_};
 ghost use Rattle.kinds.specs.Limits.{doubles, blocksOf};
 ghost use Rattle.kinds.specs.declared.Step.the-variants.{More};
+ghost use Rattle.rounds.specs.Instances.{doubles-fit};
 ghost use Rattle.walk.specs.Walk.{walked, roundsFrom};
-ghost use Rattle.walk.specs.Instances.{doubles-fit};
 ghost use Rattle.walk.specs.Run.{Running};
 
 // Rounds from a state that opens one of a run, until the walk ends. It ends since each round lowers sigma: no budget of rounds is in the code.

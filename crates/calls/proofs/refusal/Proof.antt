@@ -17,10 +17,14 @@ add-result-2 : tie.Need-add-result-2
 add-result-2 c = search needs
 
 returns : tie.Need-returns
-returns c = let a = c .before .args in ap (λ (n : ℕ). a .number + n) (sym (code-told (c .before .pre) (c .if1 .taken)))
+returns c =
+    let start = c .before in
+    let a = start .args in ap (λ (n : ℕ). a .number + n) (sym (code-told (start .pre) (c .if1 .taken)))
 
 returns-2 : tie.Need-returns-2
-returns-2 c = let a = c .before .args in sym (add-zero (a .number)) ∙ ap (λ (n : ℕ). a .number + n) (sym (code-silent (c .before .pre) (c .if1 .left)))
+returns-2 c =
+    let start = c .before in
+    let a = start .args in sym (add-zero (a .number)) ∙ ap (λ (n : ℕ). a .number + n) (sym (code-silent (start .pre) (c .if1 .left)))
 
 pub refusal-spec : {M : Type 1} → statement M
 refusal-spec = tie.close (tie.spec add-result mul-result add-result-2 returns returns-2)

@@ -16,14 +16,19 @@ same-length c = search needs
 
 returns : tie.Need-returns
 returns c =
-    let a = c .before .before .before .before .before .args in
-    let e = c .before .lengths .ensures in
+    let after-lengths = c .before in
+    let start = after-lengths .before .before .before .before in
+    let a = start .args in
+    let e = after-lengths .lengths .ensures in
     ap (λ (n : ℕ). called n (a .out .now)) e ∙ sym (sum-refused sumHeard (a .list .now) (a .out .now) (λ z. c .if1 .taken (e ∙ z)))
 
 sum-requires : tie.Need-sum-requires
 sum-requires c κs =
-    let a = c .before .before .before .before .before .before .args in
-    let e = sym (c .before .before .lengths .ensures) ∙ c .before .if1 .left in
+    let after-if1 = c .before in
+    let after-lengths = after-if1 .before in
+    let start = after-lengths .before .before .before .before in
+    let a = start .args in
+    let e = sym (after-lengths .lengths .ensures) ∙ after-if1 .if1 .left in
     (fitting (length (a .list .now)) (length (a .out .now)) e, sixteen (length (a .list .now)) (length (a .out .now)) e)
 
 same-length-2 : tie.Need-same-length-2
@@ -31,8 +36,12 @@ same-length-2 c = search needs
 
 returns-2 : tie.Need-returns-2
 returns-2 c =
-    let a = c .before .before .before .before .before .before .before .before .before .args in
-    c .before .before .sum .ensures ∙ sym (sum-summed sumHeard (a .list .now) (a .out .now) (sym (c .before .before .before .before .before .lengths .ensures) ∙ c .before .before .before .before .if1 .left))
+    let after-sum = c .before .before in
+    let after-if1 = after-sum .before .before in
+    let after-lengths = after-if1 .before in
+    let start = after-lengths .before .before .before .before in
+    let a = start .args in
+    after-sum .sum .ensures ∙ sym (sum-summed sumHeard (a .list .now) (a .out .now) (sym (after-lengths .lengths .ensures) ∙ after-if1 .if1 .left))
 
 pub kewohiata-nearest-spec : {M : Type 1} → statement M
 kewohiata-nearest-spec =

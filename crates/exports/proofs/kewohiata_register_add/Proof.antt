@@ -10,7 +10,8 @@ use Rattle.exports.proofs.kewohiata_register_add.Tie as tie
 
 returns : tie.Need-returns
 returns c =
-    let a = c .before .before .args in
+    let start = c .before .before in
+    let a = start .args in
     sym (register-refused (λ (ws : List ℕ). added ws (a .pattern)) (a .register .now) (c .if1 .taken))
 
 add-requires : tie.Need-add-requires
@@ -21,8 +22,11 @@ same-length c = search needs
 
 returns-2 : tie.Need-returns-2
 returns-2 c =
-    let a = c .before .before .before .before .before .before .args in
-    c .before .before .add .ensures ∙ sym (register-registered (λ (ws : List ℕ). added ws (a .pattern)) (a .register .now) (c .before .before .before .before .if1 .left))
+    let after-add = c .before .before in
+    let after-if1 = after-add .before .before in
+    let start = after-if1 .before .before in
+    let a = start .args in
+    after-add .add .ensures ∙ sym (register-registered (λ (ws : List ℕ). added ws (a .pattern)) (a .register .now) (after-if1 .if1 .left))
 
 pub kewohiata-register-add-spec : {M : Type 1} → statement M
 kewohiata-register-add-spec = tie.close (tie.spec returns add-requires same-length returns-2)

@@ -10,7 +10,8 @@ use Rattle.exports.proofs.kewohiata_register_withdraw.Tie as tie
 
 returns : tie.Need-returns
 returns c =
-    let a = c .before .before .args in
+    let start = c .before .before in
+    let a = start .args in
     sym (register-refused (λ (ws : List ℕ). withdrawn ws (a .pattern)) (a .register .now) (c .if1 .taken))
 
 withdraw-requires : tie.Need-withdraw-requires
@@ -21,8 +22,11 @@ same-length c = search needs
 
 returns-2 : tie.Need-returns-2
 returns-2 c =
-    let a = c .before .before .before .before .before .before .args in
-    c .before .before .withdraw .ensures ∙ sym (register-registered (λ (ws : List ℕ). withdrawn ws (a .pattern)) (a .register .now) (c .before .before .before .before .if1 .left))
+    let after-withdraw = c .before .before in
+    let after-if1 = after-withdraw .before .before in
+    let start = after-if1 .before .before in
+    let a = start .args in
+    after-withdraw .withdraw .ensures ∙ sym (register-registered (λ (ws : List ℕ). withdrawn ws (a .pattern)) (a .register .now) (after-if1 .if1 .left))
 
 pub kewohiata-register-withdraw-spec : {M : Type 1} → statement M
 kewohiata-register-withdraw-spec =

@@ -20,8 +20,11 @@ enum-known-x c = search needs
 
 float-to-bits-answer : tie.Need-float-to-bits-answer
 float-to-bits-answer c =
-    let a = c .before .before .before .before .before .before .before .before .before .before .args in
-    faithful-no-nan (a .numbers .now) (a .work .now) (sym (ap (λ (w : Walked). w .answer) (c .before .before .before .before .before .faithful .ensures)) ∙ c .before .x .given .1)
+    let after-x = c .before in
+    let after-faithful = after-x .before .before .before .before in
+    let start = after-faithful .before .before .before .before .before in
+    let a = start .args in
+    faithful-no-nan (a .numbers .now) (a .work .now) (sym (ap (λ (w : Walked). w .answer) (after-faithful .faithful .ensures)) ∙ after-x .x .given .1)
 
 cast-answer : tie.Need-cast-answer
 cast-answer c = search needs
@@ -34,8 +37,12 @@ enum-known-number c = search needs
 
 refusal-requires : tie.Need-refusal-requires
 refusal-requires c κs =
-    let a = c .before .before .before .before .before .before .before .before .before .before .args in
-    faithful-told (a .numbers .now) (a .work .now) _ _ (sym (ap (λ (w : Walked). w .answer) (c .before .before .before .before .before .faithful .ensures)) ∙ c .before .number .given .1)
+    let after-number = c .before in
+    let after-faithful = after-number .before .before .before .before in
+    let start = after-faithful .before .before .before .before .before in
+    let a = start .args in
+    let e = sym (ap (λ (w : Walked). w .answer) (after-faithful .faithful .ensures)) ∙ after-number .number .given .1 in
+    faithful-told (a .numbers .now) (a .work .now) _ _ e
 
 enum-told : tie.Need-enum-told
 enum-told c = search needs
@@ -48,18 +55,27 @@ same-length-2 c = search needs
 
 returns : tie.Need-returns
 returns c =
-    let a = c .before .before .before .before .before .before .before .before .before .before .before .before .before .before .args in
-    let e = sym (ap (λ (w : Walked). w .answer) (c .before .before .before .before .before .before .before .before .before .faithful .ensures)) ∙ c .before .before .before .before .before .x .given .1 in
-    ap (called 0) (c .before .before .answer .ensures) ∙ sym (answered-done (a .out .now) [] _ _) ∙ ap (λ (x : Heard). answered x (a .out .now) []) (sym (ap stepHeard e))
+    let after-answer = c .before .before in
+    let after-x = after-answer .before .before .before in
+    let after-faithful = after-x .before .before .before .before in
+    let start = after-faithful .before .before .before .before .before in
+    let a = start .args in
+    let e = sym (ap (λ (w : Walked). w .answer) (after-faithful .faithful .ensures)) ∙ after-x .x .given .1 in
+    ap (called 0) (after-answer .answer .ensures)
+    ∙ sym (answered-done (a .out .now) [] _ _) ∙ ap (λ (x : Heard). answered x (a .out .now) []) (sym (ap stepHeard e))
 
 same-length-3 : tie.Need-same-length-3
 same-length-3 c = search needs
 
 returns-2 : tie.Need-returns-2
 returns-2 c =
-    let a = c .before .before .before .before .before .before .before .before .before .before .before .args in
-    let e = sym (ap (λ (w : Walked). w .answer) (c .before .before .before .before .before .before .faithful .ensures)) ∙ c .before .before .number .given .1 in
-    ap (λ (n : ℕ). called n (a .out .now)) (c .refusal .ensures) ∙ sym (answered-refused (a .out .now) [] (c .before .before .number .given .0 .0) (c .before .before .number .given .0 .1 .0))
+    let after-number = c .before .before in
+    let after-faithful = after-number .before .before .before .before in
+    let start = after-faithful .before .before .before .before .before in
+    let a = start .args in
+    let e = sym (ap (λ (w : Walked). w .answer) (after-faithful .faithful .ensures)) ∙ after-number .number .given .1 in
+    ap (λ (n : ℕ). called n (a .out .now)) (c .refusal .ensures)
+    ∙ sym (answered-refused (a .out .now) [] (after-number .number .given .0 .0) (after-number .number .given .0 .1 .0))
     ∙ ap (λ (x : Heard). answered x (a .out .now) []) (sym (ap stepHeard e))
 
 same-length-4 : tie.Need-same-length-4
@@ -67,8 +83,11 @@ same-length-4 c = search needs
 
 returns-3 : tie.Need-returns-3
 returns-3 c =
-    let a = c .before .before .before .before .before .before .before .before .before .args in
-    absurd (faithful-not-more (a .numbers .now) (a .work .now) _ (sym (ap (λ (w : Walked). w .answer) (c .before .before .before .before .faithful .ensures)) ∙ c .enum-told .given .1))
+    let after-faithful = c .before .before .before .before in
+    let start = after-faithful .before .before .before .before .before in
+    let a = start .args in
+    let e = sym (ap (λ (w : Walked). w .answer) (after-faithful .faithful .ensures)) ∙ c .enum-told .given .1 in
+    absurd (faithful-not-more (a .numbers .now) (a .work .now) _ e)
 
 pub answer-spec : {M : Type 1} → statement M
 answer-spec =

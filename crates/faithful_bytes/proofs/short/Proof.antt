@@ -17,13 +17,16 @@ array-borrow-prefix-work : tie.Need-array-borrow-prefix-work
 array-borrow-prefix-work c = search needs
 
 slice-aggregate-within-2 : tie.Need-slice-aggregate-within-2
-slice-aggregate-within-2 c = sym (front-length (c .before .before .before .before .pre .0) (ofBits binary64 0))
+slice-aggregate-within-2 c =
+    let start = c .before .before .before .before in
+    sym (front-length (start .pre .0) (ofBits binary64 0))
 
 within-requires : tie.Need-within-requires
 within-requires c κs =
-    let f = c .before .before .before .before .before .pre .0 in
+    let start = c .before .before .before .before .before in
+    let f = start .pre .0 in
     let l = front-length {A = ℕ} f 0 in
-    (f .whole ∙ rw l, own-front _ 64 (f .few) ∙ rw l, c .before .before .before .before .before .pre .1)
+    (f .whole ∙ rw l, own-front _ 64 (f .few) ∙ rw l, start .pre .1)
 
 same-length : tie.Need-same-length
 same-length c = search needs

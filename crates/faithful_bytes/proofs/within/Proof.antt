@@ -23,9 +23,12 @@ same-length-3 c = search needs
 
 returns : tie.Need-returns
 returns c =
-    let a = c .before .before .before .before .before .before .before .before .before .before .before .before .before .before .before .before .args in
-    c .before .before .before .before .answer .ensures
-    ∙ faithful-within (a .list .now) _ (a .out .now) (a .work .now) (length (a .numbers .now)) (c .before .before .before .before .before .before .before .before .before .before .before .before .before .before .before .before .pre .0) (c .before .before .before .before .before .before .before .before .before .before .unpack .ensures) (c .before .before .before .before .before .before .before .before .before .before .before .before .before .before .before .before .pre .1)
+    let after-answer = c .before .before .before .before in
+    let after-unpack = after-answer .before .before .before .before .before .before in
+    let start = after-unpack .before .before .before .before .before .before in
+    let a = start .args in
+    after-answer .answer .ensures
+    ∙ faithful-within (a .list .now) _ (a .out .now) (a .work .now) (length (a .numbers .now)) (start .pre .0) (after-unpack .unpack .ensures) (start .pre .1)
 
 pub within-spec : {M : Type 1} → statement M
 within-spec =

@@ -18,7 +18,11 @@ enum-known-x : tie.Need-enum-known-x
 enum-known-x c = search needs
 
 float-to-bits-answer : tie.Need-float-to-bits-answer
-float-to-bits-answer c = nearest-no-nan (c .before .before .before .before .before .before .args .numbers .now) (sym (c .before .before .before .nearest .ensures) ∙ c .before .x .given .1)
+float-to-bits-answer c =
+    let after-x = c .before in
+    let after-nearest = after-x .before .before in
+    let start = after-nearest .before .before .before in
+    nearest-no-nan (start .args .numbers .now) (sym (after-nearest .nearest .ensures) ∙ after-x .x .given .1)
 
 answer-requires : tie.Need-answer-requires
 answer-requires c κs = search needs
@@ -27,22 +31,35 @@ enum-known-number : tie.Need-enum-known-number
 enum-known-number c = search needs
 
 refusal-requires : tie.Need-refusal-requires
-refusal-requires c κs = nearest-told (c .before .before .before .before .before .before .args .numbers .now) _ _ (sym (c .before .before .before .nearest .ensures) ∙ c .before .number .given .1)
+refusal-requires c κs =
+    let after-number = c .before in
+    let after-nearest = after-number .before .before in
+    let start = after-nearest .before .before .before in
+    nearest-told (start .args .numbers .now) _ _ (sym (after-nearest .nearest .ensures) ∙ after-number .number .given .1)
 
 same-length : tie.Need-same-length
 same-length c = search needs
 
 returns : tie.Need-returns
 returns c =
-    let a = c .before .before .before .before .before .before .before .before .before .before .args in
-    let e = sym (c .before .before .before .before .before .before .before .nearest .ensures) ∙ c .before .before .before .before .before .x .given .1 in
-    ap (called 0) (c .before .before .answer .ensures) ∙ sym (answered-nearest (a .out .now) [] _) ∙ ap (λ (x : Heard). answered x (a .out .now) []) (sym (ap nearestHeard e))
+    let after-answer = c .before .before in
+    let after-x = after-answer .before .before .before in
+    let after-nearest = after-x .before .before in
+    let start = after-nearest .before .before .before in
+    let a = start .args in
+    let e = sym (after-nearest .nearest .ensures) ∙ after-x .x .given .1 in
+    ap (called 0) (after-answer .answer .ensures)
+    ∙ sym (answered-nearest (a .out .now) [] _) ∙ ap (λ (x : Heard). answered x (a .out .now) []) (sym (ap nearestHeard e))
 
 returns-2 : tie.Need-returns-2
 returns-2 c =
-    let a = c .before .before .before .before .before .before .before .args in
-    let e = sym (c .before .before .before .before .nearest .ensures) ∙ c .before .before .number .given .1 in
-    ap (λ (n : ℕ). called n (a .out .now)) (c .refusal .ensures) ∙ sym (answered-refused (a .out .now) [] (c .before .before .number .given .0 .0) (c .before .before .number .given .0 .1 .0))
+    let after-number = c .before .before in
+    let after-nearest = after-number .before .before in
+    let start = after-nearest .before .before .before in
+    let a = start .args in
+    let e = sym (after-nearest .nearest .ensures) ∙ after-number .number .given .1 in
+    ap (λ (n : ℕ). called n (a .out .now)) (c .refusal .ensures)
+    ∙ sym (answered-refused (a .out .now) [] (after-number .number .given .0 .0) (after-number .number .given .0 .1 .0))
     ∙ ap (λ (x : Heard). answered x (a .out .now) []) (sym (ap nearestHeard e))
 
 pub answer-spec : {M : Type 1} → statement M

@@ -14,8 +14,9 @@ slice-aggregate-within c = sym (front-length (c .before .before .before .pre .0)
 
 within-requires : tie.Need-within-requires
 within-requires c κs =
-    let f = c .before .before .before .before .pre .0 in
-    (f .whole ∙ rw (front-length {A = ℕ} f 0), c .before .before .before .before .pre .1)
+    let start = c .before .before .before .before in
+    let f = start .pre .0 in
+    (f .whole ∙ rw (front-length {A = ℕ} f 0), start .pre .1)
 
 same-length : tie.Need-same-length
 same-length c = search needs

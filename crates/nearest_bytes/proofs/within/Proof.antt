@@ -20,8 +20,11 @@ same-length-2 c = search needs
 
 returns : tie.Need-returns
 returns c =
-    let a = c .before .before .before .before .before .before .before .before .before .before .before .before .args in
-    c .before .before .answer .ensures ∙ nearest-within (a .list .now) _ (a .out .now) (length (a .numbers .now)) (c .before .before .before .before .before .before .before .before .before .before .before .before .pre .0) (c .before .before .before .before .before .before .before .unpack .ensures)
+    let after-answer = c .before .before in
+    let after-unpack = after-answer .before .before .before .before .before in
+    let start = after-unpack .before .before .before .before .before in
+    let a = start .args in
+    after-answer .answer .ensures ∙ nearest-within (a .list .now) _ (a .out .now) (length (a .numbers .now)) (start .pre .0) (after-unpack .unpack .ensures)
 
 pub within-spec : {M : Type 1} → statement M
 within-spec =

@@ -1,7 +1,7 @@
 -- `walk::faithful` meets its contract: the run from the opening's state, and any other answer is the opening's. Assumes nothing.
 use mathlib.Core.Path.{_∙_}
 use borrow.Author.Needs.{needs}
-use Rattle.walk.specs.Instances.{doubles-fit}
+use Rattle.rounds.specs.Instances.{doubles-fit}
 use Rattle.walk.specs.Undivided.{faithful-done, faithful-refused, faithful-running, faithful-more}
 use Rattle.walk.proofs.faithful.Statement.{statement}
 use Rattle.walk.proofs.faithful.Tie as tie

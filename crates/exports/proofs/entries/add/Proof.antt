@@ -27,17 +27,23 @@ slice-aggregate-written : tie.Need-slice-aggregate-written
 slice-aggregate-written c = search needs
 
 written-requires : tie.Need-written-requires
-written-requires c κs = (subst EntryTold (sym (ap (λ (e : Entered). e .answer) (c .before .before .before .add .ensures))) (entry-told _ _ _), search needs, search needs)
+written-requires c κs =
+    let answered = ap (λ (e : Entered). e .answer) (c .before .before .before .add .ensures) in
+    (subst EntryTold (sym answered) (entry-told _ _ _), search needs, search needs)
 
 same-length : tie.Need-same-length
 same-length c = search needs
 
 returns : tie.Need-returns
 returns c =
-    let a = c .before .before .before .before .before .before .before .before .before .before .before .before .before .args in
-    c .before .before .written .ensures
+    let after-written = c .before .before in
+    let after-add = after-written .before .before .before .before in
+    let after-unpack = after-add .before .before .before in
+    let start = after-unpack .before .before .before .before in
+    let a = start .args in
+    after-written .written .ensures
     ∙ ap (λ (e : Entered). answered (entryHeard (e .answer)) (a .register .now) (e .words))
-    (c .before .before .before .before .before .before .add .ensures ∙ ap (λ (ws : List ℕ). added ws (a .pattern)) (c .before .before .before .before .before .before .before .before .before .unpack .ensures))
+    (after-add .add .ensures ∙ ap (λ (ws : List ℕ). added ws (a .pattern)) (after-unpack .unpack .ensures))
 
 pub add-spec : {M : Type 1} → statement M
 add-spec =

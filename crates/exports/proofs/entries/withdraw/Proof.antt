@@ -27,17 +27,23 @@ slice-aggregate-written : tie.Need-slice-aggregate-written
 slice-aggregate-written c = search needs
 
 written-requires : tie.Need-written-requires
-written-requires c κs = (subst EntryTold (sym (ap (λ (e : Entered). e .answer) (c .before .before .before .withdraw .ensures))) (entry-told _ _ _), search needs, search needs)
+written-requires c κs =
+    let answered = ap (λ (e : Entered). e .answer) (c .before .before .before .withdraw .ensures) in
+    (subst EntryTold (sym answered) (entry-told _ _ _), search needs, search needs)
 
 same-length : tie.Need-same-length
 same-length c = search needs
 
 returns : tie.Need-returns
 returns c =
-    let a = c .before .before .before .before .before .before .before .before .before .before .before .before .before .args in
-    c .before .before .written .ensures
+    let after-written = c .before .before in
+    let after-withdraw = after-written .before .before .before .before in
+    let after-unpack = after-withdraw .before .before .before in
+    let start = after-unpack .before .before .before .before in
+    let a = start .args in
+    after-written .written .ensures
     ∙ ap (λ (e : Entered). answered (entryHeard (e .answer)) (a .register .now) (e .words))
-    (c .before .before .before .before .before .before .withdraw .ensures ∙ ap (λ (ws : List ℕ). withdrawn ws (a .pattern)) (c .before .before .before .before .before .before .before .before .before .unpack .ensures))
+    (after-withdraw .withdraw .ensures ∙ ap (λ (ws : List ℕ). withdrawn ws (a .pattern)) (after-unpack .unpack .ensures))
 
 pub withdraw-spec : {M : Type 1} → statement M
 withdraw-spec =

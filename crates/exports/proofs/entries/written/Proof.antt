@@ -20,23 +20,31 @@ enum-known-entry : tie.Need-enum-known-entry
 enum-known-entry c = search needs
 
 refusal-requires : tie.Need-refusal-requires
-refusal-requires c κs = subst EntryTold (c .before .entry .given .1) (c .before .before .before .before .before .pre .0)
+refusal-requires c κs =
+    let after-entry = c .before in
+    let start = after-entry .before .before .before .before in
+    subst EntryTold (after-entry .entry .given .1) (start .pre .0)
 
 same-length : tie.Need-same-length
 same-length c = search needs
 
 returns : tie.Need-returns
 returns c =
-    let a = c .before .before .before .before .before .before .before .before .args in
-    ap (called 0) (c .before .before .pack .ensures) ∙ sym (answered-accepted (a .register .now) (a .words .now))
-    ∙ ap (λ (e : Entry). answered (entryHeard e) (a .register .now) (a .words .now)) (sym (c .before .before .before .before .enum-told .given .1))
+    let after-pack = c .before .before in
+    let after-enum-told = after-pack .before .before in
+    let start = after-enum-told .before .before .before .before in
+    let a = start .args in
+    ap (called 0) (after-pack .pack .ensures) ∙ sym (answered-accepted (a .register .now) (a .words .now))
+    ∙ ap (λ (e : Entry). answered (entryHeard e) (a .register .now) (a .words .now)) (sym (after-enum-told .enum-told .given .1))
 
 returns-2 : tie.Need-returns-2
 returns-2 c =
-    let a = c .before .before .before .before .before .before .args in
+    let after-entry = c .before .before in
+    let start = after-entry .before .before .before .before in
+    let a = start .args in
     ap (λ (n : ℕ). called n (a .register .now)) (c .refusal .ensures)
-    ∙ sym (answered-refused (a .register .now) (a .words .now) (c .before .before .entry .given .0 .0) (c .before .before .entry .given .0 .1 .0))
-    ∙ ap (λ (e : Entry). answered (entryHeard e) (a .register .now) (a .words .now)) (sym (c .before .before .entry .given .1))
+    ∙ sym (answered-refused (a .register .now) (a .words .now) (after-entry .entry .given .0 .0) (after-entry .entry .given .0 .1 .0))
+    ∙ ap (λ (e : Entry). answered (entryHeard e) (a .register .now) (a .words .now)) (sym (after-entry .entry .given .1))
 
 pub written-spec : {M : Type 1} → statement M
 written-spec =

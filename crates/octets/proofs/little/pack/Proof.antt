@@ -46,7 +46,8 @@ loop-again c =
     let i = l .loop .i in (
       search needs,
       omega arith,
-      c .before .before .write .ensures ∙ rw (l .loop .inv .2) (joined-next (littleEndian 8) (little-length 8) (a .numbers .now) (a .bytes .now) i (omega arith)),
+      c .before .before .write .ensures
+          ∙ rw (l .loop .inv .2) (joined-next (littleEndian 8) (little-length 8) (a .numbers .now) (a .bytes .now) i (omega arith)),
     )
 
 same-length : tie.Need-same-length Inv-loop μ-loop

@@ -6,7 +6,7 @@ use lib.Ieee.{nan, binary64, fits}
 use Rattle.lists.specs.Each.{Each, each-from}
 use Rattle.kinds.specs.Limits.{doubles}
 use Rattle.sound.specs.PassedLaws.{Passed}
-use Rattle.walk.specs.Instances.{doubles-fit}
+use Rattle.rounds.specs.Instances.{doubles-fit}
 use Rattle.walk.specs.Accepted.{passes, accepted-closing}
 use Rattle.walk.specs.StepLaws.{taken-closes, taken-goes}
 use Rattle.walk.proofs.accepted.accepted.Statement.{statement}

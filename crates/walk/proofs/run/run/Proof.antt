@@ -7,8 +7,8 @@ use lib.ListN.{length}
 use Rattle.kinds.specs.Limits.{doubles, blocksOf}
 use Rattle.kinds.specs.declared.Step.the-variants.{More}
 use Rattle.extract.specs.ExtractLaws.{remainders-length}
+use Rattle.rounds.specs.Instances.{doubles-fit}
 use Rattle.walk.specs.Walk.{walked, roundsFrom}
-use Rattle.walk.specs.Instances.{doubles-fit}
 use Rattle.walk.specs.Run.{Running, walk-closing, walk-ends, walk-accepted, walk-goes, walk-running, walk-lower}
 use Rattle.walk.proofs.run.run.Statement.{statement}
 use Rattle.walk.proofs.run.run.Tie as tie

@@ -1,0 +1,14 @@
+-- One round of the faithful walk.
+pub mod Round
+pub mod Exactness
+pub mod Closing
+pub mod Fitting
+pub mod InUnits
+pub mod Begun
+pub mod FreshRound
+pub mod Blocks
+pub mod Closes
+pub mod Instances
+pub mod CutLaws
+pub mod SigmaLaws
+pub mod ClosedLaws

@@ -1,0 +1,73 @@
+-- One round of the faithful walk: the blocks, sigma, how a round opens, and the four rules of its close. Definitions only.
+-- Each operation is one rounded operation of the format.
+use mathlib.Core.Bool.{Bool, cond, _||_}
+use mathlib.Core.List.{List, _++_}
+use Prim.Native.Nat.{ℕ, _+_, _-_, _*_}
+use lib.Dec.{eqb}
+use lib.ListN.{take, drop}
+use lib.Ieee.{Float, Format, prec, low, hid, ofBits, add, sub, mul, le, eq}
+use Rattle.units.specs.Rounding.{ceil}
+use Rattle.lists.specs.Bitset.{without, full}
+use Rattle.kinds.specs.Limits.{Width, exponentOf, blocksOf}
+use Rattle.kinds.specs.States.{stateOf}
+use Rattle.kinds.specs.declared.State.{State}
+use Rattle.kinds.specs.declared.Step.{Step}
+use Rattle.kinds.specs.declared.Step.the-variants.{More, Done}
+use Rattle.extract.specs.Extract.{plusZero, remainders, gathered, lastSum, absolute, largest}
+use Rattle.exponent.specs.Power.{powerOf}
+
+-- "Block b covers places 64b to 64b+63, cut at n."
+abbrev pub blockOf : Width → ℕ → List Float → List Float
+blockOf W b xs = take (W .block) (drop (W .block * b) xs)
+
+-- block b turned into its remainders, and no other place
+unfoldable pub turned : Width → Float → ℕ → List Float → List Float
+turned W sigma b xs = take (W .block * b) xs ++ (remainders (W .format) sigma (blockOf W b xs) ++ drop (W .block * b + W .block) xs)
+
+-- the state after block b: tau has gathered its numbers, and it is pending no more
+abbrev pub takenState : Width → State → ℕ → List Float → State
+takenState W s b work =
+    stateOf (s .n) (s .sigma) (s .t) (gathered (W .format) (s .sigma) (s .tau) (blockOf W b work)) (without (s .pending) b) (s .rounds)
+
+-- ---- "mu is the largest magnitude, e the least whole number with mu at most 2^e, sigma = 2^(M+e)"; mu and 2^e in units
+abbrev pub allZero : Format → List Float → Bool
+allZero f xs = eqb (largest f xs) 0
+
+abbrev pub sigmaOf : Format → ℕ → List Float → Float
+sigmaOf f n xs = powerOf f (exponentOf n + ceil (largest f xs))
+
+-- "a new round opens with tau = +0 and all blocks pending"
+unfoldable pub roundOf : Width → ℕ → Float → Float → ℕ → State
+roundOf W n sigma t rounds = stateOf n sigma t (plusZero (W .format)) (full (blocksOf W n)) rounds
+
+-- mu, e and sigma from the work area, t = +0: as at an opening, so at a restart. Where every number is zero the answer is `zero`.
+unfoldable pub fresh : Width → Float → ℕ → List Float → ℕ → Step
+fresh W zero n xs rounds =
+    let f = W .format in
+    cond (allZero f xs) (Done zero rounds) (More (roundOf W n (sigmaOf f n xs) (plusZero f) rounds))
+
+-- ---- the close
+-- 2^j eps sigma, as the product of the float 2^j eps and sigma: eps is 2^-prec, and a unit 2^-low
+unfoldable pub scaled : Format → ℕ → Float → Float
+scaled f j sigma = mul f (powerOf f (low f + j - prec f)) sigma
+
+-- the least normal number: 2^-1022
+abbrev pub leastNormal : Format → Float
+leastNormal f = ofBits f (hid f)
+
+-- "tau1 = t'; tau2 = tau - (tau1 - t); .. the answer is tau1 + (tau2 + T)"
+unfoldable pub finished : Format → Float → Float → Float → List Float → Float
+finished f tau1 t tau xs = let tau2 = sub f tau (sub f tau1 t) in add f tau1 (add f tau2 (lastSum f xs))
+
+-- rules 1 to 4 for a state whose last pending block was taken, and its work area
+unfoldable pub closed : Width → State → List Float → Step
+closed W s xs =
+    let f = W .format in
+    let M = exponentOf (s .n) in
+    let t' = add f (s .t) (s .tau) in
+    let rounds = s .rounds + 1 in
+    cond (eq t' (plusZero f))
+    (fresh W (plusZero f) (s .n) xs rounds)
+    (cond (le (s .sigma) (leastNormal f) || le (scaled f (2 * M + 1) (s .sigma)) (absolute f t'))
+    (Done (finished f t' (s .t) (s .tau) xs) rounds)
+    (More (roundOf W (s .n) (scaled f M (s .sigma)) t' rounds)))

@@ -1,0 +1,171 @@
+// The faithful sum of each list: its opening, the undivided call, and block by block in three orders.
+use kinds::Step;
+use samples::answers;
+use samples::areas;
+use samples::areas::HELD;
+use samples::generator;
+use samples::ladders;
+use samples::lists;
+use samples::text;
+
+const CASES: u64 = lists::CASES + ladders::CASES;
+
+// The orders of blocks: the lowest pending one first, the highest first, by turns of the generator, and by turns with blocks that are not pending or not
+// there.
+pub const RISING: u64 = 0;
+
+const FALLING: u64 = 1;
+
+const SEEDED: u64 = 2;
+
+pub const STRAY: u64 = 3;
+
+// More steps than any walk has: 51 rounds of 64 blocks.
+const STEPS: u64 = 3264;
+
+fn lowest(pending: u64) -> usize {
+    (u64::trailing_zeros(pending) % 128) as usize
+}
+
+fn highest(pending: u64) -> usize {
+    std::num::wrapping_sub_u32(63, u64::leading_zeros(pending)) as usize
+}
+
+// The first at or above the turn's place; where none is, the lowest or the highest.
+fn seeded(pending: u64, turn: u64) -> usize {
+    let start = (turn % 64) as u32;
+    let above = (pending >> start) << start;
+    if above != 0 {
+        return lowest(above);
+    }
+    if (turn >> 32) % 2 == 1 {
+        lowest(pending)
+    } else {
+        highest(pending)
+    }
+}
+
+fn choice(order: u64, pending: u64, turn: u64) -> usize {
+    if order == RISING {
+        return lowest(pending);
+    }
+    if order == FALLING {
+        return highest(pending);
+    }
+    if (order == STRAY) & ((turn >> 40) % 8 == 0) {
+        return (turn % 5) as usize;
+    }
+    seeded(pending, turn)
+}
+
+// The next step of a walk that goes on; nothing of one that has ended.
+pub fn onward(at: Step, work: &mut [f64], order: u64, turn: u64) -> Step {
+    match at {
+        Step::More(s) => walk::step(s, work, choice(order, s.pending, turn)),
+        Step::Done(x, rounds) => Step::Done(x, rounds),
+        Step::Refused(number, place) => Step::Refused(number, place),
+    }
+}
+
+// The walk block by block to its end.
+fn run(list: &[u64], work: &mut [f64], order: u64, r: u64) -> Step {
+    let mut at = walk::open(list, work);
+    let mut turn = r;
+    let mut steps = 0;
+    while steps < STEPS {
+        if answers::ended(at) {
+            break;
+        }
+        turn = generator::following(turn);
+        at = onward(at, work, order, turn);
+        steps += 1;
+    }
+    text::named(b" steps ", steps);
+    at
+}
+
+// Whether the walk in an order ends as the undivided call did, with the same remainders.
+fn against(list: &[u64], work: &[f64], other: &mut [f64], answer: Step, order: u64) {
+    areas::fill(other, HELD);
+    let at = run(list, other, order, generator::seed(7, list.len() as u64));
+    if answers::alike(answers::outcome_of(answer), answers::outcome_of(at))
+        & areas::same(work, other)
+    {
+        text::put(b" same");
+    } else {
+        text::put(b" other");
+    }
+    areas::show(other);
+}
+
+// The first state, and the copy.
+fn opened(list: &[u64], work: &mut [f64], k: u64) {
+    text::named(b"walk ", k);
+    text::named(b" n ", list.len() as u64);
+    text::put(b" opened");
+    areas::fill(work, HELD);
+    answers::told(walk::open(list, work));
+    areas::show(work);
+}
+
+fn undivided(list: &[u64], work: &mut [f64]) -> Step {
+    areas::fill(work, HELD);
+    let answer = walk::faithful(list, work);
+    answers::told(answer);
+    areas::show(work);
+    answer
+}
+
+fn ways(list: &[u64], work: &mut [f64], other: &mut [f64]) {
+    text::put(b" undivided");
+    let answer = undivided(list, work);
+    text::put(b" rising");
+    against(list, work, other, answer, RISING);
+    text::put(b" falling");
+    against(list, work, other, answer, FALLING);
+    text::put(b" seeded");
+    against(list, work, other, answer, SEEDED);
+    text::put(b"\n");
+}
+
+fn make(list: &mut [u64], k: u64) {
+    if k < lists::CASES {
+        lists::make(list, k);
+    } else {
+        ladders::make(list, k - lists::CASES);
+    }
+}
+
+fn length(k: u64) -> usize {
+    if k < lists::CASES {
+        lists::length(k)
+    } else {
+        ladders::length(k - lists::CASES)
+    }
+}
+
+fn made(list: &mut [u64], work: &mut [f64], other: &mut [f64], k: u64) {
+    make(list, k);
+    opened(list, work, k);
+    ways(list, work, other);
+}
+
+fn case(list: &mut [u64], work: &mut [f64], other: &mut [f64], k: u64) {
+    let n = length(k);
+    if n <= list.len() {
+        if n <= work.len() {
+            if n <= other.len() {
+                made(&mut list[0..n], &mut work[0..n], &mut other[0..n], k);
+            }
+        }
+    }
+}
+
+// Every list, in areas that the longest fits.
+pub fn all(list: &mut [u64], work: &mut [f64], other: &mut [f64]) {
+    let mut k = 0;
+    while k < CASES {
+        case(list, work, other, k);
+        k += 1;
+    }
+}
