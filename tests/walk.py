@@ -81,7 +81,7 @@ def blocks_of(n):
 
 def largest(area):
     """The largest magnitude, as a pattern: without their sign, patterns are in the order of their magnitudes, and infinities and NaNs above all."""
-    return max((p % SIGN for p in area), default=0)
+    return max(map((SIGN - 1).__and__, area), default=0)
 
 
 def sigma_of(area):

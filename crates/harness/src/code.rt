@@ -1,0 +1,23 @@
+// The code of an answer. `calls::refusal` gives the same one, and requires what is proved of an exported call's refusals; here nothing is required or promised.
+
+// The lengths are such that the harness can't hold them.
+pub const UNHELD: u32 = 0xFFFF_FFFF;
+
+pub const ACCEPTED: u32 = 0;
+
+// No list that the harness holds has as many places.
+const PLACES: u32 = 0x10000;
+
+// "the refusal number plus 32·(place + 1) where a place is told and plus 0 where none is": it is told for 2 and 3.
+pub fn refusal(number: u32, place: u32) -> u32 {
+    if PLACES <= place {
+        return UNHELD;
+    }
+    if number == 2 {
+        return 2 + 32 * (place + 1);
+    }
+    if number == 3 {
+        return 3 + 32 * (place + 1);
+    }
+    number
+}

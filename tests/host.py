@@ -1,0 +1,184 @@
+#!/usr/bin/env python3
+"""The C calls and the harness's against exact integers: builds the archives and tests/host/driver.c with the kit alone, hands the driver seeded requests in
+batches, and compares each answer, its code and every byte of every area, with what document 01 asks for.
+
+    python3 tests/host.py                  20,000 lists, and a short run against answers with one flipped bit
+    python3 tests/host.py --lists 200000   a larger run
+    python3 tests/host.py --seed 7         with other random numbers
+    python3 tests/host.py --flip           every answer has one bit flipped, and each must be reported
+
+A difference is printed with its inputs, and the exit status is 1.
+"""
+import argparse
+import collections
+import multiprocessing
+import os
+import random
+import subprocess
+import sys
+import time
+
+HERE = os.path.dirname(os.path.abspath(__file__))
+ROOT = os.path.dirname(HERE)
+sys.dont_write_bytecode = True
+sys.path[:0] = [HERE, os.path.join(HERE, "host")]
+import calls  # noqa: E402
+import cases  # noqa: E402
+import kit  # noqa: E402
+
+PLACE = os.path.join(ROOT, "target", "host")
+DRIVER = os.path.join(PLACE, "driver")
+TARGET = "x86_64-unknown-linux-gnu"
+LISTS = 20000
+PROGRESS = 8  # seconds between lines
+FLIPPED = ["sum_lengths", "register_lengths", 0, 1]  # the batches of the short run: every kind of call is in them
+
+# which refusals each call has: every one must have been met, and no other may be; 0 is an accepted call
+SUMS, WALKS, ENTRIES = {0, 1, 2, 3, 4}, {0, 1, 2, 3, 4}, {0, 2, 3, 4, 9}
+REFUSALS = {
+    "kewohiata_faithful": SUMS,
+    "kewohiata_nearest": SUMS,
+    "kewohiata_register_add": ENTRIES,
+    "kewohiata_register_withdraw": ENTRIES,
+    "harness_open": WALKS,
+    "harness_faithful": WALKS,
+    "harness_step": {0, 4, 6, 7, 8},
+    "harness_parts": {0, 1, 2, 3, 5},
+    "harness_register_round": {0, 4, 10},
+    "harness_read": {0, 1, 4, 11, 12, 13},
+}
+
+
+# ---- building, with the kit alone
+def run(*words):
+    """Runs a command to its end, with a line from time to time; what it says is shown where it fails."""
+    began = time.time()
+    with subprocess.Popen(words, cwd=ROOT, stdout=subprocess.PIPE, stderr=subprocess.STDOUT, text=True) as process:
+        while True:
+            try:
+                said, _ = process.communicate(timeout=PROGRESS)
+                break
+            except subprocess.TimeoutExpired:
+                print(f"host: {os.path.basename(words[0])} {words[1]}, {time.time() - began:.0f} s", flush=True)
+    if process.returncode:
+        sys.exit(f"{said}\nhost: {' '.join(words)} ended with status {process.returncode}")
+
+
+def build():
+    tools, link = kit.toolchain(), os.path.join(kit.home(), "on", kit.machine(), "bin", "rattle-link")
+    archives = []
+    for crate in ("exports", "harness"):
+        run("rt", "staticlib", crate)
+        archives.append(os.path.join(ROOT, "target", "staticlib", f"lib{crate}.a"))
+    os.makedirs(PLACE, exist_ok=True)
+    source, made = os.path.join(HERE, "host", "driver.c"), os.path.join(PLACE, "driver.o")
+    words = ["-std=c99", "-O2", "-Wall", "-Wextra", "-Werror", "-ffreestanding", "-fPIE"]
+    words += ["-I", os.path.join(ROOT, "include"), "-isystem", os.path.join(HERE, "host")]
+    run(os.path.join(tools, "bin", "clang"), f"--target={TARGET}", *words, "-c", source, "-o", made)
+    run(link, "--target", TARGET, "--toolchain", tools, "-o", DRIVER, made, *archives)
+
+
+# ---- a batch
+def answers_of(requests):
+    """What the driver answers, one after the other."""
+    wires = b"".join(map(calls.wire, requests))
+    process = subprocess.run(kit.run_prefix() + [DRIVER], input=wires, env=kit.environment(), capture_output=True, check=False)
+    if process.returncode:
+        raise RuntimeError(f"the driver ended with status {process.returncode}: {process.stderr.decode(errors='replace')}")
+    at = 0
+    for request in requests:
+        end = at + len(calls.answered(request.code, request.after))
+        yield process.stdout[at:end]
+        at = end
+    if at != len(process.stdout):
+        raise RuntimeError(f"{len(process.stdout)} bytes of answers, asked for are {at}")
+
+
+def flipped(answer, chance):
+    """The answer with one bit turned over."""
+    bit = chance.randrange(8 * len(answer))
+    return answer[: bit // 8] + bytes([answer[bit // 8] ^ 1 << bit % 8]) + answer[bit // 8 + 1 :]
+
+
+def met(request):
+    return request.call, "unheld" if request.code == calls.UNHELD else request.code % 32
+
+
+def compared(work):
+    """The batch's name, the answers met, and what is to be reported: differences, or with flipped answers those that pass."""
+    seed, name, flip = work
+    requests, chance = cases.batch(seed, name), random.Random(f"{seed}/{name}/flip")
+    reports, counts = [], collections.Counter()
+    for request, answer in zip(requests, answers_of(requests)):
+        found = calls.difference(request, flipped(answer, chance) if flip else answer)
+        counts[met(request)] += 1
+        if flip and not found:
+            reports.append(f"a flipped bit passes:\n{calls.shown(request)}")
+        elif found and not flip:
+            reports.append(f"{found}:\n{calls.shown(request)}")
+    return name, counts, reports
+
+
+# ---- the run
+def printed(reports, seed, name):
+    """The first in full: one that is understood explains most others."""
+    if reports:
+        print(f"host: seed {seed} batch {name}, the first of {len(reports)}: {reports[0]}")
+
+
+def compare(pool, seed, names, flip):
+    """Every batch. Answers how many answers of each kind were met, and how many reports there are."""
+    what, wrong = ("flipped", "flipped bits passed") if flip else ("compared", "differences")
+    began = said = time.time()
+    counts, bad, done = collections.Counter(), 0, 0
+    results = pool.imap_unordered(compared, [(seed, name, flip) for name in names])
+    while done < len(names):
+        try:
+            name, more, reports = results.next(timeout=1)
+            done += 1
+            counts += more
+            bad += len(reports)
+            printed(reports, seed, name)
+        except multiprocessing.TimeoutError:
+            pass
+        if time.time() - said >= PROGRESS or done == len(names):
+            said = time.time()
+            print(f"host: {what}: {done} of {len(names)} batches, {sum(counts.values())} calls, {bad} {wrong}, {said - began:.0f} s", flush=True)
+    return counts, bad
+
+
+def uncovered(counts):
+    """Refusals that should have been met and were not, or the other way round."""
+    for call, wanted in REFUSALS.items():
+        refusals = {number for name, number in counts if name == call} - {"unheld"}
+        if refusals != wanted:
+            yield f"host: {call} met {sorted(refusals)}, its refusals are {sorted(wanted)}"
+
+
+def table(counts):
+    for call in REFUSALS:
+        numbers = sorted((number, n) for (name, number), n in counts.items() if name == call and number != "unheld")
+        print(f"host: {call}: " + ", ".join(f"{n} {'accepted' if number == 0 else f'refused {number}'}" for number, n in numbers))
+
+
+def main():
+    words = argparse.ArgumentParser(description=__doc__, formatter_class=argparse.RawDescriptionHelpFormatter)
+    words.add_argument("--lists", type=int, default=LISTS)
+    words.add_argument("--seed", type=int, default=1)
+    words.add_argument("--flip", action="store_true")
+    asked = words.parse_args()
+    print(f"host: seed {asked.seed}", flush=True)
+    build()
+    names = cases.batches(asked.lists)
+    with multiprocessing.Pool(os.cpu_count()) as pool:
+        counts, bad = compare(pool, asked.seed, names, asked.flip)
+        turned, passed = (counts, 0) if asked.flip else compare(pool, asked.seed, FLIPPED, True)
+    bad += passed
+    table(counts)
+    gaps = list(uncovered(counts)) + [f"host: no answer of {call} was flipped" for call in sorted(REFUSALS.keys() - {call for call, _ in turned})]
+    print("\n".join(gaps + [f"host: {asked.lists} lists, {sum(counts.values())} calls, {bad} {'flipped bits passed' if asked.flip else 'differences'}"]))
+    return 1 if bad or gaps else 0
+
+
+if __name__ == "__main__":
+    sys.exit(main())
