@@ -28,17 +28,17 @@ extern "C" {
 
 /* The faithful sum of `list`: no double lies strictly between it and the exact sum, and where the exact sum is a double it is that one; a zero sum is +0.
  * list: 8 bytes for each number, 0 to 32,752 of them. out: 16 bytes, the sum's pattern and then the rounds of the walk, 0 to 51.
- * Result: 0, 1, 2, 3 or 4. Stack: about 1.5 KB up to 64 numbers, 9 KB up to 512, 66 KB above. */
+ * Result: 0, or 1, 2, 3 or 4 as above. Stack: below 66,000 bytes, whatever the list's length. */
 uint32_t kewohiata_faithful(const uint8_t *list, size_t list_length, uint8_t *out, size_t out_length);
 
 /* The nearest sum of `list`: no double is nearer to the exact sum, at a tie the one with the even significand; a zero sum is +0.
  * list: as above. out: 16 bytes, the sum's pattern and then 8 zeros.
- * Result: 0, 1, 2, 3 or 4. Stack: about 1.5 KB up to 64 numbers, 5 KB up to 512, 34 KB above. */
+ * Result: 0, or 1, 2, 3 or 4 as above. Stack: below 35,000 bytes, whatever the list's length. */
 uint32_t kewohiata_nearest(const uint8_t *list, size_t list_length, uint8_t *out, size_t out_length);
 
 /* Adds one number to a register, which changes its whole number of units of 2^-1074 by exactly the number's.
  * register_bytes: 264 bytes, 33 words, least significant first, in two's complement; 264 zeros are the empty register. pattern: the number.
- * Result: 0, 2 + 32, 3 + 32, 4 or 9. Stack: about 1 KB. */
+ * Result: 0, or 2 + 32, 3 + 32, 4 or 9. Stack: below 1,000 bytes. */
 uint32_t kewohiata_register_add(uint8_t *register_bytes, size_t register_length, uint64_t pattern);
 
 /* Takes one number out of a register: what was added before and is taken out leaves no trace.
