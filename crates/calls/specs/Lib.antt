@@ -3,3 +3,4 @@ pub mod Calls
 pub mod Inner
 pub mod CallsLaws
 pub mod ToldLaws
+pub mod CodeLaws

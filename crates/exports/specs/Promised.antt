@@ -1,96 +1,61 @@
--- Document 01's promises about the C calls, said of the definitions that their contracts cite: what a refused call leaves, what an accepted sum is, with which
--- code a bad number is told, that a code tells its refusal, and that a register's bytes come back. Assumes nothing.
+-- Document 01's promises about the C sums, said of the definitions that their contracts cite: what an accepted sum is, with which code a bad number is told,
+-- and that 0 is returned exactly when the lengths are right and every number is allowed. Assumes nothing.
 use mathlib.Core.Path.{_≡_, refl, sym, ap, _∙_}
-use mathlib.Core.Logic.{_⊎_, inl, inr}
-use mathlib.Core.Bool.{Bool, true, false, cond}
+use mathlib.Core.Logic.{_⊎_, inl, inr, _↔_}
+use mathlib.Core.Bool.{Bool, true}
 use mathlib.Core.List.{List, [], _∷_}
-use Prim.Native.Nat.{ℕ, _+_, _*_, _/_, _%_, _≤_, _<_}
+use Prim.Native.Nat.{ℕ, _+_, _*_, _/_, _%_, _≤_}
+use native.Mathlib.Decide.{ℕ-discrete}
 use native.Mathlib.Omega.{arith}
-use lib.Dec.{T, eqb}
 use borrow.Author.Tests.{eq-eqb}
+use lib.Dec.{T, eqb, eqb→eq}
 use lib.Ieee.{Float}
 use lib.ListN.{length, getD, length-replicate}
-use Rattle.lists.specs.Digits.{Digits}
 use Rattle.ieee.specs.Accuracy.{FaithfulTo, NearestTo}
 use Rattle.kinds.specs.Limits.{doubles}
-use Rattle.kinds.specs.Heard.{Place, nowhere, at, Heard, refused, more, done, nearest, parts, accepted, count, tells, placeOf, pattern, stepHeard, nearestHeard}
+use Rattle.kinds.specs.Heard.{Heard, refused, tells, placeOf, pattern, stepHeard, nearestHeard}
+use Rattle.kinds.specs.declared.Verdict.{Verdict}
 use Rattle.kinds.specs.declared.Verdict.the-variants as verdicts
-use Rattle.judge.specs.Judge.{faultOf}
+use Rattle.judge.specs.Judge.{faultOf, judged}
+use Rattle.judge.specs.JudgeLaws.{given-when}
 use Rattle.judge.specs.Table.{Allowed, First, GivenWhen}
 use Rattle.judge.specs.FaultLaws.{fault-number}
-use Rattle.octets.specs.Octets.{littleEndian, little, packed, unpacked}
-use Rattle.octets.specs.OctetsLaws.{little-length, little-back}
-use Rattle.octets.specs.EightsLaws.{joined-length, eights-joined}
+use Rattle.octets.specs.Octets.{little, packed, unpacked}
+use Rattle.octets.specs.EightsLaws.{eights-length}
 use Rattle.sums.specs.Sums.{sumOf}
 use Rattle.sums.specs.Promised.{nearest-promised}
-use Rattle.register.specs.Register.{Entered}
 use Rattle.runs.specs.Instances.{faithful-64}
 use Rattle.demands.specs.Refusals.{nearest-refused, faithful-refused}
-use Rattle.calls.specs.Calls.{Called, called, placeCode, answered, lengthFault, summed, sumCall, own, faithfulHeard, sumHeard}
-use Rattle.calls.specs.Calls.{faithfulCall, nearestCall, registered, registerCall}
+use Rattle.demands.specs.Hearing.{row}
+use Rattle.calls.specs.Calls.{Called, called, placeCode, answered, lengthFault, sumCall, own, faithfulHeard, sumHeard, faithfulCall, nearestCall}
 use Rattle.calls.specs.Inner.{Told}
-use Rattle.calls.specs.CallsLaws.{fault-0, sum-summed, answered-refused, answered-done, answered-nearest, code-told}
+use Rattle.calls.specs.CallsLaws.{fault-0, fitting, sixteen, sum-refused, sum-summed, answered-refused, answered-done, answered-nearest, code-told}
 use Rattle.calls.specs.ToldLaws.{faithful-told, nearest-told}
 
--- ---- any two results that meet a contract are equal
-pub call-determined : {r q : ℕ} {xs ys : List ℕ} (c : Called) → called r xs ≡ c → called q ys ≡ c → (r ≡ q) × (xs ≡ ys)
-call-determined c p q = (ap (λ (c : Called). c .code) (p ∙ sym q), ap (λ (c : Called). c .bytes) (p ∙ sym q))
+-- the patterns that a list's bytes are
+abbrev pub patternsIn : List ℕ → List ℕ
+patternsIn list = unpacked (length list / 8) list
 
--- ---- "Every refusal writes nothing to any lent area."
-answer-leaves : (h : Heard) (before words : List ℕ) → (answered h before words .code ≡ 0 → ⊥) → answered h before words .bytes ≡ before
-unfolding answered
-answer-leaves (refused k p) before words n = refl
-answer-leaves (done x r) before words n = absurd (n refl)
-answer-leaves (nearest x) before words n = absurd (n refl)
-answer-leaves accepted before words n = absurd (n refl)
-answer-leaves (more a b c d e f) before words n = absurd (n refl)
-answer-leaves (parts b) before words n = absurd (n refl)
-answer-leaves (count m) before words n = absurd (n refl)
+-- the work area has the right length
+fits : (ps : List ℕ) → eqb (length (own (length ps))) (length ps) ≡ true
+fits ps = eq-eqb (length (own (length ps))) (length ps) (length-replicate (length ps) _)
 
--- a call is what it answers, or a refusal of its lengths
-either-leaves : (b : Bool) (c : Called) (k : ℕ) (before : List ℕ) → ((c .code ≡ 0 → ⊥) → c .bytes ≡ before)
-    → (cond b c (called k before) .code ≡ 0 → ⊥) → cond b c (called k before) .bytes ≡ before
-either-leaves true c k before h n = h n
-either-leaves false c k before h n = refl
+faithful-hears : (ps : List ℕ) (k i : ℕ) → GivenWhen doubles true true ps (verdicts.Refused k i) → faithfulHeard ps ≡ refused k (placeOf k i)
+faithful-hears ps k i G = ap stepHeard (faithful-refused ps (own (length ps)) k i .1 (rw (fits ps) G))
 
-pub sum-leaves : (heardOf : List ℕ → Heard) (list out : List ℕ) → (sumCall heardOf list out .code ≡ 0 → ⊥) → sumCall heardOf list out .bytes ≡ out
-unfolding sumCall
-sum-leaves heardOf list out =
-    let f = lengthFault (length list) (length out) in
-    either-leaves (eqb f 0) (summed heardOf list out) f out (answer-leaves (heardOf (unpacked (length list / 8) list)) out [])
+nearest-hears : (ps : List ℕ) (k i : ℕ) → GivenWhen doubles true true ps (verdicts.Refused k i) → sumHeard ps ≡ refused k (placeOf k i)
+nearest-hears ps k i G = ap nearestHeard (nearest-refused ps k i .1 G)
 
-pub register-leaves : (enteredIn : List ℕ → Entered) (register : List ℕ) → (registerCall enteredIn register .code ≡ 0 → ⊥)
-    → registerCall enteredIn register .bytes ≡ register
-unfolding registerCall
-register-leaves enteredIn register = either-leaves (eqb (length register) 264) (registered enteredIn register) 4 register (answer-leaves _ register _)
+-- ---- of bytes that are a list
+module _ (list out : List ℕ) (l : length list ≤ 32752) (m : length list % 8 ≡ 0) (o : length out ≡ 16) where
+  abbrev ps : List ℕ
+  ps = patternsIn list
 
--- ---- a code tells the number of its refusal, and the place where one is told
-pub code-number : (k : ℕ) (p : Place) → k < 32 → (k + placeCode p) % 32 ≡ k
-code-number k nowhere h = omega arith
-code-number k (at i) h = omega arith
+  few : length ps ≤ 4094
+  few = rw (eights-length little (length list / 8) list) (omega (arith, l))
 
-pub code-place : (k i : ℕ) → k < 32 → (k + placeCode (at i)) / 32 ≡ i + 1
-code-place k i h = omega arith
-
-pub code-nowhere : (k : ℕ) → k < 32 → (k + placeCode nowhere) / 32 ≡ 0
-code-nowhere k h = omega arith
-
--- ---- the sums of a list of patterns, in bytes
-module _ (ps out : List ℕ) (D : Digits 64 ps) (few : length ps ≤ 4094) (o : length out ≡ 16) where
-  size : length (packed ps) ≡ 8 * length ps
-  size = joined-length (littleEndian 8) (little-length 8) ps
-
-  quotient : length (packed ps) / 8 ≡ length ps
-  quotient = omega (arith, size)
-
-  back : unpacked (length (packed ps) / 8) (packed ps) ≡ ps
-  back = rw quotient (eights-joined (littleEndian 8) (little-length 8) little (little-back 8) ps D)
-
-  is-summed : (heardOf : List ℕ → Heard) → sumCall heardOf (packed ps) out ≡ answered (heardOf ps) out []
-  is-summed heardOf =
-      let m : length (packed ps) % 8 ≡ 0 = omega (arith, size) in
-      sum-summed heardOf (packed ps) out (fault-0 (length (packed ps)) (length out) (omega (arith, size)) m o)
-      ∙ ap (λ (qs : List ℕ). answered (heardOf qs) out []) back
+  is-summed : (heardOf : List ℕ → Heard) → sumCall heardOf list out ≡ answered (heardOf ps) out []
+  is-summed heardOf = sum-summed heardOf list out (fault-0 (length list) (length out) l m o)
 
   -- "An accepted sum writes 16 bytes: the pattern, then the rounds", of a faithful sum
   pub record FaithfulBytes (c : Called) : Type 0 where
@@ -100,12 +65,9 @@ module _ (ps out : List ℕ) (D : Digits 64 ps) (few : length ps ≤ 4094) (o : 
     pub faithful : FaithfulTo (doubles .format) (sumOf (doubles .format) ps) sum
     pub most : rounds ≤ 51
 
-  fits : T (eqb (length (own (length ps))) (length ps))
-  fits = rw (eq-eqb (length (own (length ps))) (length ps) (length-replicate (length ps) _)) tt
-
-  pub faithful-call : Allowed doubles ps → FaithfulBytes (faithfulCall (packed ps) out)
+  pub faithful-call : Allowed doubles ps → FaithfulBytes (faithfulCall list out)
   faithful-call A =
-      let F = faithful-64 ps (own (length ps)) (record { few = few; right-area = fits; right-parts = tt }, A) in
+      let F = faithful-64 ps (own (length ps)) (record { few = few; right-area = rw (fits ps) tt; right-parts = tt }, A) in
       record {
         sum = F .sum;
         rounds = F .rounds;
@@ -120,7 +82,7 @@ module _ (ps out : List ℕ) (D : Digits 64 ps) (few : length ps ≤ 4094) (o : 
     pub is : c ≡ called 0 (packed (pattern sum ∷ 0 ∷ []))
     pub nearest : NearestTo (doubles .format) (sumOf (doubles .format) ps) sum
 
-  pub nearest-call : Allowed doubles ps → NearestBytes (nearestCall (packed ps) out)
+  pub nearest-call : Allowed doubles ps → NearestBytes (nearestCall list out)
   nearest-call A =
       let P = nearest-promised ps (record { few = few; right-area = tt; right-parts = tt }, A) in
       record {
@@ -145,22 +107,74 @@ module _ (ps out : List ℕ) (D : Digits 64 ps) (few : length ps ≤ 4094) (o : 
         by (inl e) = rw e
         by (inr e) = rw e
 
-    given : (area : Bool) → T area → GivenWhen doubles area true ps (verdicts.Refused k i)
-    given area t = by two-or-three
+    given : GivenWhen doubles true true ps (verdicts.Refused k i)
+    given = by two-or-three
       where
-        by : (k ≡ 2) ⊎ (k ≡ 3) → GivenWhen doubles area true ps (verdicts.Refused k i)
-        by (inl e) = rw e (record { few = few; right-area = t; right-parts = tt }, rw e at B)
-        by (inr e) = rw e (record { few = few; right-area = t; right-parts = tt }, rw e at B)
+        by : (k ≡ 2) ⊎ (k ≡ 3) → GivenWhen doubles true true ps (verdicts.Refused k i)
+        by (inl e) = rw e (record { few = few; right-area = tt; right-parts = tt }, rw e at B)
+        by (inr e) = rw e (record { few = few; right-area = tt; right-parts = tt }, rw e at B)
 
     code : Told k i → answered (refused k (placeOf k i)) out [] ≡ called (k + 32 * (i + 1)) out
     code R = answered-refused out [] k i ∙ ap (λ (n : ℕ). called (k + n) out) (code-told R tells-it)
 
-    pub faithful-code : faithfulCall (packed ps) out ≡ called (k + 32 * (i + 1)) out
+    pub faithful-code : faithfulCall list out ≡ called (k + 32 * (i + 1)) out
     faithful-code =
-        let e = faithful-refused ps (own (length ps)) k i .1 (given (eqb (length (own (length ps))) (length ps)) fits) in
-        is-summed faithfulHeard ∙ ap (λ h. answered h out []) (ap stepHeard e) ∙ code (faithful-told ps (own (length ps)) k i e)
+        is-summed faithfulHeard
+        ∙ ap (λ h. answered h out []) (faithful-hears ps k i given)
+        ∙ code (faithful-told ps (own (length ps)) k i (faithful-refused ps (own (length ps)) k i .1 (rw (fits ps) given)))
 
-    pub nearest-code : nearestCall (packed ps) out ≡ called (k + 32 * (i + 1)) out
+    pub nearest-code : nearestCall list out ≡ called (k + 32 * (i + 1)) out
     nearest-code =
-        let e = nearest-refused ps k i .1 (given true tt) in
-        is-summed sumHeard ∙ ap (λ h. answered h out []) (ap nearestHeard e) ∙ code (nearest-told ps k i e)
+        is-summed sumHeard ∙ ap (λ h. answered h out []) (nearest-hears ps k i given) ∙ code (nearest-told ps k i (nearest-refused ps k i .1 given))
+
+-- ---- exactly when 0 is returned
+pub record Accepted (list out : List ℕ) : Type 0 where
+  pub bytes : length list ≤ 32752
+  pub whole : length list % 8 ≡ 0
+  pub sixteen : length out ≡ 16
+  pub allowed : Allowed doubles (patternsIn list)
+
+-- no refusal of a list has the number 0
+some-number : (ps : List ℕ) (k i : ℕ) → GivenWhen doubles true true ps (verdicts.Refused k i) → k ≡ 0 → ⊥
+some-number ps k i G z =
+    row (eqb k 1) G (λ t A. omega (arith, eqb→eq k 1 t)) (λ G. row (eqb k 4) G (λ t A. omega (arith, eqb→eq k 4 t))
+    (λ G. row (eqb k 5) G (λ t A. omega (arith, eqb→eq k 5 t)) (λ G. row (tells k) G (λ t A. A .1 .bad z) absurd)))
+
+module _ (heardOf : List ℕ → Heard)
+    (hears : (ps : List ℕ) (k i : ℕ) → GivenWhen doubles true true ps (verdicts.Refused k i) → heardOf ps ≡ refused k (placeOf k i)) (list out : List ℕ) where
+  accepted : lengthFault (length list) (length out) ≡ 0 → sumCall heardOf list out .code ≡ 0 → Accepted list out
+  accepted f e =
+      let F = fitting (length list) (length out) f in
+      record {
+        bytes = omega (arith, F .whole, F .few);
+        whole = omega (arith, F .whole);
+        sixteen = sixteen (length list) (length out) f;
+        allowed = by (judged doubles true true (patternsIn list)) refl;
+      }
+    where
+      by : (v : Verdict) → judged doubles true true (patternsIn list) ≡ v → Allowed doubles (patternsIn list)
+      by verdicts.Good g = given-when doubles true true (patternsIn list) verdicts.Good .0 g .1
+      by (verdicts.Refused k i) g =
+          let G = given-when doubles true true (patternsIn list) (verdicts.Refused k i) .0 g in
+          let c : sumCall heardOf list out ≡ called (k + placeCode (placeOf k i)) out =
+          sum-summed heardOf list out f ∙ ap (λ h. answered h out []) (hears (patternsIn list) k i G) ∙ answered-refused out [] k i in
+          let z : k + placeCode (placeOf k i) ≡ 0 = ap (λ (x : Called). x .code) (sym c) ∙ e in
+          absurd (some-number (patternsIn list) k i G (omega (arith, z)))
+
+  accepted-when : sumCall heardOf list out .code ≡ 0 → Accepted list out
+  accepted-when e = elim (ℕ-discrete (lengthFault (length list) (length out)) 0) [
+    | yes f ↦ accepted f e
+    | no h ↦ absurd (h (ap (λ (x : Called). x .code) (sym (sum-refused heardOf list out h)) ∙ e))
+  ]
+
+pub faithful-when : (list out : List ℕ) → (faithfulCall list out .code ≡ 0) ↔ Accepted list out
+faithful-when list out = (
+  accepted-when faithfulHeard faithful-hears list out,
+  λ A. ap (λ (x : Called). x .code) (faithful-call list out (A .bytes) (A .whole) (A .sixteen) (A .allowed) .is),
+)
+
+pub nearest-when : (list out : List ℕ) → (nearestCall list out .code ≡ 0) ↔ Accepted list out
+nearest-when list out = (
+  accepted-when sumHeard nearest-hears list out,
+  λ A. ap (λ (x : Called). x .code) (nearest-call list out (A .bytes) (A .whole) (A .sixteen) (A .allowed) .is),
+)

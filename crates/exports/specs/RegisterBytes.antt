@@ -1,6 +1,7 @@
--- A register in bytes: a withdrawal of the number that was added gives the same 264 bytes again, and the other way round. Assumes nothing.
+-- A register in bytes: a call that returns 0 changes the whole number by exactly the number's units, what was added and is withdrawn leaves the same 264
+-- bytes, and the code of every row of the table. Assumes nothing.
 use mathlib.Core.Path.{_≡_, refl, sym, ap, _∙_}
-use mathlib.Core.List.{List}
+use mathlib.Core.List.{List, []}
 use Prim.Native.Nat.{ℕ, zero, suc, _+_, _*_}
 use native.Mathlib.Omega.{arith}
 use lib.IntN.{ℤ, _+ℤ_, _-ℤ_}
@@ -20,9 +21,9 @@ use Rattle.register.specs.Register.{Entered, enter, added, withdrawn}
 use Rattle.finite.specs.Finite.{unitsOf, Held}
 use Rattle.register.specs.Steps.{outcome}
 use Rattle.register.specs.Entries.{EntryWhen, entered, wrong-length, bad-number, out-of-range}
-use Rattle.register.specs.RegisterLaws.{entry-when, held-after, withdraw-undoes, add-undoes}
+use Rattle.register.specs.RegisterLaws.{entry-when, whole-after, held-after, withdraw-undoes, add-undoes}
 use Rattle.calls.specs.Calls.{Called, called, answered, registered, registerCall, addCall, withdrawCall}
-use Rattle.calls.specs.CallsLaws.{register-registered, answered-accepted}
+use Rattle.calls.specs.CallsLaws.{register-refused, register-registered, answered-accepted}
 
 -- ---- words from bytes, and back
 eights-below : (n : ℕ) (bs : List ℕ) → Digits 8 bs → length bs ≡ 8 * n → Digits 64 (unpacked n bs)
@@ -60,18 +61,32 @@ module _ (register : List ℕ) (B : Digits 8 register) (l : length register ≡ 
   held : Held ws
   held = record { long = eights-length little 33 register; below = eights-below 33 register B l }
 
+  is-entered : registerCall doing register .code ≡ 0 → e .answer ≡ entries.Entered
+  is-entered c =
+      enters ws p (z ws) register (e .words) (e .answer) (entry-when ws p (z ws) (e .answer) .0 refl)
+      (ap (λ (x : Called). x .code) (sym (register-registered doing register l)) ∙ c)
+
+  is-words : registerCall doing register .code ≡ 0 → registerCall doing register ≡ called 0 (packed (e .words))
+  is-words c =
+      register-registered doing register l
+      ∙ ap (λ (x : Entry). answered (entryHeard x) register (e .words)) (is-entered c)
+      ∙ answered-accepted register (e .words)
+
+  -- the whole number afterwards
+  whole : registerCall doing register .code ≡ 0 → wholeOf (unpacked 33 (registerCall doing register .bytes)) ≡ z ws
+  whole c =
+      ap (λ (x : Called). wholeOf (unpacked 33 (x .bytes))) (is-words c)
+      ∙ ap wholeOf (words-back (e .words) (held-after ws p (z ws) held))
+      ∙ whole-after ws p (z ws) (is-entered c)
+
   back : registerCall doing register .code ≡ 0 → registerCall undone (registerCall doing register .bytes) ≡ called 0 register
   back c =
-      let r : registerCall doing register ≡ registered doing register = register-registered doing register l in
-      let d : registered doing register .code ≡ 0 = ap (λ (x : Called). x .code) (sym r) ∙ c in
-      let a : e .answer ≡ entries.Entered = enters ws p (z ws) register (e .words) (e .answer) (entry-when ws p (z ws) (e .answer) .0 refl) d in
       let h : Held (e .words) = held-after ws p (z ws) held in
-      let y : registered doing register ≡ called 0 (packed (e .words)) =
-      ap (λ (x : Entry). answered (entryHeard x) register (e .words)) a ∙ answered-accepted register (e .words) in
       let s : length (packed (e .words)) ≡ 264 = joined-length (littleEndian 8) (little-length 8) (e .words) ∙ ap (λ (n : ℕ). 8 * n) (h .long) in
-      let u : undone (unpacked 33 (packed (e .words))) ≡ outcome entries.Entered ws = ap undone (words-back (e .words) h) ∙ undoes ws held a in
+      let u : undone (unpacked 33 (packed (e .words))) ≡ outcome entries.Entered ws =
+      ap undone (words-back (e .words) h) ∙ undoes ws held (is-entered c) in
       let w : packed ws ≡ register = joined-eights (littleEndian 8) little (λ bs D k. rw k at (little-bytes-back bs D)) 33 register B l in
-      ap (λ (x : Called). registerCall undone (x .bytes)) (r ∙ y)
+      ap (λ (x : Called). registerCall undone (x .bytes)) (is-words c)
       ∙ register-registered undone (packed (e .words)) s
       ∙ ap (λ (x : Entered). answered (entryHeard (x .answer)) (packed (e .words)) (x .words)) u
       ∙ answered-accepted (packed (e .words)) ws
@@ -83,3 +98,41 @@ module _ (register : List ℕ) (B : Digits 8 register) (l : length register ≡ 
 
   pub withdraw-call-undone : withdrawCall register p .code ≡ 0 → addCall (withdrawCall register p .bytes) p ≡ called 0 register
   withdraw-call-undone = back register B l p (λ ws. wholeOf ws -ℤ unitsOf p) (λ ws. added ws p) (λ ws W. add-undoes W p)
+
+  -- "addition and withdrawal of one allowed number change the whole number by exactly its units"
+  pub add-call-whole : addCall register p .code ≡ 0 → wholeOf (unpacked 33 (addCall register p .bytes)) ≡ wholeOf (unpacked 33 register) +ℤ unitsOf p
+  add-call-whole = whole register B l p (λ ws. wholeOf ws +ℤ unitsOf p) (λ ws. withdrawn ws p) (λ ws W. withdraw-undoes W p)
+
+  pub withdraw-call-whole : withdrawCall register p .code ≡ 0
+      → wholeOf (unpacked 33 (withdrawCall register p .bytes)) ≡ wholeOf (unpacked 33 register) -ℤ unitsOf p
+  withdraw-call-whole = whole register B l p (λ ws. wholeOf ws -ℤ unitsOf p) (λ ws. added ws p) (λ ws W. add-undoes W p)
+
+-- ---- what each row of the table returns: 4 for another length than 264 bytes, and by the words' rows for 264
+module _ (register : List ℕ) (p : ℕ) where
+  rows : (z : List ℕ → ℤ) → length register ≡ 264 → (a : Entry) → EntryWhen (unpacked 33 register) p (z (unpacked 33 register)) a
+      → registerCall (λ ws. enter ws p (z ws)) register .code ≡ answered (entryHeard a) register [] .code
+  unfolding answered
+  rows z l a R =
+      let ws = unpacked 33 register in
+      let e : enter ws p (z ws) .answer ≡ a = entry-when ws p (z ws) a .1 R in
+      ap (λ (x : Called). x .code) (register-registered (λ ws. enter ws p (z ws)) register l)
+      ∙ ap (λ (x : Entry). answered (entryHeard x) register (enter ws p (z ws) .words) .code) e
+      ∙ same a (enter ws p (z ws) .words)
+    where
+      same : (a : Entry) (words : List ℕ) → answered (entryHeard a) register words .code ≡ answered (entryHeard a) register [] .code
+      same entries.Entered words = refl
+      same (entries.Refused k i) words = refl
+
+  pub add-call-when : length register ≡ 264 → (a : Entry) → EntryWhen (unpacked 33 register) p (wholeOf (unpacked 33 register) +ℤ unitsOf p) a
+      → addCall register p .code ≡ answered (entryHeard a) register [] .code
+  add-call-when = rows (λ ws. wholeOf ws +ℤ unitsOf p)
+
+  pub withdraw-call-when : length register ≡ 264 → (a : Entry) → EntryWhen (unpacked 33 register) p (wholeOf (unpacked 33 register) -ℤ unitsOf p) a
+      → withdrawCall register p .code ≡ answered (entryHeard a) register [] .code
+  withdraw-call-when = rows (λ ws. wholeOf ws -ℤ unitsOf p)
+
+  pub add-call-length : (length register ≡ 264 → ⊥) → addCall register p ≡ called 4 register
+  add-call-length = register-refused (λ ws. added ws p) register
+
+  pub withdraw-call-length : (length register ≡ 264 → ⊥) → withdrawCall register p ≡ called 4 register
+  withdraw-call-length = register-refused (λ ws. withdrawn ws p) register

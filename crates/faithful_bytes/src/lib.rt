@@ -1,5 +1,6 @@
 // The faithful sum of a list in bytes. The numbers and the work area stand on the stack, in areas of three lengths, since clearing the longest costs more than
 // summing a short list.
+use kinds::Doubles;
 use kinds::Step;
 use octets::little::SIZE;
 ghost use mathlib.Core.Path.{_≡_};
@@ -66,8 +67,8 @@ fn long(list: &[u8], out: &mut [u8]) -> u32
     ensures { λ r. ⌜ called r (now (out .exit)) ≡ summed faithfulHeard (now (list .entry)) (now (out .entry)) ⌝ }
 {
     let n = list.len() / SIZE;
-    let mut numbers = [0u64; 4094];
-    let mut work = [0f64; 4094];
+    let mut numbers = [0u64; Doubles::LENGTH];
+    let mut work = [0f64; Doubles::LENGTH];
     within(list, &mut numbers[..n], &mut work[..n], out)
 }
 

@@ -1,4 +1,5 @@
 // The nearest sum of a list in bytes, with the numbers on the stack as in the faithful sum.
+use kinds::Doubles;
 use kinds::Nearest;
 use octets::little::SIZE;
 ghost use mathlib.Core.Path.{_≡_};
@@ -57,7 +58,7 @@ fn long(list: &[u8], out: &mut [u8]) -> u32
     ensures { λ r. ⌜ called r (now (out .exit)) ≡ summed sumHeard (now (list .entry)) (now (out .entry)) ⌝ }
 {
     let n = list.len() / SIZE;
-    let mut numbers = [0u64; 4094];
+    let mut numbers = [0u64; Doubles::LENGTH];
     within(list, &mut numbers[..n], out)
 }
 
