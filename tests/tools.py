@@ -115,10 +115,10 @@ def check_words():
 
 
 def check_trouble():
-    bad = ["abc", "0x", "1_0", "1e", "1.2.3", "--1", "0x1.8p", "pattern:7FF", "pattern:7FF000000000000G", "7FF0000000000000G", "1e400", "-0x1p1024", "", "１", "1,5"]
-    calls = [(["make", "1", word], b"") for word in bad] + [(["make"], word.encode()) for word in bad if word]
-    calls += [(["make"], b"1\n\xff\n"), ([], b""), (["sum"], b""), (["show"], b""), (["show", "a", "b"], b""), (["show", os.path.join(ROOT, "no such file")], b"")]
-    calls += [(["show", ROOT], b""), (["show", ""], b""), (["show", "--help"], b"")]
+    bad = ["abc", "0x", "1_0", "1e", "1.2.3", "--1", "0x1.8p", "pattern:7FF", "pattern:7FF000000000000G", "7FF0000000000000G"]
+    bad += ["1e400", "-0x1p1024", "", "１", "1,5"]
+    calls = [(["make", "1", word], b"") for word in bad] + [(["make"], word.encode()) for word in bad if word] + [(["make"], b"1\n\xff\n")]
+    calls += [(words, b"") for words in ([], ["sum"], ["show"], ["show", "a", "b"], ["show", "no such file"], ["show", ROOT], ["show", ""], ["show", "--help"])]
     for words, stdin in calls:
         status, out, said = ran(*words, stdin=stdin)
         expect("trouble", (status, out) == (2, b"") and said.startswith("tools/sheet: ") and said.count("\n") == 1, words, stdin, status, out, said)
