@@ -4,14 +4,19 @@
     python3 tests/examples.py        exit status 1 on a difference
 
 In a block marked console, a line with a dollar is a command and the lines behind it are what it prints. A block marked python is run too, and the block marked
-text behind it is what it prints. Needs what `rt check sum_sheet` and `rt staticlib exports` build, and builds it where it is missing.
+text behind it is what it prints; a block marked c is compiled. Needs what `rt check sum_sheet` and `rt staticlib exports` build, and builds it where it is
+missing.
 """
 import os
 import re
 import subprocess
 import sys
 
+sys.dont_write_bytecode = True
+import kit  # noqa: E402
+
 ROOT = os.path.dirname(os.path.dirname(os.path.abspath(__file__)))
+PLACE = os.path.join(ROOT, "target", "example")
 PAGES = ["README.md", "examples/README.md"]
 BLOCK = re.compile(r"^```(\w+)\n(.*?)^```$", re.S | re.M)
 EXAMPLE = "tests/sheets/example.sheet"
@@ -44,6 +49,16 @@ def commands(block):
         yield command, lines
 
 
+def compiled(text):
+    """The status of the kit's compiler on a C text, with every warning an error."""
+    os.makedirs(PLACE, exist_ok=True)
+    source = os.path.join(PLACE, "shown.c")
+    with open(source, "w", encoding="utf-8") as f:
+        f.write(text)
+    compile_it, _ = kit.c_commands(source, [], os.path.join(PLACE, "shown"))
+    return subprocess.run(compile_it, check=False).returncode
+
+
 def check_page(page):
     blocks = BLOCK.findall(read(page))
     for k, (kind, text) in enumerate(blocks):
@@ -54,7 +69,11 @@ def check_page(page):
                 same(f"{page}: {command}", printed(["bash", "-c", command]), lines)
         elif kind == "python":
             COUNTS["programs"] += 1
-            same(f"{page}: the program", printed([sys.executable, "-c", text]), blocks[k + 1][1] if blocks[k + 1][0] == "text" else "a block marked text")
+            shown = blocks[k + 1][1] if blocks[k + 1][0] == "text" else "a block marked text"
+            same(f"{page}: the Python program", printed([sys.executable, "-c", text]), shown)
+        elif kind == "c":
+            COUNTS["programs"] += 1
+            same(f"{page}: the C text", compiled(text), 0)
 
 
 def check_leaver():
@@ -97,7 +116,7 @@ def main():
         check_page(page)
     check_leaver()
     check_statuses()
-    same("the pages show commands and a program", COUNTS["commands"] >= 7 and COUNTS["programs"] == 1, True)
+    same("the pages show commands and programs", COUNTS["commands"] >= 9 and COUNTS["programs"] == 2, True)
     for name, got, expected in DIFFERENCES[:9]:
         print(f"examples: {name}: printed\n{got}\nand should\n{expected}")
     print(f"examples: {', '.join(f'{n} {what}' for what, n in COUNTS.items())}, {len(DIFFERENCES)} differences")
