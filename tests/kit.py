@@ -1,6 +1,8 @@
 """Where the Rattle kit is, how a C program is built with the kit alone, and how a program for x86-64 runs on this machine: as `rt` itself runs one."""
 import os
 import shutil
+import subprocess
+import sys
 
 TARGET = "x86_64-unknown-linux-gnu"
 HEADERS = os.path.join(os.path.dirname(os.path.abspath(__file__)), "host")  # the kit's compiler comes without a C library's
@@ -33,6 +35,20 @@ def c_commands(source, archives, program):
     words = ["-std=c99", "-O2", "-Wall", "-Wextra", "-Werror", "-ffreestanding", "-fPIE", "-I", INCLUDE, "-isystem", HEADERS]
     yield [os.path.join(toolchain(), "bin", "clang"), f"--target={TARGET}", *words, "-c", source, "-o", made]
     yield [link, "--target", TARGET, "--toolchain", toolchain(), "-o", program, made, *archives]
+
+
+def rt(*words):
+    """Runs rt at the repository's root, with its own lines on standard error; all that it says where it fails. Answers its status."""
+    said = []
+    root = os.path.dirname(INCLUDE)
+    with subprocess.Popen(["rt", *words], cwd=root, stdin=subprocess.DEVNULL, stdout=subprocess.PIPE, stderr=subprocess.STDOUT, text=True) as process:
+        for line in process.stdout:
+            said.append(line)
+            if line.startswith("rt: "):
+                print(line, end="", file=sys.stderr, flush=True)
+    if process.returncode:
+        print("".join(said), end="", file=sys.stderr)
+    return process.returncode
 
 
 def run_prefix():
