@@ -125,9 +125,9 @@ def check_trouble():
 
 
 # ---- show
-def told(data):
-    """What show says of a sheet: its status and its lines; as a file, and from standard input."""
-    status, out, said = ran("show", "-", stdin=data)
+def told(data, name="-"):
+    """What show says of a sheet: its status and its lines."""
+    status, out, said = ran("show", name, stdin=data)
     expect("nothing on standard error", said == "", said)
     return status, out.decode().splitlines()
 
@@ -156,12 +156,10 @@ def is_shown(status, lines, data, printed):
 
 
 def check_sheets():
-    for name, data, _ in sheets.SHEETS:
+    for name, _, _ in sheets.SHEETS:
         data, printed = sheets.held(name)
-        status, lines = told(data)
+        status, lines = told(b"", os.path.join(sheets.FOLDER, name + ".sheet"))
         expect(f"show {name}", is_shown(status, lines, data, printed.decode()), status, lines[:3], lines[-1:])
-        by_file = ran("show", os.path.join(sheets.FOLDER, name + ".sheet"))
-        expect(f"show {name} from a file", by_file == (status, "".join(line + "\n" for line in lines).encode(), ""), by_file[0])
     for length, start, printed in sheets.LONGER:
         data = (start + bytes(length))[:length]
         expect(f"show {length} bytes", is_shown(*told(data), data, printed))
@@ -171,6 +169,7 @@ def check_notices():
     """A test that can't fail shows nothing: show's lines of one sheet must not pass for those of another, nor with a character turned."""
     data, printed = sheets.held("above_second")
     status, lines = told(data)
+    expect("standard input", (status, lines) == told(b"", os.path.join(sheets.FOLDER, "above_second.sheet")))
     for i in range(len(data)):
         COUNTS["noticed"] += expect("another sheet is noticed", told(sheets.flipped(data, i)) != (status, lines), i)
     for k, line in enumerate(lines):
