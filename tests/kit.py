@@ -41,8 +41,9 @@ def rt(*words):
     """Runs rt at the repository's root, with its own lines on standard error; all that it says where it fails. Answers its status."""
     said = []
     root = os.path.dirname(INCLUDE)
-    with subprocess.Popen(["rt", *words], cwd=root, stdin=subprocess.DEVNULL, stdout=subprocess.PIPE, stderr=subprocess.STDOUT, text=True) as process:
+    with subprocess.Popen(["rt", *words], cwd=root, stdin=subprocess.DEVNULL, stdout=subprocess.PIPE, stderr=subprocess.STDOUT) as process:
         for line in process.stdout:
+            line = line.decode(errors="replace")
             said.append(line)
             if line.startswith("rt: "):
                 print(line, end="", file=sys.stderr, flush=True)
