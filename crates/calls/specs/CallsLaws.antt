@@ -1,11 +1,11 @@
 -- The C calls case by case: the lengths, what is heard as a code and bytes, and the areas of the exported faithful sum. Assumes nothing.
-use mathlib.Core.Path.{_≡_, refl, sym, ap, _∙_}
+use mathlib.Core.Path.{_≡_, refl, ap, _∙_}
 use mathlib.Core.Bool.{Bool, true, false, cond, not}
 use mathlib.Core.List.{List, [], _∷_}
 use Prim.Native.Nat.{ℕ, zero, suc, _+_, _*_, _/_, _%_, _≤_, _<_}
 use native.Mathlib.Omega.{arith}
 use borrow.Author.Tests.{lt-ltb, le-ltb, eq-eqb, ne-eqb}
-use lib.Dec.{T, ltb, eqb, eqb→eq, nltb→le}
+use lib.Dec.{ltb, eqb, eqb→eq, nltb→le}
 use lib.Ieee.{Float, ofBits}
 use lib.ListN.{length, take, replicate, length-replicate}
 use lib.Seq.{length-take-le}

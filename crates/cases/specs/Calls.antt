@@ -1,6 +1,6 @@
 -- A call of the library on given input, and what is told of it: what its caller hears, and its lent area afterwards. Definitions only.
 -- The meanings are those that the public contracts cite.
-use mathlib.Core.List.{List, [], _∷_, map}
+use mathlib.Core.List.{List, [], map}
 use Prim.Native.Nat.{ℕ}
 use lib.ListN.{length, replicate}
 use lib.Ieee.{binary64, ofBits, toBits}

@@ -5,12 +5,12 @@ use mathlib.Core.Logic.{_⊎_, inl, inr, _↔_}
 use mathlib.Core.Bool.{Bool, true, false, cond}
 use mathlib.Core.List.{List}
 use Prim.Native.Nat.{ℕ, zero, suc}
-use native.Mathlib.Omega.{arith}
 use lib.Dec.{T, eqb}
 use lib.IntN.{ℤ, _+ℤ_, _-ℤ_}
 use lib.ListN.{length}
 use lib.Ieee.{Float}
 use lib.Ieee.Bits.{is-true}
+use Rattle.lists.specs.Apart.{apart}
 use Rattle.kinds.specs.Heard.{Place, tells, placeOf, Heard, refused, stepHeard, nearestHeard, partedHeard, entryHeard}
 use Rattle.kinds.specs.Limits.{Width, doubles}
 use Rattle.kinds.specs.declared.State.{State}
@@ -36,9 +36,6 @@ use Rattle.demands.specs.Tables.{told, Row, StepWhen, WalkWhen, RoundWhe
 use Rattle.demands.specs.Refusals.{nearest-refused, parts-refused, round-refused, open-refused, faithful-refused, step-refused}
 
 -- ---- an answer of which a refusal is heard is that refusal
-
-apart {ℓ} : {X : Type ℓ} → _≡_ {A = ℕ} 0 1 → X
-apart e = absurd (omega arith)
 
 step-is : (a : Step) (k : ℕ) (p : Place) → stepHeard a ≡ refused k p → (i : ℕ) × (a ≡ steps.Refused k i)
 step-is (steps.More s) k p e = apart (cc)
@@ -80,7 +77,7 @@ module _ {A : Type 0} (heard : A → Heard) (refusal : ℕ → ℕ → A) (said 
 -- ---- an answer's place is what the table tells, where it is 0 or the number is 2 or 3
 placed : (k i : ℕ) → (i ≡ 0) ⊎ T (tells k) → placeOf k i ≡ told k i
 placed k zero h = refl
-placed k (suc i) (inl e) = let z : _≡_ {A = ℕ} 0 1 = cc in absurd (omega arith)
+placed k (suc i) (inl e) = apart (cc)
 placed k (suc i) (inr t) = rw (is-true (tells k) t)
 
 -- the rows of a list, one by one

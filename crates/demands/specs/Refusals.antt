@@ -5,9 +5,9 @@ use mathlib.Core.Logic.{_↔_}
 use mathlib.Core.Bool.{true}
 use mathlib.Core.List.{List}
 use Prim.Native.Nat.{ℕ}
-use native.Mathlib.Omega.{arith}
 use lib.IntN.{_+ℤ_, _-ℤ_}
 use lib.Ieee.{Float}
+use Rattle.lists.specs.Apart.{apart}
 use Rattle.kinds.specs.Limits.{doubles}
 use Rattle.kinds.specs.declared.State.{State}
 use Rattle.kinds.specs.declared.Verdict.{Verdict}
@@ -41,7 +41,7 @@ nearest-refused = nearest-refusals
 module _ (ps : List ℕ) (area : List Float) (k i : ℕ) where
   whole : (v : Verdict) → partsAfter v ps area .answer ≡ parteds.Refused k i → partsAfter v ps area ≡ split (parteds.Refused k i) area
   unfolding partsAfter
-  whole verdicts.Good e = let z : _≡_ {A = ℕ} 0 1 = cc in absurd (omega arith)
+  whole verdicts.Good e = apart (cc)
   whole (verdicts.Refused l j) e = rw e
 
   pub parts-refused : (partsOf ps area .answer ≡ parteds.Refused k i) ↔ GivenWhen doubles true (fitting area) ps (verdicts.Refused k i)

@@ -11,6 +11,7 @@ use lib.IntN.{pos}
 use lib.ListN.{length}
 use lib.Ieee.{Float}
 use Rattle.ieee.specs.Units.{nearestFloat}
+use Rattle.lists.specs.Apart.{apart}
 use Rattle.kinds.specs.Limits.{Width}
 use Rattle.kinds.specs.declared.State.{State}
 use Rattle.kinds.specs.declared.Step.{Step}
@@ -37,8 +38,8 @@ record After (v : Verdict) (work : List Float) (w : Walked) : Type 0 where
   kept : (k i : ℕ) → v ≡ verdicts.Refused k i → w .work ≡ work
 
 back : (a : Step) (k i : ℕ) → (a ≡ Refused k i) ↔ (verdictOf a ≡ verdicts.Refused k i)
-back (More s) k i = (λ e. let z : _≡_ {A = ℕ} 0 1 = cc in absurd (omega arith), λ e. let z : _≡_ {A = ℕ} 0 1 = cc in absurd (omega arith))
-back (Done x r) k i = (λ e. let z : _≡_ {A = ℕ} 0 1 = cc in absurd (omega arith), λ e. let z : _≡_ {A = ℕ} 0 1 = cc in absurd (omega arith))
+back (More s) k i = (λ e. apart (cc), λ e. apart (cc))
+back (Done x r) k i = (λ e. apart (cc), λ e. apart (cc))
 back (Refused l j) k i = (λ e. cc, λ e. cc)
 
 module _ {v : Verdict} {work : List Float} {w : Walked} (A : After v work w) where
@@ -65,7 +66,7 @@ module _ (W : Width) (s : State) (b : ℕ) (work : List Float) where
   unfolding steppedAfter
   step-after verdicts.Good = record {
     from = taken-accepted W s b work .good;
-    kept = λ k i e. let z : _≡_ {A = ℕ} 0 1 = cc in absurd (omega arith);
+    kept = λ k i e. apart (cc);
   }
   step-after (verdicts.Refused l j) = record { from = refl; kept = λ k i e. refl }
 
@@ -93,7 +94,7 @@ module _ (W : Width) (ps : List ℕ) (work : List Float) where
   unfolding openedAfter
   open-after verdicts.Good = record {
     from = fresh-accepted W (nearestFloat (W .format) (zeroSign ps) (pos 0)) (length ps) (floats W ps) 0 .good;
-    kept = λ k i e. let z : _≡_ {A = ℕ} 0 1 = cc in absurd (omega arith);
+    kept = λ k i e. apart (cc);
   }
   open-after (verdicts.Refused l j) = record { from = refl; kept = λ k i e. refl }
 
@@ -110,7 +111,7 @@ module _ (W : Width) (ps : List ℕ) (work : List Float) where
     unfolding verdict
     faithful-after verdicts.Good e = record {
       from = ap verdictOf (faithful-promised F ps work (rows verdicts.Good .0 e) .answer);
-      kept = λ k i e. let z : _≡_ {A = ℕ} 0 1 = cc in absurd (omega arith);
+      kept = λ k i e. apart (cc);
     }
     faithful-after (verdicts.Refused l j) e =
         subst (After (verdicts.Refused l j) work)

@@ -7,9 +7,8 @@ use native.Mathlib.Nat.{mod-eq-of-lt}
 use native.Mathlib.Omega.{arith}
 use lib.Dec.{T, leb, ltb→lt, le→leb}
 use lib.Arith.{le→nltb}
-use lib.Ieee.{Float, nan, inf, fin, Format, size, hid, ones, top, ofBits, toBits, isNan, nanBits}
+use lib.Ieee.{Float, Format, size, hid, ones, top, ofBits, toBits, nanBits}
 use lib.Ieee.Bits.{nanBits-above, ofBits-toBits}
-use lib.Ieee.Scale.{finite}
 use Rattle.units.specs.Rounding.{ceil}
 use Rattle.units.specs.Powers.{le-or-lt}
 use Rattle.ieee.specs.Units.{Number, negative, magnitude, patternUnits}
@@ -22,13 +21,7 @@ pub subnormal-ceiling : (f : Format) {r : ℕ} → r < hid f → ceil (patternUn
 unfolding ceil
 subnormal-ceiling f h = rw (subnormal-units f h)
 
--- ---- no NaN: a number, and a pattern below the infinity's
-pub finite-no-nan : (x : Float) → T (finite x) → T (not (isNan x))
-unfolding isNan
-finite-no-nan nan h = h
-finite-no-nan (inf s) h = tt
-finite-no-nan (fin s m e) h = tt
-
+-- ---- a pattern below the infinity's is no NaN's
 pub pattern-no-nan : (f : Format) {r : ℕ} → r < ones f * hid f → T (not (nanBits f r))
 pattern-no-nan f {r} h =
     let l : r < top f = omega arith in

@@ -21,8 +21,7 @@ use Rattle.judge.specs.FaultLaws.{fault-number}
 use Rattle.octets.specs.Octets.{littleEndian, little, packed, unpacked}
 use Rattle.octets.specs.OctetsLaws.{little-length, little-back}
 use Rattle.octets.specs.EightsLaws.{joined-length, eights-joined}
-use Rattle.walk.specs.Walk.{faithfulOf}
-use Rattle.sums.specs.Sums.{sumOf, nearestOf}
+use Rattle.sums.specs.Sums.{sumOf}
 use Rattle.sums.specs.Promised.{nearest-promised}
 use Rattle.register.specs.Register.{Entered}
 use Rattle.runs.specs.Instances.{faithful-64}

@@ -1,7 +1,7 @@
 -- A register in bytes: a withdrawal of the number that was added gives the same 264 bytes again, and the other way round. Assumes nothing.
 use mathlib.Core.Path.{_≡_, refl, sym, ap, _∙_}
-use mathlib.Core.List.{List, [], _∷_}
-use Prim.Native.Nat.{ℕ, zero, suc, _+_, _*_, _^_, _<_}
+use mathlib.Core.List.{List}
+use Prim.Native.Nat.{ℕ, zero, suc, _+_, _*_}
 use native.Mathlib.Omega.{arith}
 use lib.IntN.{ℤ, _+ℤ_, _-ℤ_}
 use lib.Pow.{pow-pos}
@@ -9,11 +9,9 @@ use lib.ListN.{length, take, drop, length-drop}
 use lib.Seq.{length-take-le}
 use Rattle.lists.specs.Digits.{Digits}
 use Rattle.lists.specs.DigitLaws.{digits-more, digits-take, digits-drop, number-lt}
-use Rattle.kinds.specs.Limits.{doubles}
 use Rattle.kinds.specs.Heard.{entryHeard}
 use Rattle.kinds.specs.declared.Entry.{Entry}
 use Rattle.kinds.specs.declared.Entry.the-variants as entries
-use Rattle.judge.specs.Judge.{faultOf}
 use Rattle.octets.specs.Octets.{littleEndian, little, packed, unpacked, eights}
 use Rattle.octets.specs.OctetsLaws.{little-length, little-back, little-bytes-back}
 use Rattle.octets.specs.EightsLaws.{eights-length, eights-joined, joined-eights, joined-length}
@@ -23,7 +21,7 @@ use Rattle.finite.specs.Finite.{unitsOf, Held}
 use Rattle.register.specs.Steps.{outcome}
 use Rattle.register.specs.Entries.{EntryWhen, entered, wrong-length, bad-number, out-of-range}
 use Rattle.register.specs.RegisterLaws.{entry-when, held-after, withdraw-undoes, add-undoes}
-use Rattle.calls.specs.Calls.{Called, called, placeCode, answered, registered, registerCall, addCall, withdrawCall}
+use Rattle.calls.specs.Calls.{Called, called, answered, registered, registerCall, addCall, withdrawCall}
 use Rattle.calls.specs.CallsLaws.{register-registered, answered-accepted}
 
 -- ---- words from bytes, and back

@@ -1,9 +1,7 @@
 // Doubles in bytes, by their patterns.
 use crate::numbers;
-
-const SIGN: u64 = 0x8000_0000_0000_0000;
-
-const INFINITY: u64 = 0x7FF0_0000_0000_0000;
+use judge::INFINITY;
+use kinds::SIGN;
 
 const NAN: u64 = 0x7FF8_0000_0000_0000;
 

@@ -1,7 +1,7 @@
 -- What a float that a format holds is in units: a whole number of at most prec bits, below 2 ^ (emax + 1). It is determined by its sign and its units.
 -- Assumes nothing.
 use mathlib.Core.Path.{_≡_, refl, sym, ap, _∙_}
-use mathlib.Core.Bool.{Bool, true, false, _&&_, cond}
+use mathlib.Core.Bool.{Bool, true, false, _&&_, cond, not}
 use Prim.Native.Nat.{ℕ, zero, suc, _+_, _-_, _*_, _/_, _%_, _^_, _≤_, _<_}
 use native.Mathlib.Nat.{le-of-lt, zero-mul, mul-one, one-mul, mul-assoc, mul-comm, mul-right-comm, mul-div-cancel}
 use native.Mathlib.Nat.{mul-lt-mul-of-pos-right, lt-of-mul-lt-mul-right}
@@ -9,7 +9,7 @@ use native.Mathlib.Omega.{arith}
 use lib.IntN.{ℤ, pos, negsuc, natAbs, pos-ne-negsuc}
 use lib.Dec.{T, leb, ltb, eqb, leb→le, ltb→lt}
 use lib.Pow.{pow-add, pow-pos}
-use lib.Ieee.{Float, nan, inf, fin, Format, prec, emax, low, up, down, size, fits, toBits, ofBits, top, hid}
+use lib.Ieee.{Float, nan, inf, fin, Format, prec, emax, low, up, down, size, fits, isNan, toBits, ofBits, top, hid}
 use lib.Ieee.Digits.{back}
 use lib.Ieee.Fits.{down-pos, and-l, and-r}
 use lib.Ieee.Scale.{finite, overflow}
@@ -28,6 +28,13 @@ pub is-finite : (f : Format) (x : Float) (s : Bool) (n : ℕ) → Is f x s n →
 is-finite f nan s n h = h
 is-finite f (inf t) s n h = h
 is-finite f (fin t m e) s n h = tt
+
+-- so that its bits may be read
+pub finite-no-nan : (x : Float) → T (finite x) → T (not (isNan x))
+unfolding isNan
+finite-no-nan nan h = h
+finite-no-nan (inf s) h = tt
+finite-no-nan (fin s m e) h = tt
 
 -- ---- what `fits` says of a float that is not zero
 record Parts (f : Format) (m : ℕ) (e : ℤ) : Type 0 where

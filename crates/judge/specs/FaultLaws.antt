@@ -8,11 +8,11 @@ use native.Mathlib.Nat.{lt-of-not-le, not-le-of-lt}
 use native.Mathlib.Omega.{arith}
 use lib.Dec.{T, leb, leb→le, le→leb, nleb→lt, lt→ltb, lit<}
 use lib.Arith.{le→nltb, lt→nleb}
-use lib.Ieee.{Float, nan, inf, fin, ones, hid, top, isNan, nanBits}
+use lib.Ieee.{ones, hid, top, nanBits}
 use lib.Ieee.Bits.{is-true, is-false, ofBits-fits, nanBits-is}
 use lib.Ieee.Scale.{finite}
 use Rattle.ieee.specs.Units.{Number, patternUnits}
-use Rattle.ieee.specs.Finite.{is-units}
+use Rattle.ieee.specs.Finite.{is-units, finite-no-nan}
 use Rattle.ieee.specs.Pattern.{pattern-positive, pattern-finite, pattern-within}
 use Rattle.ieee.specs.Instances.{top-64}
 use Rattle.kinds.specs.Limits.{Width, doubles}
@@ -74,13 +74,7 @@ module _ (W : Width) (p : ℕ) where
   allowed-number e = record { fit = ofBits-fits (W .format) p; fini = fault-0 .0 e .0 }
 
   pub allowed-no-nan : faultOf W p ≡ 0 → T (not (nanBits (W .format) p))
-  unfolding isNan
-  allowed-no-nan e = rw (nanBits-is (W .format) p) (go (floatOf W p) (fault-0 .0 e .0))
-    where
-      go : (x : Float) → T (finite x) → T (not (isNan x))
-      go nan h = h
-      go (inf s) h = tt
-      go (fin s m e) h = tt
+  allowed-no-nan e = rw (nanBits-is (W .format) p) (finite-no-nan (floatOf W p) (fault-0 .0 e .0))
 
 -- ---- by the pattern without its sign, where the limit's pattern is below the infinity's
 module _ (W : Width) (proper : W .magnitude < ones (W .format) * hid (W .format)) where

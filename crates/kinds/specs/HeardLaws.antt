@@ -2,10 +2,10 @@
 use mathlib.Core.Path.{_≡_, refl, sym, ap, _∙_}
 use mathlib.Core.Bool.{Bool, true, false, cond}
 use Prim.Native.Nat.{ℕ, zero, suc}
-use native.Mathlib.Omega.{arith}
 use lib.Dec.{T}
 use lib.Ieee.{Float, binary64, ofBits, fits}
 use lib.Ieee.Bits.{ofBits-toBits}
+use Rattle.lists.specs.Apart.{apart}
 use Rattle.kinds.specs.declared.Step.{Step}
 use Rattle.kinds.specs.declared.Step.the-variants.{More, Done, Refused}
 use Rattle.kinds.specs.declared.Nearest.{Nearest}
@@ -19,10 +19,6 @@ use Rattle.kinds.specs.declared.Sheet.the-variants as sheets
 use Rattle.kinds.specs.declared.Verdict.{Verdict}
 use Rattle.kinds.specs.declared.Verdict.the-variants as verdicts
 use Rattle.kinds.specs.Heard.{nowhere, at, refused, tells, placeOf, pattern, stepHeard, nearestHeard, partedHeard, entryHeard, sheetHeard, verdictHeard}
-
--- a constructor tells itself from the others
-apart {ℓ} : {X : Type ℓ} → _≡_ {A = ℕ} 0 1 → X
-apart e = absurd (omega arith)
 
 place-same : (k p q : ℕ) → placeOf k p ≡ placeOf k q → p ≡ q
 place-same k zero zero e = refl

@@ -7,6 +7,7 @@ use native.Mathlib.Omega.{arith}
 use borrow.Author.Tests.{lt-ltb}
 use lib.Dec.{ltb, eqb}
 use lib.ListN.{length, length-append}
+use Rattle.lists.specs.Apart.{apart}
 use Rattle.kinds.specs.Limits.{doubles}
 use Rattle.kinds.specs.Heard.{nowhere, at, placeOf, tells}
 use Rattle.numerals.specs.Numerals.{decimalOf, hexOf, capitalsOf}
@@ -56,16 +57,16 @@ place-at k zero e = go (tells k) e
   where
     go : (b : Bool) → told (cond b (at 0) nowhere) ≡ true → cond b (at 0) nowhere ≡ at 0
     go true e = refl
-    go false e = let z : _≡_ {A = ℕ} 0 1 = cc in absurd (omega arith)
+    go false e = apart (cc)
 place-at k (suc p) e = refl
 
 place-nowhere : (k p : ℕ) → told (placeOf k p) ≡ false → placeOf k p ≡ nowhere
 place-nowhere k zero e = go (tells k) e
   where
     go : (b : Bool) → told (cond b (at 0) nowhere) ≡ false → cond b (at 0) nowhere ≡ nowhere
-    go true e = let z : _≡_ {A = ℕ} 0 1 = cc in absurd (omega arith)
+    go true e = apart (cc)
     go false e = refl
-place-nowhere k (suc p) e = let z : _≡_ {A = ℕ} 0 1 = cc in absurd (omega arith)
+place-nowhere k (suc p) e = apart (cc)
 
 module _ (k p : ℕ) where
   pub line-told : told (placeOf k p) ≡ true → refusedLine k (placeOf k p) ≡ refusedWord ++ decimalOf k ++ (atWord ++ decimalOf p) ++ lineEnd

@@ -1,5 +1,4 @@
 -- What holds of each member of a list: at a place, of joined lists, of the first places and of the rest. Assumes nothing.
-use mathlib.Core.Path.{_≡_}
 use mathlib.Core.List.{List, [], _∷_, _++_, map}
 use Prim.Native.Nat.{ℕ, zero, suc, _<_}
 use native.Mathlib.Omega.{arith}

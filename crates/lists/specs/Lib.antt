@@ -1,4 +1,5 @@
 -- Facts on lists, and numbers written in digits of base 2 ^ w. Definitions first, then laws.
+pub mod Apart
 pub mod Digits
 pub mod Carry
 pub mod Bitset

@@ -9,8 +9,8 @@ use lib.Pow.{pow-pos, pow-mono}
 use lib.ListN.{length, getD, take, drop, set, take-append-drop, length-append, length-drop, length-reverse}
 use lib.Seq.{take-suc, drop-cons, getD-drop, length-take-le}
 use Rattle.lists.specs.Digits.{number, digits, Digits}
-use Rattle.lists.specs.DigitLaws.{weight-next, number-nil, number-cons, number-lt, digits-number, number-digits}
-use Rattle.lists.specs.DigitLaws.{digits-head, digits-tail, digits-more, digits-length, digits-below, digits-none, digits-last}
+use Rattle.lists.specs.DigitLaws.{weight-next, number-nil, number-cons, digits-number, number-digits}
+use Rattle.lists.specs.DigitLaws.{digits-head, digits-tail, digits-more, digits-length, digits-none, digits-last}
 use Rattle.lists.specs.Front.{store-front}
 use Rattle.octets.specs.Octets.{littleEndian, bigEndian, little, big, bytesAt}
 
@@ -78,15 +78,9 @@ reversed (b ∷ l) r L R = reversed l (b ∷ r) (digits-tail 8 L) (digits-more 8
 pub bytes-reverse : (bs : List ℕ) → Digits 8 bs → Digits 8 (reverse bs)
 bytes-reverse bs B = reversed bs [] B (record { below = λ i. pow-pos 8 })
 
-pub big-lt : (bs : List ℕ) → Digits 8 bs → big bs < 2 ^ (8 * length bs)
-big-lt bs B = rw (length-reverse bs) at (number-lt 8 (reverse bs) (bytes-reverse bs B))
-
 -- ---- there and back
 pub big-length : (k v : ℕ) → length (bigEndian k v) ≡ k
 big-length k v = length-reverse (digits 8 k v) ∙ digits-length 8 k v
-
-pub big-bytes : (k v : ℕ) → Digits 8 (bigEndian k v)
-big-bytes k v = bytes-reverse (digits 8 k v) (digits-below 8 k v)
 
 pub little-back : (k v : ℕ) → v < 2 ^ (8 * k) → little (littleEndian k v) ≡ v
 little-back k v h = number-digits 8 k v ∙ mod-eq-of-lt h

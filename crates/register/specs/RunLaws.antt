@@ -15,6 +15,7 @@ use Rattle.units.specs.Integers.{int-mag}
 use Rattle.units.specs.ExactSum.{abs-plus}
 use Rattle.ieee.specs.Units.{whole}
 use Rattle.ieee.specs.Sum.{value-int, whole-mag}
+use Rattle.lists.specs.Apart.{apart}
 use Rattle.lists.specs.Digits.{number, digits, residue, signed, inside}
 use Rattle.lists.specs.TwosComplement.{inside-small}
 use Rattle.lists.specs.SignedDigits.{cut-words}
@@ -30,9 +31,6 @@ use Rattle.register.specs.Register.{added, withdrawn}
 use Rattle.register.specs.Entries.{EntryWhen, entered, wrong-length, bad-number, out-of-range}
 use Rattle.register.specs.Entries.{Change, add, withdraw, patternOf, changeOf, changed, run, AllEntered, zeros}
 use Rattle.register.specs.RegisterLaws.{entry-when, entry-leaves, no-fault, whole-after}
-
-apart {ℓ} : {X : Type ℓ} → _≡_ {A = ℕ} 0 1 → X
-apart e = absurd (omega arith)
 
 -- ---- the two calls
 pub changed-add : (ws : List ℕ) (p : ℕ) → changed ws (add p) ≡ added ws p

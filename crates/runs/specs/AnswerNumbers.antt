@@ -8,6 +8,7 @@ use lib.Dec.{T, eqb}
 use lib.ListN.{length}
 use lib.Ieee.{Float, isNan}
 use Rattle.ieee.specs.Units.{Number}
+use Rattle.ieee.specs.Finite.{finite-no-nan}
 use Rattle.kinds.specs.Limits.{Width, doubles}
 use Rattle.kinds.specs.declared.State.{State}
 use Rattle.kinds.specs.declared.Step.{Step}
@@ -16,7 +17,6 @@ use Rattle.kinds.specs.declared.Verdict.{Verdict}
 use Rattle.kinds.specs.declared.Verdict.the-variants as verdicts
 use Rattle.judge.specs.Judge.{judged}
 use Rattle.judge.specs.JudgeLaws.{given-when}
-use Rattle.sums.specs.SplitLaws.{no-nan}
 use Rattle.rounds.specs.Fitting.{Fitting}
 use Rattle.rounds.specs.Instances.{doubles-fit}
 use Rattle.walk.specs.Walk.{Walked, faithfulOf}
@@ -54,7 +54,7 @@ module _ (ps : List ℕ) (work : List Float) where
     faithful-number = done .0
 
     pub faithful-no-nan : T (not (isNan x))
-    faithful-no-nan = no-nan x (done .0 .fini)
+    faithful-no-nan = finite-no-nan x (done .0 .fini)
 
     -- "hence at most 51"
     pub faithful-rounds : r ≤ 51

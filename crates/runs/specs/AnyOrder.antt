@@ -11,6 +11,7 @@ use lib.ListN.{length}
 use lib.Ieee.{Float}
 use lib.Ieee.Fits.{and-l, and-r}
 use lib.Ieee.Bits.{is-true}
+use Rattle.lists.specs.Apart.{apart}
 use Rattle.lists.specs.Bitset.{has, without, full}
 use Rattle.lists.specs.BitsetLaws.{has-full}
 use Rattle.kinds.specs.Limits.{Width, blocksOf}
@@ -51,7 +52,7 @@ module _ {W : Width} {F : Fitting W} {e n : ℕ} {sigma t : Float} {rounds : ℕ
   ended [] P z o = refl
   ended (b ∷ bs) P z o =
       let f : _≡_ {A = Bool} true false = sym (is-true (has P b) (and-l (has P b) (once (without P b) bs) o)) ∙ rw z (empty-has b) in
-      let c : _≡_ {A = ℕ} 0 1 = cc in absurd (omega arith)
+      apart (cc)
 
   from : (bs : List ℕ) (P : ℕ) (tau : Float) → Mid B P tau → 0 < P → T (once P bs) → foldl (onward W) (at P tau) bs ≡ end
   unfolding once at end

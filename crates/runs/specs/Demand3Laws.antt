@@ -10,6 +10,7 @@ use lib.Dec.{eqb}
 use lib.ListN.{length}
 use lib.Ieee.{Float, prec}
 use Rattle.units.specs.Walk.{roundedUp}
+use Rattle.lists.specs.Apart.{apart}
 use Rattle.kinds.specs.Limits.{Width, exponentOf, blocksOf}
 use Rattle.kinds.specs.declared.State.{State}
 use Rattle.kinds.specs.declared.Step.the-variants.{More, Done}
@@ -77,14 +78,14 @@ module _ {W : Width} (F : Fitting W) (ps : List ℕ) (work : List Float) where
       where
         go : Reached W F ps work (runOf W ps work bs) → Going W ps (runOf W ps work bs) s
         go (inl D) = goes-on F ps work _ D s h
-        go (inr O) = let m : Done (O .sum) (O .rounds) ≡ More s = sym (O .answer) ∙ h in let z : _≡_ {A = ℕ} 0 1 = cc in absurd (omega arith)
+        go (inr O) = let m : Done (O .sum) (O .rounds) ≡ More s = sym (O .answer) ∙ h in apart (cc)
 
     pub run-finishes : (x : Float) (k : ℕ) → runOf W ps work bs .walk .answer ≡ Done x k → Finished W (F .top) ps work (runOf W ps work bs) x k
     run-finishes x k h = go reached
       where
         go : Reached W F ps work (runOf W ps work bs) → Finished W (F .top) ps work (runOf W ps work bs) x k
         go (inl D) =
-            let m = sym (ap (λ (w : Walked). w .answer) (D .walk)) ∙ h in let z : _≡_ {A = ℕ} 0 1 = cc in absurd (omega arith)
+            let m = sym (ap (λ (w : Walked). w .answer) (D .walk)) ∙ h in apart (cc)
         go (inr O) = finishes _ O G x k h
 
     -- no run has more accepted steps than this
@@ -104,7 +105,7 @@ module _ {W : Width} (F : Fitting W) (ps : List ℕ) (work : List Float) where
         none : (b : Bool) → allZero (W .format) (floats W ps) ≡ b → k ≡ 0
         none true a = let m : Done (zeroOf W ps) 0 ≡ Done x k = sym (ap (λ (w : Walked). w .answer) (opened-zero F ps work G a)) ∙ h in cc
         none false a =
-            let m = sym (ap (λ (w : Walked). w .answer) (opened-round F ps work G a)) ∙ h in let z : _≡_ {A = ℕ} 0 1 = cc in absurd (omega arith)
+            let m = sym (ap (λ (w : Walked). w .answer) (opened-round F ps work G a)) ∙ h in apart (cc)
 
         start : Ran
         start = record { walk = opened W ps work; steps = 0 }

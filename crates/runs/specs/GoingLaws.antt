@@ -14,6 +14,7 @@ use Rattle.units.specs.ExactSum.{sum-total}
 use Rattle.units.specs.Ceiling.{ceil-ge}
 use Rattle.ieee.specs.Units.{value, whole}
 use Rattle.ieee.specs.Sum.{value-int}
+use Rattle.lists.specs.Apart.{apart}
 use Rattle.lists.specs.Bitset.{has, without}
 use Rattle.lists.specs.BitsetLaws.{has-below}
 use Rattle.lists.specs.Each.{Each, each-weaker, each-take, each-drop}
@@ -80,7 +81,7 @@ accepted-turns W r s xs b e g = ap (λ (q : Ran). q .walk .work) (tried-more W r
         go : (a : Step) → w .answer ≡ a → verdictOf a ≡ Good → heeded r w .walk .work ≡ turned W (s .sigma) b xs
         go (More q) i v = rw i h
         go (Done x k) i v = rw i h
-        go (Refused k p) i v = let z : _≡_ {A = ℕ} 0 1 = cc in absurd (omega arith)
+        go (Refused k p) i v = apart (cc)
 
 module _ {W : Width} (F : Fitting W) (ps : List ℕ) (work : List Float) where
   -- ---- a run that goes on

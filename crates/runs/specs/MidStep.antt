@@ -18,6 +18,7 @@ use Rattle.ieee.specs.Units.{value, whole}
 use Rattle.ieee.specs.Finite.{same-float}
 use Rattle.ieee.specs.Rounded.{prec-pos}
 use Rattle.ieee.specs.Sum.{value-int, value-mag}
+use Rattle.lists.specs.Apart.{apart}
 use Rattle.lists.specs.Bitset.{has, without}
 use Rattle.lists.specs.BitsetLaws.{has-below}
 use Rattle.kinds.specs.Limits.{Width, exponentOf, blocksOf}
@@ -44,7 +45,7 @@ pub empty-has : (b : ℕ) → has 0 b ≡ false
 empty-has b = rw (zero-div (2 ^ b))
 
 pub has-positive : (P b : ℕ) → has P b ≡ true → 0 < P
-has-positive zero b h = let z : _≡_ {A = Bool} true false = sym h ∙ empty-has b in let c : _≡_ {A = ℕ} 0 1 = cc in absurd (omega arith)
+has-positive zero b h = let z : _≡_ {A = Bool} true false = sym h ∙ empty-has b in apart (cc)
 has-positive (suc P) b h = omega arith
 
 module _ {W : Width} {F : Fitting W} {e n : ℕ} {sigma t : Float} {rounds : ℕ} {xs : List Float} (B : Begun W F e n sigma t rounds xs) where

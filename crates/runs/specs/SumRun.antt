@@ -9,6 +9,7 @@ use Rattle.units.specs.Whole.{Whole, nat}
 use Rattle.units.specs.Faithful.{Faithful}
 use Rattle.units.specs.FaithfulLaws.{faithful-same, zero-faithful}
 use Rattle.ieee.specs.Units.{Number, whole}
+use Rattle.lists.specs.Apart.{apart}
 use Rattle.kinds.specs.Limits.{Width, exponentOf, blocksOf}
 use Rattle.kinds.specs.States.{stateOf}
 use Rattle.kinds.specs.declared.State.{State}
@@ -92,7 +93,7 @@ module _ {W : Width} {F : Fitting W} {S : Whole} {n : ℕ} where
       where
         go : {q : Step} → Closed W F S n (s .rounds) (allLeft W s xs) q → q ≡ More s'
             → SumRunning W F S n s' (allLeft W s xs) × (s' .rounds ≡ s .rounds + 1)
-        go (ends x N G) h = let z : _≡_ {A = ℕ} 0 1 = cc in absurd (omega arith)
+        go (ends x N G) h = apart (cc)
         go (goes e sigma t B) h =
             let z : roundOf W n sigma t (s .rounds + 1) ≡ s' = cc in
             let q : State = roundOf W n sigma t (s .rounds + 1) in
@@ -118,7 +119,7 @@ module _ {W : Width} {F : Fitting W} {S : Whole} {n : ℕ} where
               number = rw v at N;
               faithful = rw v at G;
             }
-        go (goes e sigma t B) h = let z : _≡_ {A = ℕ} 0 1 = cc in absurd (omega arith)
+        go (goes e sigma t B) h = apart (cc)
 
     closing : (k : ℕ) → ((s' : State) → closed W (allTaken W s xs) (allLeft W s xs) ≡ More s'
         → Faithfully W S (roundsFrom W (blocksOf W n) k (walked (More s') (allLeft W s xs))))

@@ -8,6 +8,7 @@ use borrow.Author.Tests.{lt-ltb, le-ltb, eq-eqb, ne-eqb}
 use lib.Dec.{T, ltb, eqb, eqb→eq, nltb→le}
 use lib.ListN.{length, take, drop, take-append-drop, length-append, length-drop}
 use lib.Seq.{length-take-le, take-at, drop-at}
+use Rattle.lists.specs.Apart.{apart}
 use Rattle.lists.specs.Digits.{Digits}
 use Rattle.lists.specs.DigitLaws.{digits-tail, digits-take, digits-drop}
 use Rattle.octets.specs.Octets.{bigEndian, big}
@@ -95,8 +96,7 @@ passed : (area : List ℕ) (k : ℕ) (b : Bool) {n : ℕ} {after : List ℕ} {re
     → cond b (reading (Refused k 0) area) rest ≡ reading (Read n) after → T (not b) × (rest ≡ reading (Read n) after)
 passed area k true {n} e =
     let r : Refused k 0 ≡ Read n = ap (λ (x : Reading). x .answer) e in
-    let z : _≡_ {A = ℕ} 0 1 = cc in
-    absurd (omega arith)
+    apart (cc)
 passed area k false e = (tt, e)
 
 twice : (b : Bool) → T (not (not b)) → T b

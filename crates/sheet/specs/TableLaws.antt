@@ -8,6 +8,7 @@ use native.Mathlib.Decide.{ℕ-discrete}
 use native.Mathlib.Omega.{arith}
 use lib.ListN.{length}
 use Rattle.units.specs.Powers.{le-or-lt}
+use Rattle.lists.specs.Apart.{apart}
 use Rattle.kinds.specs.Heard.{Place, nowhere, refused, placeOf, sheetHeard}
 use Rattle.kinds.specs.Limits.{Width}
 use Rattle.kinds.specs.declared.Sheet.{Sheet}
@@ -66,7 +67,7 @@ module _ (W : Width) (bytes area : List ℕ) where
   left (too-short B f s) e = ap (λ (x : Reading). x .area) (read-short W bytes area (B .header) (B .version) f s)
   left (too-long B f l) e = ap (λ (x : Reading). x .area) (read-long W bytes area (B .header) (B .version) f l)
   left (no-room B f x s) e = ap (λ (x : Reading). x .area) (read-no-room W bytes area (B .header) (B .version) f x s)
-  left (all-read B f x s) e = let z : _≡_ {A = ℕ} 0 1 = cc in absurd (omega arith)
+  left (all-read B f x s) e = apart (cc)
 
   pub read-leaves : {k i : ℕ} → readOf W bytes area .answer ≡ Refused k i → readOf W bytes area .area ≡ area
   read-leaves e = left (some-row .1) (sym (row (some-row .1)) ∙ e)
@@ -82,7 +83,7 @@ module _ (W : Width) (bytes area : List ℕ) where
   told {k = k} (too-short B f s) e = let n : 11 ≡ k = cc in (cc, rw (← n) (too-short B f s))
   told {k = k} (too-long B f l) e = let n : 13 ≡ k = cc in (cc, rw (← n) (too-long B f l))
   told {k = k} (no-room B f x s) e = let n : 4 ≡ k = cc in (cc, rw (← n) (no-room B f x s))
-  told (all-read B f x s) e = let z : _≡_ {A = ℕ} 0 1 = cc in absurd (omega arith)
+  told (all-read B f x s) e = apart (cc)
 
   pub sheet-told : (k : ℕ) (p : Place) → (sheetHeard (readOf W bytes area .answer) ≡ refused k p) ↔ ((p ≡ nowhere) × SheetWhen W bytes area (Refused k 0))
   sheet-told k p = (

@@ -10,6 +10,7 @@ use lib.ListN.{length}
 use lib.Ieee.{Float, Format}
 use Rattle.units.specs.Rounding.{ceil}
 use Rattle.ieee.specs.Units.{Number, negative, magnitude}
+use Rattle.lists.specs.Apart.{apart}
 use Rattle.lists.specs.Bitset.{has}
 use Rattle.exponent.specs.Power.{powers, powerOf}
 use Rattle.exponent.specs.PowerLaws.{power-number, power-negative, power-magnitude}
@@ -64,10 +65,10 @@ module _ (W : Width) (s : State) (b : ℕ) (xs : List Float) where
         inside = leb-false (blocksOf W (s .n)) b R;
         pending = S;
       }
-      go true true false false P Q R S e = let z : _≡_ {A = ℕ} 0 1 = cc in absurd (omega arith)
-      go true true true t P Q R S e = let z : _≡_ {A = ℕ} 0 1 = cc in absurd (omega arith)
-      go true false r t P Q R S e = let z : _≡_ {A = ℕ} 0 1 = cc in absurd (omega arith)
-      go false q r t P Q R S e = let z : _≡_ {A = ℕ} 0 1 = cc in absurd (omega arith)
+      go true true false false P Q R S e = apart (cc)
+      go true true true t P Q R S e = apart (cc)
+      go true false r t P Q R S e = apart (cc)
+      go false q r t P Q R S e = apart (cc)
 
 -- ---- 2^-M sigma as a float. 2^top is the largest magnitude in units
 module _ (W : Width) (top : ℕ) (is : unitsAt W (W .magnitude) ≡ 2 ^ top) (s : State) (N : Numbers W s) (room : exponentOf (s .n) + top < powers (W .format))

@@ -17,6 +17,7 @@ use Rattle.ieee.specs.Units.{Number, negative, magnitude}
 use Rattle.ieee.specs.Fractions.{eqb-same}
 use Rattle.ieee.specs.Finite.{facts}
 use Rattle.ieee.specs.Compare.{eq-units}
+use Rattle.lists.specs.Apart.{apart}
 use Rattle.exponent.specs.Power.{powers, powerOf}
 use Rattle.exponent.specs.PowerLaws.{power-number, power-negative, power-magnitude, power-whole, power-same}
 use Rattle.kinds.specs.Limits.{Width, exponentOf}
@@ -25,7 +26,7 @@ use Rattle.sound.specs.WithinLaws.{between, positive-whole}
 
 pub split : (a b : Bool) → (a && b) ≡ true → (a ≡ true) × (b ≡ true)
 split true b e = (refl, e)
-split false b e = let z : _≡_ {A = ℕ} 0 1 = cc in absurd (omega arith)
+split false b e = apart (cc)
 
 pub record Sigma (W : Width) (n : ℕ) (x : Float) : Type 0 where
   pub fini : T (finite x)

@@ -15,6 +15,7 @@ use Rattle.units.specs.Whole.{nat}
 use Rattle.ieee.specs.Units.{Number, negative, magnitude, signedWhole, whole}
 use Rattle.ieee.specs.Fractions.{same-test}
 use Rattle.ieee.specs.Compare.{le-units}
+use Rattle.lists.specs.Apart.{apart}
 use Rattle.ieee.specs.Sum.{neg-number, neg-whole}
 
 -- two tests of numbers that come to one
@@ -39,7 +40,7 @@ outside (fin s m e) x (inf t) A B n = absurd B
 outside (fin s m e) nan (fin t k d) A B n = refl
 outside (fin s m e) (inf true) (fin t k d) A B n = refl
 outside (fin s m e) (inf false) (fin t k d) A B n = refl
-outside (fin s m e) (fin r j c) (fin t k d) A B n = let z : _≡_ {A = ℕ} 0 1 = cc in absurd (omega arith)
+outside (fin s m e) (fin r j c) (fin t k d) A B n = apart (cc)
 
 module _ (f : Format) (x : Float) (fit : T (fits f x)) where
   -- by whether x is a number

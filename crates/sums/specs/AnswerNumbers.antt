@@ -3,10 +3,11 @@ use mathlib.Core.Path.{_≡_, refl, sym, _∙_, subst}
 use mathlib.Core.Bool.{true, not}
 use mathlib.Core.List.{List}
 use Prim.Native.Nat.{ℕ}
-use native.Mathlib.Omega.{arith}
 use lib.Dec.{T}
 use lib.Ieee.{Float, isNan}
 use Rattle.ieee.specs.Units.{Number, nearestFloat}
+use Rattle.ieee.specs.Finite.{finite-no-nan}
+use Rattle.lists.specs.Apart.{apart}
 use Rattle.kinds.specs.Limits.{doubles}
 use Rattle.kinds.specs.declared.Verdict.{Verdict}
 use Rattle.kinds.specs.declared.Verdict.the-variants as verdicts
@@ -15,7 +16,6 @@ use Rattle.judge.specs.Judge.{judged, zeroSign}
 use Rattle.judge.specs.JudgeLaws.{given-when}
 use Rattle.sums.specs.Sums.{sumOf, nearestOf}
 use Rattle.sums.specs.AnswerLaws.{nearest-good, nearest-refused}
-use Rattle.sums.specs.SplitLaws.{no-nan}
 use Rattle.sums.specs.Promised.{nearest-promised}
 
 module _ (ps : List ℕ) {x : Float} (e : nearestOf ps ≡ Sum x) where
@@ -29,8 +29,7 @@ module _ (ps : List ℕ) {x : Float} (e : nearestOf ps ≡ Sum x) where
           subst (Number (doubles .format)) y (nearest-promised ps (given-when doubles true true ps verdicts.Good .0 g) .1 .number)
       by (verdicts.Refused k p) g =
           let s : Refused k p ≡ Sum x = sym (nearest-refused ps k p g) ∙ e in
-          let z : _≡_ {A = ℕ} 0 1 = cc in
-          absurd (omega arith)
+          apart (cc)
 
   pub nearest-no-nan : T (not (isNan x))
-  nearest-no-nan = no-nan x (nearest-number .fini)
+  nearest-no-nan = finite-no-nan x (nearest-number .fini)

@@ -10,10 +10,11 @@ use lib.Dec.{T}
 use lib.IntN.{ℤ, _-ℤ_, natAbs}
 use lib.ListN.{length, take, set, length-set}
 use lib.Seq.{take-all}
-use lib.Ieee.{Float, nan, inf, fin, ofBits, toBits, isNan}
+use lib.Ieee.{Float, ofBits, toBits, isNan}
 use lib.Ieee.Bits.{ofBits-toBits}
 use lib.Ieee.Scale.{finite}
 use Rattle.ieee.specs.Units.{value, nearestFloat, limit}
+use Rattle.ieee.specs.Finite.{finite-no-nan}
 use Rattle.ieee.specs.Nearest.{nearest-number}
 use Rattle.kinds.specs.Limits.{doubles}
 use Rattle.words.specs.Words.{wordCount, wholeOf, wordsOf}
@@ -22,15 +23,9 @@ use Rattle.sums.specs.Sums.{parts}
 use Rattle.sums.specs.PartsLaws.{left-smaller, remaining, remaining-none, remaining-next, parts-none, parts-next}
 use Rattle.sums.specs.SumLaws.{whole-words}
 
-pub no-nan : (x : Float) → T (finite x) → T (not (isNan x))
-unfolding isNan
-no-nan nan h = absurd h
-no-nan (inf s) h = absurd h
-no-nan (fin s m e) h = tt
-
 module _ {part : Float} (z : Bool) (S : ℤ) (l : natAbs S < limit (doubles .format)) (e : part ≡ nearestFloat (doubles .format) z S) where
   pub part-no-nan : T (not (isNan part))
-  part-no-nan = rw e (no-nan (nearestFloat (doubles .format) z S) (nearest-number (doubles .format) z S l .fini))
+  part-no-nan = rw e (finite-no-nan (nearestFloat (doubles .format) z S) (nearest-number (doubles .format) z S l .fini))
 
   part-back : ofBits (doubles .format) (toBits (doubles .format) part) ≡ part
   part-back = rw e (ofBits-toBits (doubles .format) (nearestFloat (doubles .format) z S) (nearest-number (doubles .format) z S l .fit))

@@ -7,6 +7,7 @@ use native.Mathlib.Nat.{le-trans}
 use native.Mathlib.Omega.{arith}
 use lib.Pow.{pow-mono}
 use lib.Ieee.{Float}
+use Rattle.lists.specs.Apart.{apart}
 use Rattle.lists.specs.Each.{each-weaker}
 use Rattle.kinds.specs.Limits.{Width, blocksOf}
 use Rattle.kinds.specs.States.{stateOf}
@@ -96,7 +97,7 @@ module _ {W : Width} {F : Fitting W} {n : ℕ} {s : State} {xs : List Float} (R 
   run-running s' e = go follows e
     where
       go : {q : Step} → Next W F n (s .rounds) (allLeft W s xs) q → q ≡ More s' → Running W F n s' (allLeft W s xs) × (s' .rounds ≡ s .rounds + 1)
-      go (ends x) h = let z : _≡_ {A = ℕ} 0 1 = cc in absurd (omega arith)
+      go (ends x) h = apart (cc)
       go (goes e sigma t B) h =
           let z : roundOf W n sigma t (s .rounds + 1) ≡ s' = cc in
           let q : State = roundOf W n sigma t (s .rounds + 1) in
@@ -109,7 +110,7 @@ module _ {W : Width} {F : Fitting W} {n : ℕ} {s : State} {xs : List Float} (R 
     where
       go : {q : Step} → Next W F n (s .rounds) (allLeft W s xs) q → q ≡ Done x r → r ≡ s .rounds + 1
       go (ends y) h = cc
-      go (goes e sigma t B) h = let z : _≡_ {A = ℕ} 0 1 = cc in absurd (omega arith)
+      go (goes e sigma t B) h = apart (cc)
 
   pub run-accepted : (k p : ℕ) → closed W (allTaken W s xs) (allLeft W s xs) ≡ Refused k p → ⊥
   run-accepted k p e = go follows e

@@ -10,6 +10,7 @@ use lib.IntN.{pos}
 use lib.ListN.{length}
 use lib.Ieee.{Float}
 use Rattle.ieee.specs.Units.{nearestFloat}
+use Rattle.lists.specs.Apart.{apart}
 use Rattle.kinds.specs.Limits.{Width, blocksOf}
 use Rattle.kinds.specs.declared.State.{State}
 use Rattle.kinds.specs.declared.Step.{Step}
@@ -54,7 +55,7 @@ module _ {W : Width} (F : Fitting W) (ps : List ℕ) (work : List Float) where
           → walked (cond b (Done zero 0) (More first)) (floats W ps) ≡ walked (More s) xs → First W F n s xs
       starts true z g h =
           let m : Done zero 0 ≡ More s = ap (λ (w : Walked). w .answer) h in
-          let c : _≡_ {A = ℕ} 0 1 = cc in absurd (omega arith)
+          apart (cc)
       starts false z g h =
           let m : More first ≡ More s = ap (λ (w : Walked). w .answer) h in
           let a : first ≡ s = cc in
@@ -65,7 +66,7 @@ module _ {W : Width} (F : Fitting W) (ps : List ℕ) (work : List Float) where
       by verdicts.Good g h = starts (allZero (W .format) (floats W ps)) refl g h
       by (verdicts.Refused k p) g h =
           let m : Refused k p ≡ More s = ap (λ (w : Walked). w .answer) h in
-          let c : _≡_ {A = ℕ} 0 1 = cc in absurd (omega arith)
+          apart (cc)
 
   rest : Walked → Walked
   rest w = roundsFrom W (blocksOf W (length ps)) (suc (W .rounds)) w

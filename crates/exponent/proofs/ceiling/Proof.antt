@@ -4,7 +4,8 @@ use lib.Dec.{T}
 use lib.Ieee.{binary64}
 use Rattle.units.specs.Rounding.{ceil}
 use Rattle.ieee.specs.Units.{Number}
-use Rattle.exponent.specs.CeilingLaws.{finite-no-nan, positive-bits, positive-units}
+use Rattle.ieee.specs.Finite.{finite-no-nan}
+use Rattle.exponent.specs.CeilingLaws.{positive-bits, positive-units}
 use Rattle.exponent.proofs.ceiling.Statement.{statement}
 use Rattle.exponent.proofs.ceiling.Tie as tie
 

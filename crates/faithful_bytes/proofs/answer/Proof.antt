@@ -1,6 +1,6 @@
 -- `faithful_bytes::answer` meets its contract: a sum is a number, a refusal is one of the table, and the undivided call answers no state. Assumes nothing.
 use mathlib.Core.Path.{sym, ap, _∙_}
-use mathlib.Core.List.{List, []}
+use mathlib.Core.List.{[]}
 use Prim.Native.Nat.{ℕ}
 use borrow.Author.Needs.{needs}
 use Rattle.kinds.specs.Heard.{Heard, stepHeard}

@@ -1,9 +1,8 @@
 -- `octets::big_endian` meets its contract: after i bytes the number is theirs and below 2^(8 i), so that eight of them fit. Assumes nothing.
 use mathlib.Core.Path.{_≡_, sym}
-use Prim.Native.Nat.{ℕ, _+_, _*_, _-_, _^_, _≤_, _<_}
+use Prim.Native.Nat.{_*_, _-_, _^_, _≤_, _<_}
 use native.Mathlib.Omega.{arith}
 use borrow.Author.Needs.{needs}
-use lib.ListN.{length, getD}
 use Rattle.octets.specs.Octets.{big, bytesAt}
 use Rattle.octets.specs.OctetsLaws.{big-none, big-next, room, bound-next}
 use Rattle.octets.proofs.big_endian.Statement.{statement}

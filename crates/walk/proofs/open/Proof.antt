@@ -2,7 +2,7 @@
 use mathlib.Core.Path.{sym, ap, _∙_}
 use mathlib.Core.Bool.{true}
 use borrow.Author.Needs.{needs}
-use lib.Dec.{eqb, eqb→eq}
+use lib.Dec.{eqb→eq}
 use Rattle.kinds.specs.Limits.{doubles}
 use Rattle.kinds.specs.declared.Verdict.{Verdict}
 use Rattle.kinds.specs.declared.Verdict.the-variants.{Good}

@@ -1,10 +1,10 @@
 -- `octets::little::pack` meets its contract: the bytes passed are those of the first i numbers. Assumes nothing.
 use mathlib.Core.Path.{_≡_, refl, _∙_}
 use mathlib.Core.List.{_++_, append-nil}
-use Prim.Native.Nat.{_+_, _*_, _-_, _≤_, _<_}
+use Prim.Native.Nat.{_+_, _*_, _-_, _≤_}
 use native.Mathlib.Omega.{arith}
 use borrow.Author.Needs.{needs}
-use lib.ListN.{length, take, drop, getD}
+use lib.ListN.{length, take, drop}
 use lib.Seq.{take-all, drop-length}
 use Rattle.octets.specs.Octets.{littleEndian, packed}
 use Rattle.octets.specs.OctetsLaws.{little-length}

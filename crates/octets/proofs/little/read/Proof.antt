@@ -1,10 +1,9 @@
 -- `octets::little::read` meets its contract: after i bytes the number is that of the last i, and below 2^(8 i). Assumes nothing.
 use mathlib.Core.Path.{_≡_, sym}
-use Prim.Native.Nat.{ℕ, _+_, _*_, _-_, _^_, _≤_, _<_}
+use Prim.Native.Nat.{_+_, _*_, _-_, _^_, _≤_, _<_}
 use native.Mathlib.Nat.{add-zero}
 use native.Mathlib.Omega.{arith}
 use borrow.Author.Needs.{needs}
-use lib.ListN.{length}
 use Rattle.octets.specs.Octets.{little, bytesAt}
 use Rattle.octets.specs.OctetsLaws.{little-none, little-next, room, bound-next}
 use Rattle.octets.proofs.little.read.Statement.{statement}
