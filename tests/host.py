@@ -28,7 +28,6 @@ import kit  # noqa: E402
 
 PLACE = os.path.join(ROOT, "target", "host")
 DRIVER = os.path.join(PLACE, "driver")
-TARGET = "x86_64-unknown-linux-gnu"
 LISTS = 20000
 PROGRESS = 8  # seconds between lines
 FLIPPED = ["sum_lengths", "register_lengths", 0, 1]  # the batches of the short run: every kind of call is in them
@@ -65,17 +64,13 @@ def run(*words):
 
 
 def build():
-    tools, link = kit.toolchain(), os.path.join(kit.home(), "on", kit.machine(), "bin", "rattle-link")
     archives = []
     for crate in ("exports", "harness"):
         run("rt", "staticlib", crate)
         archives.append(os.path.join(ROOT, "target", "staticlib", f"lib{crate}.a"))
     os.makedirs(PLACE, exist_ok=True)
-    source, made = os.path.join(HERE, "host", "driver.c"), os.path.join(PLACE, "driver.o")
-    words = ["-std=c99", "-O2", "-Wall", "-Wextra", "-Werror", "-ffreestanding", "-fPIE"]
-    words += ["-I", os.path.join(ROOT, "include"), "-isystem", os.path.join(HERE, "host")]
-    run(os.path.join(tools, "bin", "clang"), f"--target={TARGET}", *words, "-c", source, "-o", made)
-    run(link, "--target", TARGET, "--toolchain", tools, "-o", DRIVER, made, *archives)
+    for command in kit.c_commands(os.path.join(HERE, "host", "driver.c"), archives, DRIVER):
+        run(*command)
 
 
 # ---- a batch

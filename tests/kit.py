@@ -1,6 +1,12 @@
-"""Where the Rattle kit is, and how a program that it compiled runs on this machine: as `rt` itself runs one."""
+"""Where the Rattle kit is, how a C program is built with the kit alone, and how a program for x86-64 runs on this machine: as `rt` itself runs one."""
 import os
 import shutil
+import subprocess
+import sys
+
+TARGET = "x86_64-unknown-linux-gnu"
+HEADERS = os.path.join(os.path.dirname(os.path.abspath(__file__)), "host")  # the kit's compiler comes without a C library's
+INCLUDE = os.path.join(os.path.dirname(os.path.dirname(HEADERS)), "include")
 
 
 def home():
@@ -21,6 +27,29 @@ def machine():
 
 def toolchain():
     return os.path.join(home(), "on", machine(), "toolchain")
+
+
+def c_commands(source, archives, program):
+    """The commands that make a program for x86-64 of one C file and archives of `rt staticlib`, with the object file beside it."""
+    made, link = program + ".o", os.path.join(home(), "on", machine(), "bin", "rattle-link")
+    words = ["-std=c99", "-O2", "-Wall", "-Wextra", "-Werror", "-ffreestanding", "-fPIE", "-I", INCLUDE, "-isystem", HEADERS]
+    yield [os.path.join(toolchain(), "bin", "clang"), f"--target={TARGET}", *words, "-c", source, "-o", made]
+    yield [link, "--target", TARGET, "--toolchain", toolchain(), "-o", program, made, *archives]
+
+
+def rt(*words):
+    """Runs rt at the repository's root, with its own lines on standard error; all that it says where it fails. Answers its status."""
+    said = []
+    root = os.path.dirname(INCLUDE)
+    with subprocess.Popen(["rt", *words], cwd=root, stdin=subprocess.DEVNULL, stdout=subprocess.PIPE, stderr=subprocess.STDOUT) as process:
+        for line in process.stdout:
+            line = line.decode(errors="replace")
+            said.append(line)
+            if line.startswith("rt: "):
+                print(line, end="", file=sys.stderr, flush=True)
+    if process.returncode:
+        print("".join(said), end="", file=sys.stderr)
+    return process.returncode
 
 
 def run_prefix():
