@@ -217,6 +217,15 @@ def short(numbers, n):
 FAULTS = [[], [NAN], [LARGE, INFINITY], [INFINITY, LARGE], [ONE, SIGN | LARGE, NAN], [ONE, SIGN | INFINITY, LARGE]]
 
 
+def largest_codes(chance):
+    """The fault at the last place of the longest list: 3 or 2, and 32·4094."""
+    for fault, code in ((LARGE, 131011), (NAN, 131010)):
+        for call in ("kewohiata_faithful", "kewohiata_nearest"):
+            request = summed(call, packed([ONE] * (LENGTH - 1) + [fault]), chance.randbytes(SUM))
+            assert request.code == code, f"{call} answers {request.code} to a fault at the last place, by hand it is {code}"
+            yield request
+
+
 def sum_lengths(chance):
     """1 for more than 32,752 bytes, else 4, else 2 or 3 at the lowest place."""
     for faults in FAULTS:
@@ -225,6 +234,7 @@ def sum_lengths(chance):
             for out in (SUM, 0, 8, 15, 17, 24):
                 for call in ("kewohiata_faithful", "kewohiata_nearest"):
                     yield summed(call, data, chance.randbytes(out))
+    yield from largest_codes(chance)
 
 
 def walk_lengths(chance):
