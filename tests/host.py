@@ -100,40 +100,39 @@ def met(request):
 
 
 def compared(work):
-    """The batch's name, the answers met, and what is to be reported: differences, or with flipped answers those that pass."""
+    """The batch's name, the answers met, how many are reported to differ, and the first report. Flipped answers go the same way as all others."""
     seed, name, flip = work
     requests, chance = cases.batch(seed, name), random.Random(f"{seed}/{name}/flip")
-    reports, counts = [], collections.Counter()
+    counts, reports, first = collections.Counter(), 0, None
     for request, answer in zip(requests, answers_of(requests)):
         found = calls.difference(request, flipped(answer, chance) if flip else answer)
         counts[met(request)] += 1
-        if flip and not found:
-            reports.append(f"a flipped bit passes:\n{calls.shown(request)}")
-        elif found and not flip:
-            reports.append(f"{found}:\n{calls.shown(request)}")
-    return name, counts, reports
+        if found:
+            reports += 1
+            first = first or f"{found}:\n{calls.shown(request)}"
+    return name, counts, reports, first
 
 
 # ---- the run
-def printed(reports, seed, name):
-    """The first in full: one that is understood explains most others."""
-    if reports:
-        print(f"host: seed {seed} batch {name}, the first of {len(reports)}: {reports[0]}")
+def wrong_of(seed, name, reports, demanded, first):
+    """By how many the reports of a batch are too many or too few. The first is shown in full: one that is understood explains most others."""
+    if reports != demanded:
+        print(f"host: seed {seed} batch {name}: {reports} differences are reported, demanded are {demanded}; the first: {first}")
+    return abs(reports - demanded)
 
 
 def compare(pool, seed, names, flip):
-    """Every batch. Answers how many answers of each kind were met, and how many reports there are."""
+    """Every batch: no answer may be reported, and of flipped ones each must be. Answers how many of each kind were met, and how many of them are wrong."""
     what, wrong = ("flipped", "flipped bits passed") if flip else ("compared", "differences")
     began = said = time.time()
     counts, bad, done = collections.Counter(), 0, 0
     results = pool.imap_unordered(compared, [(seed, name, flip) for name in names])
     while done < len(names):
         try:
-            name, more, reports = results.next(timeout=1)
+            name, more, reports, first = results.next(timeout=1)
             done += 1
             counts += more
-            bad += len(reports)
-            printed(reports, seed, name)
+            bad += wrong_of(seed, name, reports, sum(more.values()) if flip else 0, first)
         except multiprocessing.TimeoutError:
             pass
         if time.time() - said >= PROGRESS or done == len(names):

@@ -6,11 +6,14 @@
 
 NAME.sheet is what the program reads and NAME.out what it must print: document 01's order of refusals is written here, the sums are those of tests/walk.py and
 tests/trial.py, and where a line is written by hand beside its sheet the two have to agree. Nothing of the library is used. Each sheet is read as a file and
-through a pipe in small pieces with pauses, and there are inputs longer than the program's buffer.
+through a pipe in small pieces, each written when the program has taken the one before, and there are inputs longer than the program's buffer.
 """
+import array
+import fcntl
 import os
 import subprocess
 import sys
+import termios
 import time
 
 sys.dont_write_bytecode = True
@@ -22,6 +25,7 @@ HERE = os.path.dirname(os.path.abspath(__file__))
 FOLDER = os.path.join(HERE, "sheets")
 PROGRAM = os.path.join(os.path.dirname(HERE), "target", "bin", "sum_sheet")
 BUFFER = 32758
+SECONDS = 60  # within which the program has to end
 SIGN, INFINITY, ONE, LIMIT = trial.SIGN, trial.INFINITY, trial.ONE, trial.MAGNITUDE
 TOP, TINY = 0x4630000000000000, 0x3CA0000000000000  # 2^100, 2^-53
 
@@ -137,8 +141,13 @@ def started(stdin):
     )
 
 
-def ended(process):
-    out, err = process.communicate()
+def ended(process, data=None):
+    """What the program printed; where it failed, or had to be stopped, more than that."""
+    try:
+        out, err = process.communicate(data, timeout=SECONDS)
+    except subprocess.TimeoutExpired:
+        process.kill()
+        out, err = process.communicate()
     return out if process.returncode == 0 and not err else (process.returncode, out, err)
 
 
@@ -147,23 +156,35 @@ def from_file(path):
         return ended(started(stdin))
 
 
+def waiting(pipe):
+    """How many bytes of a pipe nobody has read yet."""
+    count = array.array("i", [0])
+    fcntl.ioctl(pipe, termios.FIONREAD, count)
+    return count[0]
+
+
 def in_pieces(data, size):
-    """Through a pipe, with a pause before each piece. A program that has read enough may have ended before the last."""
-    process = started(subprocess.PIPE)
+    """Through a pipe, each piece when the program has taken the one before. A program that has read enough may have ended before the last."""
+    process, limit = started(subprocess.PIPE), time.monotonic() + SECONDS
     try:
         for i in range(0, len(data), size):
-            time.sleep(0.002)
-            process.stdin.write(data[i : i + size])
-            process.stdin.flush()
+            while waiting(process.stdin) and process.poll() is None:
+                if time.monotonic() > limit:
+                    process.kill()
+                time.sleep(0.0005)
+            os.write(process.stdin.fileno(), data[i : i + size])
     except BrokenPipeError:
         pass
     return ended(process)
 
 
 def at_once(data):
-    process = started(subprocess.PIPE)
-    out, err = process.communicate(data)
-    return out if process.returncode == 0 and not err else (process.returncode, out, err)
+    return ended(started(subprocess.PIPE), data)
+
+
+def piece(length):
+    """Neither 7 nor 997 divides the header or a pattern; the shortest sheets, of which 7 bytes would be most, come byte by byte."""
+    return 1 if length < 64 else 7 if length < 1000 else 997
 
 
 # ---- the check
@@ -204,7 +225,7 @@ def check_sheet(name, data, by_hand):
     got = from_file(os.path.join(FOLDER, name + ".sheet"))
     same(name + ": from a file", got, expected)
     notices(name, got, expected)
-    same(name + ": in pieces", in_pieces(data, 1 if len(data) < 64 else 997), expected)
+    same(name + ": in pieces", in_pieces(data, piece(len(data))), expected)
 
 
 def check_longer(length, start, expected):

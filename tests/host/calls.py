@@ -1,12 +1,13 @@
 """The calls over bytes: each as a request to the driver, with the answer that document 01 asks for.
 
 The answers come from the models of tests/trial.py (sums, parts and registers in whole units) and tests/walk.py (the faithful walk); what is said here is how
-they lie in bytes, which lengths are refused, and the sheet.
+they lie in bytes and which lengths are refused. Sheets are read as by tests/sheets.py.
 """
 import collections
 import functools
 import struct
 
+import sheets
 import trial
 import walk
 from trial import Refused
@@ -219,24 +220,13 @@ def parted(data, area, flag):
 
 
 # ---- sheets
-def big(data):
-    return int.from_bytes(data, "big")
-
-
 def read_sheet(sheet, area):
-    """The count, and the area afterwards. "On a sheet: 11 for fewer than 5 bytes, 12, 1, 11, 13, 4." """
-    if len(sheet) < 5:
-        raise Refused(11, 0)
-    if sheet[0] != 1:
-        raise Refused(12, 0)
-    count = big(sheet[1:5])
-    if count > trial.LENGTH:
-        raise Refused(1, 0)
-    if len(sheet) != 5 + SIZE * count:
-        raise Refused(11 if len(sheet) < 5 + SIZE * count else 13, 0)
+    """The count, and the area afterwards. "On a sheet: 11 for fewer than 5 bytes, 12, 1, 11, 13, 4": the area's length comes last."""
+    patterns = sheets.read(sheet)
+    count = len(patterns)
     if len(area) < count:
         raise Refused(4, 0)
-    return count, [big(sheet[at : at + SIZE]) for at in range(5, len(sheet), SIZE)] + area[count:]
+    return count, patterns + area[count:]
 
 
 def read(sheet, area, count):

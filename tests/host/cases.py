@@ -7,6 +7,7 @@ import random
 import trial
 import walk
 from calls import FEW, REGISTER, ROOM, SIZE, STATE, SUM, entered, packed, parted, read, rounded, started, stepped, summed, undivided, unpacked
+from sheets import sheet
 from trial import INFINITY, KINDS, LENGTH, MAGNITUDE, ONE, ONES, SIGN, UNIT
 
 LISTS = 250  # in a batch
@@ -192,18 +193,14 @@ def registers(chance):
 
 
 # ---- sheets
-def sheet_of(version, count, patterns):
-    return bytes([version]) + count.to_bytes(4, "big") + b"".join(p.to_bytes(8, "big") for p in patterns)
-
-
 def sheets(chance):
     for _ in range(25):
         n = chance.choice([0, 1, 2, 5, 64, chance.randint(0, 200)])
         patterns = [turn(chance) for _ in range(n)]
         count = chance.choice([n] * 6 + [n + 1, max(n - 1, 0), LENGTH, LENGTH + 1, 2**31, 2**32 - 1])
-        sheet = sheet_of(chance.choice([1] * 9 + [0, 2, 255]), count, patterns)
-        sheet = chance.choice([sheet] * 6 + [sheet[:-1], sheet + b"\1", sheet[: chance.randint(0, 6)]])
-        yield read(sheet, chance.randbytes(SIZE * max(n + chance.choice([0, 0, 1, 7, -1]), 0)), chance.randbytes(SIZE))
+        data = sheet(patterns, chance.choice([1] * 9 + [0, 2, 255]), count)
+        data = chance.choice([data] * 6 + [data[:-1], data + b"\1", data[: chance.randint(0, 6)]])
+        yield read(data, chance.randbytes(SIZE * max(n + chance.choice([0, 0, 1, 7, -1]), 0)), chance.randbytes(SIZE))
 
 
 # ---- lengths and orders of refusals
@@ -220,6 +217,15 @@ def short(numbers, n):
 FAULTS = [[], [NAN], [LARGE, INFINITY], [INFINITY, LARGE], [ONE, SIGN | LARGE, NAN], [ONE, SIGN | INFINITY, LARGE]]
 
 
+def largest_codes(chance):
+    """The fault at the last place of the longest list: 3 or 2, and 32·4094."""
+    for fault, code in ((LARGE, 131011), (NAN, 131010)):
+        for call in ("kewohiata_faithful", "kewohiata_nearest"):
+            request = summed(call, packed([ONE] * (LENGTH - 1) + [fault]), chance.randbytes(SUM))
+            assert request.code == code, f"{call} answers {request.code} to a fault at the last place, by hand it is {code}"
+            yield request
+
+
 def sum_lengths(chance):
     """1 for more than 32,752 bytes, else 4, else 2 or 3 at the lowest place."""
     for faults in FAULTS:
@@ -228,6 +234,7 @@ def sum_lengths(chance):
             for out in (SUM, 0, 8, 15, 17, 24):
                 for call in ("kewohiata_faithful", "kewohiata_nearest"):
                     yield summed(call, data, chance.randbytes(out))
+    yield from largest_codes(chance)
 
 
 def walk_lengths(chance):
@@ -274,7 +281,7 @@ def sheet_lengths(chance):
             for size in (0, 1, 4, 5, 6, 12, 13, 14, 20, 21, 22, 32756, 32757, 32758, 40000):
                 for room in (0, 1, 2, LENGTH - 1, LENGTH, LENGTH + 1):
                     if size < 100 or room >= LENGTH - 1 or count < LENGTH:
-                        yield read((sheet_of(version, count, [turn(chance)] * 4) + bytes(40000))[:size], chance.randbytes(SIZE * room), chance.randbytes(SIZE))
+                        yield read((sheet([turn(chance)] * 4, version, count) + bytes(40000))[:size], chance.randbytes(SIZE * room), chance.randbytes(SIZE))
 
 
 def state_witnesses(chance):
