@@ -1,0 +1,103 @@
+/* The sums that are timed, each on one list. */
+#include "sums.h"
+
+/* the crate `timing` */
+double timing_faithful(const uint64_t *list, size_t n, double *work, size_t room);
+double timing_nearest(const uint64_t *list, size_t n);
+uint32_t timing_register_add(uint64_t *words, size_t count, uint64_t p);
+uint32_t timing_open(const uint64_t *list, size_t n, double *work, size_t room, double *reals, size_t three, uint64_t *counts, size_t also_three);
+uint32_t timing_step(double *reals, size_t three, uint64_t *counts, size_t also_three, double *work, size_t room, size_t block);
+
+enum { MORE = 0, DONE = 1 };
+
+double work[LENGTH];
+uint64_t words[WORDS];
+uint8_t bytes[8 * WORDS];
+mpfr_t result;
+
+double naive(const struct list *l)
+{
+    double sum = 0.0;
+    for (size_t i = 0; i < l->n; i++)
+        sum += of_bits(l->patterns[i]);
+    return sum;
+}
+
+double walk_gcc(const struct list *l) { return gcc_plain(l->patterns, l->n, work, l->n).sum; }
+double walk_clang(const struct list *l) { return clang_plain(l->patterns, l->n, work, l->n).sum; }
+double merged_gcc(const struct list *l) { return gcc_merged(l->patterns, l->n, work, l->n).sum; }
+double merged_clang(const struct list *l) { return clang_merged(l->patterns, l->n, work, l->n).sum; }
+double undivided(const struct list *l) { return timing_faithful(l->patterns, l->n, work, l->n); }
+double nearest(const struct list *l) { return timing_nearest(l->patterns, l->n); }
+
+/* by the public calls, blocks in rising order */
+double by_blocks(const struct list *l)
+{
+    double reals[3];
+    uint64_t counts[3];
+    size_t blocks = (l->n + 63) / 64, block = 0;
+    uint32_t said = timing_open(l->patterns, l->n, work, l->n, reals, 3, counts, 3);
+    while (said == MORE) {
+        said = timing_step(reals, 3, counts, 3, work, l->n, block);
+        block = block + 1 < blocks ? block + 1 : 0;
+    }
+    return said == DONE ? reals[0] : of_bits(~(uint64_t)0);
+}
+
+static double sum_in_bytes(uint32_t code, const uint8_t *out)
+{
+    uint64_t p = ~(uint64_t)0;
+    if (code == 0)
+        memcpy(&p, out, sizeof p);
+    return of_bits(p);
+}
+
+double faithful_call(const struct list *l)
+{
+    uint8_t out[16];
+    return sum_in_bytes(kewohiata_faithful((const uint8_t *)l->patterns, 8 * l->n, out, 16), out);
+}
+
+double nearest_call(const struct list *l)
+{
+    uint8_t out[16];
+    return sum_in_bytes(kewohiata_nearest((const uint8_t *)l->patterns, 8 * l->n, out, 16), out);
+}
+
+/* n additions to an empty register: the answer says whether all were accepted */
+double additions(const struct list *l)
+{
+    uint32_t said = 0;
+    memset(words, 0, sizeof words);
+    for (size_t i = 0; i < l->n; i++)
+        said |= timing_register_add(words, WORDS, l->patterns[i]);
+    return said;
+}
+
+double additions_call(const struct list *l)
+{
+    uint32_t said = 0;
+    memset(bytes, 0, sizeof bytes);
+    for (size_t i = 0; i < l->n; i++)
+        said |= kewohiata_register_add(bytes, sizeof bytes, l->patterns[i]);
+    return said;
+}
+
+/* of numbers that were converted before */
+double mpfr(const struct list *l)
+{
+    mpfr_sum(result, l->pointers, l->n, MPFR_RNDN);
+    return mpfr_get_d(result, MPFR_RNDN);
+}
+
+double mpfr_converted(const struct list *l)
+{
+    for (size_t i = 0; i < l->n; i++)
+        mpfr_set_d(l->numbers[i], of_bits(l->patterns[i]), MPFR_RNDN);
+    return mpfr(l);
+}
+
+double (*const sums[SUMS])(const struct list *) = {
+    naive,         walk_gcc, walk_clang,   merged_gcc, merged_clang,   undivided, by_blocks,
+    faithful_call, nearest,  nearest_call, additions,  additions_call, mpfr,      mpfr_converted,
+};
