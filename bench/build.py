@@ -1,8 +1,8 @@
 """Builds what bench/run times: the library's code for this machine, the walk in C by two compilers, and the driver.
 
-On x86-64 the library is the archives that `rt staticlib` makes. The kit compiles for x86-64 only; on another machine it gets a toolchain folder whose clang is a
-wrapper that keeps the LLVM module it is handed. That module is the library's own code before optimisation; the same clang then compiles it at -O3 for the
-machine. The back end is another one, and the table says so."""
+On x86-64 the library is the archives that `rt staticlib` makes. The kit compiles for x86-64 only; on another machine it gets a toolchain folder whose clang
+is a wrapper that keeps the LLVM module it is handed. That module is the library's own code before optimisation; the same clang then compiles it at -O3 for
+the machine. The back end is another one, and the table says so."""
 import os
 import re
 import shutil
@@ -96,9 +96,9 @@ def retargeted(text):
     return text.replace(' "target-cpu"="x86-64"', "")
 
 
-def native_object(crate):
+def compile_module(crate, made):
     """The library's code for a machine that the kit doesn't compile for."""
-    kept, text, made = (os.path.join(PLACE, f"{crate}.{end}") for end in ("bc", "ll", "o"))
+    kept, text = (os.path.join(PLACE, f"{crate}.{end}") for end in ("bc", "ll"))
     run(["rt", "staticlib", crate], env={**os.environ, "RATTLE_HOME": keeping_kit(kept)})
     run([clang(), "--target=x86_64-unknown-linux-gnu", "-x", "ir", kept, "-S", "-emit-llvm", "-Xclang", "-disable-llvm-passes", "-o", text])
     with open(text, encoding="utf-8") as f:
@@ -107,15 +107,31 @@ def native_object(crate):
         f.write(retargeted(module))
     words = ["-ffunction-sections", "-fdata-sections", "-mllvm", "-trap-unreachable", "-mllvm", "-no-trap-after-noreturn", "-Werror", "-fPIC", "-O3"]
     run([clang(), f"--target={kit.machine()}-unknown-linux-gnu", *words, "-c", "-x", "ir", text, "-o", made])
-    return made
+
+
+def made_of(crate):
+    """The file with the library's code for this machine."""
+    if kit.machine() == "x86_64":
+        return os.path.join(ROOT, "target", "staticlib", f"lib{crate}.a")
+    return os.path.join(PLACE, f"{crate}.o")
+
+
+def changed():
+    """When a source of the library was last changed."""
+    folders = [folder for folder, _, _ in os.walk(os.path.join(ROOT, "crates")) if f"{os.sep}src" in folder]
+    return max(os.path.getmtime(os.path.join(folder, name)) for folder in folders for name in os.listdir(folder))
 
 
 def library(crate):
+    made = made_of(crate)
+    if os.path.exists(made) and changed() < os.path.getmtime(made):
+        return made
     print(f"bench: {crate} is proved and compiled", flush=True)
-    if kit.machine() != "x86_64":
-        return native_object(crate)
-    run(["rt", "staticlib", crate])
-    return os.path.join(ROOT, "target", "staticlib", f"lib{crate}.a")
+    if kit.machine() == "x86_64":
+        run(["rt", "staticlib", crate])
+    else:
+        compile_module(crate, made)
+    return made
 
 
 # ---- C

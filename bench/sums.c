@@ -30,6 +30,15 @@ double merged_clang(const struct list *l) { return clang_merged(l->patterns, l->
 double undivided(const struct list *l) { return timing_faithful(l->patterns, l->n, work, l->n); }
 double nearest(const struct list *l) { return timing_nearest(l->patterns, l->n); }
 
+/* what the undivided call begins with; its sigma is answered */
+double opening(const struct list *l)
+{
+    double reals[3];
+    uint64_t counts[3];
+    timing_open(l->patterns, l->n, work, l->n, reals, 3, counts, 3);
+    return reals[0];
+}
+
 /* by the public calls, blocks in rising order */
 double by_blocks(const struct list *l)
 {
@@ -98,6 +107,6 @@ double mpfr_converted(const struct list *l)
 }
 
 double (*const sums[SUMS])(const struct list *) = {
-    naive,         walk_gcc, walk_clang,   merged_gcc, merged_clang,   undivided, by_blocks,
+    naive,         walk_gcc, walk_clang,   merged_gcc, merged_clang,   undivided, opening, by_blocks,
     faithful_call, nearest,  nearest_call, additions,  additions_call, mpfr,      mpfr_converted,
 };

@@ -12,7 +12,7 @@
 WALK_DECLARE(gcc)
 WALK_DECLARE(clang)
 
-enum { LENGTH = 4094, WORDS = 33, SUMS = 14 };
+enum { LENGTH = 4094, WORDS = 33, SUMS = 15 };
 
 /* A list as patterns, and as MPFR's numbers of 53 bits. */
 struct list {
@@ -28,13 +28,13 @@ extern uint64_t words[WORDS];
 extern uint8_t bytes[8 * WORDS];
 extern mpfr_t result;
 
-/* Each answers its sum, but `additions` and `additions_call`, which answer 0 where every addition was accepted. */
+/* Each answers its sum, but `opening`, and but `additions` and `additions_call`, which answer 0 where every addition was accepted. */
 double naive(const struct list *l), walk_gcc(const struct list *l), walk_clang(const struct list *l), merged_gcc(const struct list *l);
 double merged_clang(const struct list *l), undivided(const struct list *l), by_blocks(const struct list *l), faithful_call(const struct list *l);
 double nearest(const struct list *l), nearest_call(const struct list *l), additions(const struct list *l), additions_call(const struct list *l);
-double mpfr(const struct list *l), mpfr_converted(const struct list *l);
+double opening(const struct list *l), mpfr(const struct list *l), mpfr_converted(const struct list *l);
 
-/* in the order of bench/run's names */
+/* in the order of table.py's names */
 extern double (*const sums[SUMS])(const struct list *);
 
 static inline double of_bits(uint64_t p)

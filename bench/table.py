@@ -1,35 +1,34 @@
 """The measured times as tables of ratios, in Markdown."""
+import textwrap
 
-# the sums in main.c's order, and then fsum.py's: a word for the table's head, and what it is
+# the sums in the order of sums.c, and then fsum.py's: a name for the tables, and what it is
 SUMS = (
     ("naive", "the naive sum, a loop in C"),
-    ("walk", "document 01's walk in C, the list judged, copied and searched for its largest magnitude pass by pass; by gcc"),
-    ("walk, clang", "the same source by the kit's clang"),
-    ("merged", "the walk in C with the judgement and the largest magnitude in one pass over the patterns; by gcc"),
-    ("merged, clang", "the same source by the kit's clang"),
-    ("undivided", "`walk::faithful` on slices: the library's undivided call"),
+    ("walk in C, gcc", "document 01's walk in C, which judges the list, copies it and finds its largest magnitude in three passes, as the library does"),
+    ("walk in C, clang", "the same source by the kit's clang"),
+    ("merged walk, gcc", "the walk in C with the judgement and the largest magnitude in one pass over the patterns"),
+    ("merged walk, clang", "the same source by the kit's clang"),
+    ("undivided", "`walk::faithful` on slices, the undivided call"),
+    ("opening alone", "`walk::open` on slices, with which the undivided call begins"),
     ("by blocks", "`walk::open` and `walk::step`, blocks in rising order"),
-    ("C faithful", "`kewohiata_faithful`: bytes copied to numbers, and areas cleared, in the call"),
+    ("C call, faithful", "`kewohiata_faithful`: its time has the copy of the bytes to numbers and the clearing of its areas in it"),
     ("nearest", "`sums::nearest` on a slice"),
-    ("C nearest", "`kewohiata_nearest`, with the same copies"),
+    ("C call, nearest", "`kewohiata_nearest`, with the same copy and its clearing"),
     ("register", "n calls of `register::add` on 33 words"),
-    ("C register", "n calls of `kewohiata_register_add` on 264 bytes"),
+    ("C call, register", "n calls of `kewohiata_register_add` on 264 bytes"),
     ("mpfr_sum", "MPFR's exact sum rounded to 53 bits, of numbers of 53 bits that were converted before"),
-    ("mpfr, conv.", "the same with the conversion of the doubles"),
-    ("fsum", "Python's `math.fsum` of a list of floats, in its own process"),
+    ("mpfr_sum, converting", "the same with the conversion of the doubles"),
+    ("math.fsum", "Python's, of a list of floats, in a process of its own"),
 )
 NAMES = tuple(name for name, _ in SUMS)
-WALKS = ("walk", "walk, clang", "merged", "merged, clang")
-GOALS = (
-    ("undivided", "walk"),
-    ("undivided", "walk, clang"),
-    ("undivided", "merged"),
-    ("undivided", "merged, clang"),
+WALKS = NAMES[1:5]
+PAIRS = (
+    *(("undivided", walk) for walk in WALKS),
+    ("C call, faithful", "walk in C, gcc"),
     ("by blocks", "undivided"),
-    ("C faithful", "walk"),
-    ("nearest", "walk"),
+    ("nearest", "walk in C, gcc"),
     ("nearest", "mpfr_sum"),
-    ("C nearest", "mpfr_sum"),
+    ("C call, nearest", "mpfr_sum"),
 )
 
 
@@ -42,23 +41,21 @@ def rows(head, body):
     yield "|---" * len(head) + "|"
     for cells in body:
         yield "| " + " | ".join(cells) + " |"
-
-
-def to_naive(n, conditions, times):
-    """`times`: the ns of each name for each condition of this n."""
-    yield f"### n = {n:,}: multiples of the naive sum"
-    yield ""
-    body = [[c, f"{times[c]['naive']:,.0f} ns", *(figure(times[c][name] / times[c]["naive"]) for name in NAMES[1:])] for c in conditions]
-    yield from rows(["condition", *NAMES], body)
     yield ""
 
 
-def to_others(n, conditions, times):
-    yield f"### n = {n:,}: against the walk in C, and nearest against mpfr_sum"
+def of_length(n, conditions, times):
+    """`times`: for each condition the ns of each name."""
+    def row(name, cell):
+        return [name, *(cell(times[c]) for c in conditions)]
+
+    yield f"### n = {n:,}"
     yield ""
-    body = [[c, *(figure(times[c][a] / times[c][b]) for a, b in GOALS)] for c in conditions]
-    yield from rows(["condition", *(f"{a} / {b}" for a, b in GOALS)], body)
-    yield ""
+    body = [row("naive, ns", lambda t: f"{t['naive']:,.0f}")]
+    body += [row(name, lambda t, name=name: figure(t[name] / t["naive"])) for name in NAMES[1:]]
+    yield from rows(["multiples of the naive sum", *conditions], body)
+    body = [row(f"{a} / {b}", lambda t, a=a, b=b: figure(t[a] / t[b])) for a, b in PAIRS]
+    yield from rows(["against each other", *conditions], body)
 
 
 def worst(times, above, below):
@@ -66,25 +63,17 @@ def worst(times, above, below):
     return max((t[above] / t[below], n, c) for (n, c), t in times.items())
 
 
-def goals(times):
-    for below in WALKS:
-        ratio, n, condition = worst(times, "undivided", below)
-        yield f"- The undivided call takes at most {ratio:.2f} times {below} (n = {n:,}, condition {condition})."
-    for name in ("nearest", "C nearest"):
-        ratio, n, condition = worst(times, name, "mpfr_sum")
-        yield f"- {name} takes at most {ratio:.2f} times mpfr_sum (n = {n:,}, condition {condition})."
-    yield ""
-
-
-def legend():
-    yield from rows(["column", "what is timed"], SUMS)
-    yield ""
+def greatest(times):
+    body = []
+    for above, below in PAIRS:
+        ratio, n, condition = worst(times, above, below)
+        body.append([f"{above} / {below}", figure(ratio), f"{n:,}", condition])
+    yield from rows(["greatest ratio of all cases", "", "n", "condition"], body)
 
 
 def whole(heading, lengths, conditions, times):
     """All of it; `times` by n and condition."""
-    out = [*heading, "", *legend(), *goals(times)]
+    out = [*textwrap.wrap(heading, 150), "", *rows(["row", "what is timed"], SUMS), *greatest(times)]
     for n in lengths:
-        own = {c: times[n, c] for c in conditions}
-        out += [*to_naive(n, conditions, own), *to_others(n, conditions, own)]
+        out += of_length(n, conditions, {c: times[n, c] for c in conditions})
     return "\n".join(out).rstrip() + "\n"
