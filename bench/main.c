@@ -4,6 +4,7 @@
    answers it:
 
        time K R     R repetitions of every sum on case K, one after the other in each repetition: the least time of each, in ns for one list
+       once K S     the sum S on every list of case K, once, for a program that counts instructions; no sum where S is below 0
        check K 0    compares all answers on case K, and prints 'ok' and the nearest sums, or what differs
 
    A repetition goes once through all lists of a case. Work areas are not cleared before a call. */
@@ -50,7 +51,9 @@ static void release(struct list *lists, size_t count)
     free(lists);
 }
 
-/* ---- the two requests */
+/* ---- the requests */
+static volatile double sink;
+
 static uint64_t now(void)
 {
     struct timespec t;
@@ -60,7 +63,6 @@ static uint64_t now(void)
 
 static void time_all(struct list *lists, size_t count, long repetitions)
 {
-    static volatile double sink;
     uint64_t least[SUMS];
     memset(least, 0xFF, sizeof least);
     for (long r = 0; r < repetitions; r++)
@@ -72,9 +74,15 @@ static void time_all(struct list *lists, size_t count, long repetitions)
             if (took < least[s])
                 least[s] = took;
         }
-    (void)sink;
     for (int s = 0; s < SUMS; s++)
         printf("%.3f%c", (double)least[s] / (double)count, s + 1 < SUMS ? ' ' : '\n');
+}
+
+static void once(struct list *lists, size_t count, long s)
+{
+    for (size_t k = 0; k < count && s >= 0 && s < SUMS; k++)
+        sink = sums[s](&lists[k]);
+    printf("ok\n");
 }
 
 typedef struct answer walk_in_c(const uint64_t *, size_t, double *, size_t);
@@ -160,6 +168,8 @@ int main(int argc, char **argv)
         struct list *lists = lists_of(&suites[k]);
         if (strcmp(verb, "time") == 0)
             time_all(lists, suites[k].count, repetitions);
+        else if (strcmp(verb, "once") == 0)
+            once(lists, suites[k].count, repetitions);
         else
             check(lists, suites[k].count);
         release(lists, suites[k].count);
