@@ -16,7 +16,7 @@ import kit  # noqa: E402
 
 PLACE = os.path.join(ROOT, "target", "bench")
 DRIVER = os.path.join(PLACE, "driver")
-CRATES = ("timing", "exports")
+CRATES = ("timing", "timing_steps", "exports")
 C = ["-std=gnu11", "-O3", "-ffp-contract=off", "-Wall", "-Wextra", "-Werror"]
 PACKAGES = ["gcc", "libc6-dev", "libmpfr-dev"]
 WRAPPER = """#!/bin/sh

@@ -1,12 +1,13 @@
 /* The sums that are timed, each on one list. */
 #include "sums.h"
 
-/* the crate `timing` */
+/* the crates `timing` and `timing_steps` */
 double timing_faithful(const uint64_t *list, size_t n, double *work, size_t room);
 double timing_nearest(const uint64_t *list, size_t n);
 uint32_t timing_register_add(uint64_t *words, size_t count, uint64_t p);
-uint32_t timing_open(const uint64_t *list, size_t n, double *work, size_t room, double *reals, size_t three, uint64_t *counts, size_t also_three);
-uint32_t timing_step(double *reals, size_t three, uint64_t *counts, size_t also_three, double *work, size_t room, size_t block);
+uint32_t timing_open(const uint64_t *list, size_t n, double *work, size_t room, double *reals, size_t three);
+uint32_t timing_step(double sigma, double t, double tau, size_t n, uint64_t pending, uint32_t rounds, double *work, size_t room, size_t block, double *reals,
+                     size_t three);
 
 enum { MORE = 0, DONE = 1 };
 
@@ -33,9 +34,8 @@ double nearest(const struct list *l) { return timing_nearest(l->patterns, l->n);
 /* what the undivided call begins with; its sigma is answered */
 double opening(const struct list *l)
 {
-    double reals[3];
-    uint64_t counts[3];
-    timing_open(l->patterns, l->n, work, l->n, reals, 3, counts, 3);
+    double reals[3] = {0.0, 0.0, 0.0};
+    timing_open(l->patterns, l->n, work, l->n, reals, 3);
     return reals[0];
 }
 
@@ -43,19 +43,25 @@ double opening(const struct list *l)
 double by_blocks(const struct list *l)
 {
     double reals[3];
-    uint64_t counts[3];
     size_t blocks = (l->n + 63) / 64, block = 0;
-    uint32_t said = timing_open(l->patterns, l->n, work, l->n, reals, 3, counts, 3);
+    uint64_t all = UINT64_MAX >> (64 - blocks), pending = all;
+    uint32_t rounds = 0, said = timing_open(l->patterns, l->n, work, l->n, reals, 3);
     while (said == MORE) {
-        said = timing_step(reals, 3, counts, 3, work, l->n, block);
-        block = block + 1 < blocks ? block + 1 : 0;
+        said = timing_step(reals[0], reals[1], reals[2], l->n, pending, rounds, work, l->n, block, reals, 3);
+        pending &= pending - 1;
+        block++;
+        if (!pending) {
+            pending = all;
+            block = 0;
+            rounds++;
+        }
     }
-    return said == DONE ? reals[0] : of_bits(~(uint64_t)0);
+    return said == DONE ? reals[0] : of_bits(UINT64_MAX);
 }
 
 static double sum_in_bytes(uint32_t code, const uint8_t *out)
 {
-    uint64_t p = ~(uint64_t)0;
+    uint64_t p = UINT64_MAX;
     if (code == 0)
         memcpy(&p, out, sizeof p);
     return of_bits(p);

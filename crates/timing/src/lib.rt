@@ -4,8 +4,6 @@ use kinds::Entry;
 use kinds::Nearest;
 use kinds::Step;
 
-mod steps;
-
 // `walk::faithful`: the sum, 0 of a refused list.
 #[no_mangle]
 pub extern "C" fn timing_faithful(list: &[u64], work: &mut [f64]) -> f64 {
@@ -32,26 +30,4 @@ pub extern "C" fn timing_register_add(words: &mut [u64], p: u64) -> u32 {
         Entry::Entered => 0,
         Entry::Refused(number, _) => number,
     }
-}
-
-// `walk::open`: the state goes to three doubles and three counts.
-#[no_mangle]
-pub extern "C" fn timing_open(
-    list: &[u64],
-    work: &mut [f64],
-    reals: &mut [f64],
-    counts: &mut [u64],
-) -> u32 {
-    steps::told(walk::open(list, work), reals, counts)
-}
-
-// `walk::step`, from the state in those six to the state in those six.
-#[no_mangle]
-pub extern "C" fn timing_step(
-    reals: &mut [f64],
-    counts: &mut [u64],
-    work: &mut [f64],
-    block: usize,
-) -> u32 {
-    steps::step(reals, counts, work, block)
 }
