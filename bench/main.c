@@ -95,6 +95,7 @@ static const char *walk_differs(walk_in_c *walk, const struct list *l)
     uint64_t wanted[2];
     struct answer a;
     double sum = undivided(l);
+    uint32_t closed = told[2];
     memcpy(kept, work, sizeof kept);
     if (kewohiata_faithful((const uint8_t *)l->patterns, 8 * l->n, out, 16))
         return "a refused list";
@@ -103,7 +104,7 @@ static const char *walk_differs(walk_in_c *walk, const struct list *l)
     a = walk(l->patterns, l->n, work, l->n);
     if (a.refused || to_bits(sum) != wanted[0] || to_bits(a.sum) != wanted[0])
         return "a walk's sum";
-    if (a.rounds != wanted[1])
+    if (a.rounds != wanted[1] || closed != wanted[1])
         return "a walk's rounds";
     return memcmp(kept, work, l->n * sizeof *work) ? "a walk's remainders" : NULL;
 }

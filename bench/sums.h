@@ -22,10 +22,12 @@ struct list {
     mpfr_ptr *pointers;
 };
 
-/* The areas that the sums are lent: the walk's, a register in words and one in bytes. MPFR's result has 53 bits. */
+/* The areas that the sums are lent: the walk's, a register in words and one in bytes; a refusal's number and place, and the rounds. MPFR's result has 53
+   bits. */
 extern double work[LENGTH];
 extern uint64_t words[WORDS];
 extern uint8_t bytes[8 * WORDS];
+extern uint32_t told[3];
 extern mpfr_t result;
 
 /* Each answers its sum, but `opening`, and but `additions` and `additions_call`, which answer 0 where every addition was accepted. */

@@ -28,7 +28,9 @@ PAIRS = (
     ("by blocks", "undivided"),
     ("nearest", "walk in C, gcc"),
     ("nearest", "mpfr_sum"),
+    ("nearest", "mpfr_sum, converting"),
     ("C call, nearest", "mpfr_sum"),
+    ("C call, nearest", "mpfr_sum, converting"),
 )
 
 

@@ -2,12 +2,17 @@
 // and a round's close would be called from two.
 use kinds::State;
 
-mod told;
+mod answers;
 
 // `walk::open`.
 #[no_mangle]
-pub extern "C" fn timing_open(list: &[u64], work: &mut [f64], reals: &mut [f64]) -> u32 {
-    told::told(walk::open(list, work), reals)
+pub extern "C" fn timing_open(
+    list: &[u64],
+    work: &mut [f64],
+    reals: &mut [f64],
+    told: &mut [u32],
+) -> u32 {
+    answers::answered(walk::open(list, work), reals, told)
 }
 
 // `walk::step` from the state with these parts. The pending set and the rounds of the next are the caller's to know.
@@ -22,7 +27,8 @@ pub extern "C" fn timing_step(
     work: &mut [f64],
     block: usize,
     reals: &mut [f64],
+    told: &mut [u32],
 ) -> u32 {
     let state = State::of(n, sigma, t, tau, pending, rounds);
-    told::told(walk::step(state, work, block), reals)
+    answers::answered(walk::step(state, work, block), reals, told)
 }
