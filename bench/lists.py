@@ -1,0 +1,106 @@
+"""Seeded lists of doubles whose condition number, the sum of the magnitudes over the magnitude of the exact sum, is known.
+
+    1                 numbers from 1 to 2, all positive: the condition is 1
+    1e8 .. 1e100      half of the numbers have exponents spread evenly from 0 to b and random signs; each of the other half is a random number less the exact
+                      sum so far, rounded to a double, where that number's exponent falls from b to 0. What is left is about 1. The condition of the list is
+                      computed from exact integers, and b is moved until it lies within a factor of 10 of the wanted one. Then the list is shuffled
+    range             exponents spread evenly over the whole range that a list may have, 2^-1074 to 2^1000, random signs: little cancels
+    range, cancelled  as 1e8 .. 1e100 with exponents from -1000 to 985: about 1e600 where the list is long enough
+
+The first half is random, the second cancels it: Ogita, Rump and Oishi, Accurate Sum and Dot Product, Algorithm 6.1, for sums.
+"""
+import math
+import random
+import struct
+
+LENGTHS = (16, 64, 1000, 4094)
+CONDITIONS = ("1", "1e8", "1e16", "1e32", "1e64", "1e100", "range", "range, cancelled")
+LISTS = {16: 64, 64: 32, 1000: 4, 4094: 2}  # how many lists a case has: a branch predictor knows one short list by heart
+UNIT = 2**1074
+
+
+def units(x):
+    """A double in units of 2^-1074."""
+    over, under = x.as_integer_ratio()
+    return over * (UNIT // under)
+
+
+def double(whole):
+    """The double nearest to so many units; Python divides integers correctly rounded."""
+    return whole / UNIT
+
+
+def number(rng, exponent):
+    """A random sign and significand."""
+    return rng.choice((-1, 1)) * math.ldexp(rng.randrange(2**52, 2**53), exponent - 52)
+
+
+def cancelled(rng, n, low, high):
+    numbers = [number(rng, e) for e in [high, low] + [rng.randint(low, high) for _ in range(n // 2 - 2)]]
+    total = sum(map(units, numbers))
+    steps = n - len(numbers)
+    for k in range(steps):
+        x = double(units(number(rng, high - (high - low) * k // max(steps - 1, 1))) - total)
+        numbers.append(x)
+        total += units(x)
+    rng.shuffle(numbers)
+    return numbers
+
+
+def condition(numbers):
+    """The decimal exponent of the condition number."""
+    whole = [units(x) for x in numbers]
+    return math.log10(sum(map(abs, whole))) - math.log10(abs(sum(whole)))
+
+
+def conditioned(rng, n, wanted):
+    """A list with a condition number within a factor of 10 of 10^wanted."""
+    bits = wanted / math.log10(2)
+    for _ in range(200):
+        numbers = cancelled(rng, n, 0, max(round(bits), 1))
+        off = condition(numbers) - wanted
+        if abs(off) < 1:
+            return numbers
+        bits -= off / math.log10(2) / 2
+    raise SystemExit(f"bench: no list of {n} numbers with condition 1e{wanted} was found")
+
+
+def one(rng, n, name):
+    if name == "1":
+        return [rng.uniform(1, 2) for _ in range(n)]
+    if name == "range":
+        return [number(rng, rng.randint(-1074, 999)) for _ in range(n)]
+    if name == "range, cancelled":
+        return cancelled(rng, n, -1000, 985)
+    return conditioned(rng, n, int(name[2:]))
+
+
+def cases(seed):
+    """Every case: n, the name of its condition, its lists, and the least and the greatest decimal exponent of their conditions."""
+    for n in LENGTHS:
+        for name in CONDITIONS:
+            rng = random.Random(f"{seed} {n} {name}")
+            lists = [one(rng, n, name) for _ in range(LISTS[n])]
+            reached = [condition(numbers) for numbers in lists]
+            yield n, name, lists, (min(reached), max(reached))
+
+
+def write(path, made):
+    """The file that main.c and fsum.py read: n, how many lists, and their patterns."""
+    with open(path, "wb") as f:
+        for n, _, lists, _ in made:
+            f.write(struct.pack("=QQ", n, len(lists)))
+            for numbers in lists:
+                f.write(struct.pack(f"={n}d", *numbers))
+
+
+def read(path):
+    """The lists of each case."""
+    with open(path, "rb") as f:
+        data = f.read()
+    at = 0
+    while at < len(data):
+        n, count = struct.unpack_from("=QQ", data, at)
+        at += 16
+        yield [list(struct.unpack_from(f"={n}d", data, at + 8 * n * k)) for k in range(count)]
+        at += 8 * n * count

@@ -1,0 +1,179 @@
+/* Times the sums on lists from a file, for bench/run.
+
+   The file holds cases: n, how many lists, and their patterns, all in 64-bit numbers of this machine. Each line of standard input is a request, and one line
+   answers it:
+
+       time K R     R repetitions of every sum on case K, one after the other in each repetition: the least time of each, in ns for one list
+       once K S     the sum S on every list of case K, once, for a program that counts instructions; no sum where S is below 0
+       check K 0    compares all answers on case K, and prints 'ok' and the nearest sums, or what differs
+
+   A repetition goes once through all lists of a case. Work areas are not cleared before a call. */
+#include <inttypes.h>
+#include <stdio.h>
+#include <stdlib.h>
+#include <time.h>
+
+#include "sums.h"
+
+/* One case. */
+struct suite {
+    size_t n, count;
+    uint64_t *patterns;
+};
+
+/* ---- lists */
+static struct list *lists_of(const struct suite *s)
+{
+    struct list *lists = calloc(s->count, sizeof *lists);
+    for (size_t k = 0; k < s->count; k++) {
+        struct list *l = &lists[k];
+        l->n = s->n;
+        l->patterns = s->patterns + k * s->n;
+        l->numbers = calloc(s->n, sizeof *l->numbers);
+        l->pointers = calloc(s->n, sizeof *l->pointers);
+        for (size_t i = 0; i < s->n; i++) {
+            mpfr_init2(l->numbers[i], 53);
+            mpfr_set_d(l->numbers[i], of_bits(l->patterns[i]), MPFR_RNDN);
+            l->pointers[i] = l->numbers[i];
+        }
+    }
+    return lists;
+}
+
+static void release(struct list *lists, size_t count)
+{
+    for (size_t k = 0; k < count; k++) {
+        for (size_t i = 0; i < lists[k].n; i++)
+            mpfr_clear(lists[k].numbers[i]);
+        free(lists[k].numbers);
+        free(lists[k].pointers);
+    }
+    free(lists);
+}
+
+/* ---- the requests */
+static volatile double sink;
+
+static uint64_t now(void)
+{
+    struct timespec t;
+    clock_gettime(CLOCK_MONOTONIC, &t);
+    return (uint64_t)t.tv_sec * 1000000000u + (uint64_t)t.tv_nsec;
+}
+
+static void time_all(struct list *lists, size_t count, long repetitions)
+{
+    uint64_t least[SUMS];
+    memset(least, 0xFF, sizeof least);
+    for (long r = 0; r < repetitions; r++)
+        for (int s = 0; s < SUMS; s++) {
+            uint64_t began = now(), took;
+            for (size_t k = 0; k < count; k++)
+                sink = sums[s](&lists[k]);
+            took = now() - began;
+            if (took < least[s])
+                least[s] = took;
+        }
+    for (int s = 0; s < SUMS; s++)
+        printf("%.3f%c", (double)least[s] / (double)count, s + 1 < SUMS ? ' ' : '\n');
+}
+
+static void once(struct list *lists, size_t count, long s)
+{
+    for (size_t k = 0; k < count && s >= 0 && s < SUMS; k++)
+        sink = sums[s](&lists[k]);
+    printf("ok\n");
+}
+
+typedef struct answer walk_in_c(const uint64_t *, size_t, double *, size_t);
+
+/* Sum, rounds and remainders of a walk in C against the library's; what differs, or null. */
+static const char *walk_differs(walk_in_c *walk, const struct list *l)
+{
+    static double kept[LENGTH];
+    uint8_t out[16];
+    uint64_t wanted[2];
+    struct answer a;
+    double sum = undivided(l);
+    uint32_t closed = told[2];
+    memcpy(kept, work, sizeof kept);
+    if (kewohiata_faithful((const uint8_t *)l->patterns, 8 * l->n, out, 16))
+        return "a refused list";
+    memcpy(wanted, out, sizeof wanted);
+    memset(work, 0, sizeof work);
+    a = walk(l->patterns, l->n, work, l->n);
+    if (a.refused || to_bits(sum) != wanted[0] || to_bits(a.sum) != wanted[0])
+        return "a walk's sum";
+    if (a.rounds != wanted[1] || closed != wanted[1])
+        return "a walk's rounds";
+    return memcmp(kept, work, l->n * sizeof *work) ? "a walk's remainders" : NULL;
+}
+
+static const char *differs(const struct list *l)
+{
+    walk_in_c *walks[] = {gcc_plain, clang_plain, gcc_merged, clang_merged};
+    for (int i = 0; i < 4; i++) {
+        const char *what = walk_differs(walks[i], l);
+        if (what)
+            return what;
+    }
+    if (to_bits(by_blocks(l)) != to_bits(undivided(l)) || to_bits(faithful_call(l)) != to_bits(undivided(l)))
+        return "a faithful sum";
+    if (to_bits(nearest(l)) != to_bits(nearest_call(l)) || to_bits(nearest(l)) != to_bits(mpfr(l)) || to_bits(nearest(l)) != to_bits(mpfr_converted(l)))
+        return "a nearest sum";
+    if (additions(l) != 0.0 || additions_call(l) != 0.0 || memcmp(words, bytes, sizeof bytes))
+        return "a register";
+    return NULL;
+}
+
+static void check(const struct list *lists, size_t count)
+{
+    for (size_t k = 0; k < count; k++) {
+        const char *what = differs(&lists[k]);
+        if (what) {
+            printf("list %zu: %s differs\n", k, what);
+            return;
+        }
+    }
+    printf("ok");
+    for (size_t k = 0; k < count; k++)
+        printf(" %016" PRIX64, to_bits(nearest(&lists[k])));
+    printf("\n");
+}
+
+static struct suite *load(const char *name, size_t *count)
+{
+    struct suite *suites = NULL;
+    uint64_t head[2];
+    FILE *f = fopen(name, "rb");
+    *count = 0;
+    while (f && fread(head, sizeof head, 1, f) == 1) {
+        struct suite s = {head[0], head[1], malloc(8 * head[0] * head[1])};
+        if (s.n > LENGTH || !s.patterns || fread(s.patterns, 8 * s.n, s.count, f) != s.count)
+            exit(2);
+        suites = realloc(suites, (*count + 1) * sizeof *suites);
+        suites[(*count)++] = s;
+    }
+    return suites;
+}
+
+int main(int argc, char **argv)
+{
+    char verb[16];
+    size_t count, k;
+    long repetitions;
+    struct suite *suites = load(argc > 1 ? argv[1] : "", &count);
+    mpfr_init2(result, 53);
+    setvbuf(stdout, NULL, _IOLBF, 0);
+    while (scanf("%15s %zu %ld", verb, &k, &repetitions) == 3 && k < count) {
+        struct list *lists = lists_of(&suites[k]);
+        if (strcmp(verb, "time") == 0)
+            time_all(lists, suites[k].count, repetitions);
+        else if (strcmp(verb, "once") == 0)
+            once(lists, suites[k].count, repetitions);
+        else
+            check(lists, suites[k].count);
+        release(lists, suites[k].count);
+    }
+    return 0;
+}
