@@ -1,5 +1,5 @@
--- What is heard of the eight public calls: a refusal with its number is heard exactly when its row says, with the place for 2 and 3 and nothing more for the
--- others. Assumes nothing.
+-- What is heard of the eight calls of walk, sums and register: a refusal with its number is heard exactly when its row says, with the place for 2 and 3 and
+-- nothing more for the others. Assumes nothing.
 use mathlib.Core.Path.{_≡_, refl, sym, ap, _∙_}
 use mathlib.Core.Logic.{_⊎_, inl, inr, _↔_}
 use mathlib.Core.Bool.{Bool, true, false, cond}

@@ -1,7 +1,7 @@
 -- Document 01's demands, as theorems about the definitions that the public contracts cite.
 pub mod SoundState
-pub mod SoundStateLaws
 pub mod Tables
+pub mod SoundStateLaws
 pub mod TablesLaws
 pub mod WalkRefusals
 pub mod Determined

@@ -1,5 +1,5 @@
--- Demand 1, "each refusal is given exactly when", for the eight public calls: each is refused with k exactly when the row of k says and no earlier one holds,
--- and a refused call leaves every lent area as it was. Assumes nothing.
+-- Demand 1, each refusal exactly when, for the eight calls of walk, sums and register: each is refused with k exactly when the row of k says and no earlier
+-- one holds, and a refused call leaves every lent area as it was. Assumes nothing.
 use mathlib.Core.Path.{_≡_, ap}
 use mathlib.Core.Logic.{_↔_}
 use mathlib.Core.Bool.{true}

@@ -22,7 +22,7 @@ use Rattle.finite.specs.Finite.{unitsOf, Held}
 use Rattle.register.specs.Steps.{outcome}
 use Rattle.register.specs.Entries.{EntryWhen, entered, wrong-length, bad-number, out-of-range}
 use Rattle.register.specs.RegisterLaws.{entry-when, whole-after, held-after, withdraw-undoes, add-undoes}
-use Rattle.calls.specs.Calls.{Called, called, answered, registered, registerCall, addCall, withdrawCall}
+use Rattle.calls.specs.Calls.{Called, called, answered, registerCall, addCall, withdrawCall}
 use Rattle.calls.specs.CallsLaws.{register-refused, register-registered, answered-accepted}
 
 -- ---- words from bytes, and back

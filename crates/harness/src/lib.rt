@@ -1,5 +1,5 @@
 // Calls for tests only: what isn't exported for the host, with the C calling convention, over bytes in the same way. tests/host.py compares what they answer
-// with exact integers. They are measured and promise nothing: no contract says what they answer, and all that is proved of them is that they are safe and end.
+// with exact integers. They are compared and promise nothing: no contract says what they answer, and all that is proved of them is that they are safe and end.
 //
 // Numbers lie least significant byte first, 8 bytes each. A call answers 0, or the refusal number plus 32·(place + 1) where a place is told and plus 0 where
 // none is, or 0xFFFFFFFF where the lengths are such that the harness itself can't hold them. What is lent to the library as a work area, parts slice or output

@@ -1,5 +1,5 @@
 -- Multiplication in units: the product is lib.Ieee's rounding of the exact product of magnitudes, in units of a unit; where that comes to whole units it is
--- their rounding, and exact where they have at most prec bits. So a power of two scales exactly, up, and down to whole units. Assumes nothing.
+-- their rounding, and exact where they have at most prec bits. So a power of two scales exactly. Assumes nothing.
 use mathlib.Core.Path.{_≡_, refl, sym, ap, _∙_}
 use mathlib.Core.Bool.{Bool, true, false}
 use Prim.Native.Nat.{ℕ, suc, _+_, _*_, _^_, _<_}
@@ -62,14 +62,6 @@ module _ (f : Format) (x y : Float) (s : Bool) where
   mul-power A j Z p c q e l =
       let d : Short (prec f) (Z * 2 ^ low f) = rw e at (short-up (prec f) j c) in
       rw (unlike-false s) at (mul-exact f x y s false A (2 ^ j) Z p q e (short-down (prec f) (low f) d) l)
-
-  -- times 2 ^ i
-  pub mul-up : (A i j : ℕ) → j ≡ i + low f → Is f x s A → Short (prec f) A → Is f y false (2 ^ j) → A * 2 ^ i < overflow f → Is f (mul f x y) s (A * 2 ^ i)
-  mul-up A i j e p c q l = mul-power A j (A * 2 ^ i) p c q (rw (e, pow-add 2 i (low f)) (sym (mul-assoc A (2 ^ i) (2 ^ low f)))) l
-
-  -- divided by 2 ^ i
-  pub mul-down : (Z i j : ℕ) → i + j ≡ low f → Is f x s (Z * 2 ^ i) → Short (prec f) (Z * 2 ^ i) → Is f y false (2 ^ j) → Z < overflow f → Is f (mul f x y) s Z
-  mul-down Z i j e p c q l = mul-power (Z * 2 ^ i) j Z p c q (rw (← e, pow-add 2 i j) (mul-assoc Z (2 ^ i) (2 ^ j))) l
 
 pub mul-powers : (f : Format) (x y : Float) (a b c : ℕ) → a + b ≡ c + low f → Is f x false (2 ^ a) → Is f y false (2 ^ b) → c < low f + suc (emax f)
     → Is f (mul f x y) false (2 ^ c)

@@ -35,7 +35,7 @@ pub data Heard : Type 0 where
 abbrev pub tells : ℕ → Bool
 tells k = eqb k 2 || eqb k 3
 
--- a number that tells none is given with place 0
+-- a number that tells none is given with place 0; a place beside such a number would be heard, so that none can hide
 abbrev pub placeOf : ℕ → ℕ → Place
 placeOf k zero = cond (tells k) (at 0) nowhere
 placeOf k (suc p) = at (suc p)

@@ -1,4 +1,5 @@
--- What one width of float fixes, and document 01's numbers for binary64: the only definition that writes them. Definitions only.
+-- What one width of float fixes, and document 01's limits on lists and sound states at binary64, written here alone (calls/Calls has its 32,752 bytes,
+-- words/Words its 33 words). Definitions only.
 use mathlib.Core.Path.{_≡_}
 use Prim.Native.Nat.{ℕ, _+_}
 use lib.Ieee.{Format, binary64}

@@ -1,4 +1,4 @@
--- Two constructors of a type are not equal. From such an equation `cc` has 0 ≡ 1, and with it a case that can't be is over. Assumes nothing.
+-- From 0 ≡ 1 anything follows: for cases that can't be, such as two constructors taken for equal. Assumes nothing.
 use mathlib.Core.Path.{_≡_}
 use Prim.Native.Nat.{ℕ}
 use native.Mathlib.Omega.{arith}

@@ -1,8 +1,8 @@
 -- Facts on lists, and numbers written in digits of base 2 ^ w. Definitions first, then laws.
-pub mod Apart
 pub mod Digits
 pub mod Carry
 pub mod Bitset
+pub mod Apart
 pub mod Front
 pub mod Each
 pub mod BitsetLaws

@@ -14,7 +14,8 @@ use Rattle.register.specs.Register.{Entered}
 abbrev pub signBit : List ℕ → ℕ
 signBit ws = topBit wordBits (wordCount - 1) ws
 
--- an addition leaves the range where the top bit was clear and is set afterwards, a negative number's where it was set and is clear afterwards
+-- adding a number without a sign leaves the range where the top bit was clear and is set afterwards, adding a negative one where it was set and is clear
+-- afterwards
 abbrev pub leaves : ℕ → ℕ → ℕ → Bool
 leaves p before after = cond (ltb p (top (doubles .format))) (ltb before after) (ltb after before)
 

@@ -15,7 +15,8 @@ pub fn sign(words: &[u64]) -> u64
     words[WORDS - 1] >> 63
 }
 
-// An addition leaves the range where the top bit was clear and is set afterwards, a subtraction where it was set and is clear afterwards.
+// Adding a number without a sign leaves the range where the top bit was clear and is set afterwards, adding a negative one where it was set and is clear
+// afterwards.
 pub fn left(p: u64, before: u64, after: u64) -> bool
     ensures { λ r. ⌜ r ≡ leaves p before after ⌝ }
 {

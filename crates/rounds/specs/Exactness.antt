@@ -7,7 +7,7 @@ use lib.Ieee.{Float, Format, add}
 use Rattle.ieee.specs.Units.{Number, magnitude, negative, value}
 use Rattle.extract.specs.Extract.{highPart, remainderOf}
 
--- "For each place both subtractions are exact: in units q is (sigma + p rounded) less sigma, and the remainder is p less q." All three are numbers.
+-- Demand 3: "For each place both subtractions are exact: in units q is (sigma + p rounded) less sigma, and the remainder is p less q." All three are numbers.
 pub record Exact (f : Format) (sigma x : Float) : Type 0 where
   pub raised-number : Number f (add f sigma x)
   pub high-number : Number f (highPart f sigma x)
@@ -15,7 +15,7 @@ pub record Exact (f : Format) (sigma x : Float) : Type 0 where
   pub high : value f (highPart f sigma x) ≡ value f (add f sigma x) -ℤ value f sigma
   pub remainder : value f (remainderOf f sigma x) ≡ value f x -ℤ value f (highPart f sigma x)
 
--- "The additions to tau are exact and tau is never -0": each of them, in rising order
+-- "the additions to tau are exact and tau is never -0": each of them, in rising order
 abbrev pub ExactSums : Format → Float → Float → List Float → Type 0
 ExactSums f sigma tau [] = Unit {0}
 ExactSums f sigma tau (x ∷ xs) =

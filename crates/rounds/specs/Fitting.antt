@@ -24,5 +24,5 @@ pub record Fitting (W : Width) : Type 0 where
   pub tau-room : most + top ≤ bound
   pub t-room : most + most + most + top + 1 ≤ bound + prec (W .format)
   pub sum-room : bound + 5 ≤ low (W .format) + emax (W .format)
-  -- each further round lowers sigma by 2^(prec - M) or more
+  -- each further round lowers sigma by a factor of 2^(prec - M) or more
   pub enough : top < suc (W .rounds) * (prec (W .format) - most)

@@ -43,11 +43,11 @@ pub record Going (W : Width) (ps : List ℕ) (r : Ran) (s : State) : Type 0 wher
   pub unchanged : (b : ℕ) → has (s .pending) b ≡ false → tried W r b ≡ r
   -- "An accepted step turns exactly its own block's numbers into their remainders": `Places` says it of each place
   pub turns : (b : ℕ) → has (s .pending) b ≡ true → tried W r b .walk .work ≡ turned W (s .sigma) b (r .walk .work)
-  -- "For each place both subtractions are exact .. The additions to tau are exact and tau is never -0."
+  -- "For each place both subtractions are exact", and document 01: "the additions to tau are exact and tau is never -0"
   pub exact : Each (Exact (W .format) (s .sigma)) (r .walk .work)
   pub gathers : (b : ℕ) → has (s .pending) b ≡ true → ExactSums (W .format) (s .sigma) (s .tau) (blockOf W b (r .walk .work))
   pub plus : magnitude (W .format) (s .tau) ≡ 0 → negative (s .tau) ≡ false
-  -- "t plus tau plus the work numbers is S"
+  -- document 01: "t plus tau plus all work numbers is S exactly"
   pub conserves : value (W .format) (s .t) +ℤ value (W .format) (s .tau) +ℤ exactSum (map (value (W .format)) (r .walk .work)) ≡ sumOf (W .format) ps
   pub closes : (b : ℕ) → has (s .pending) b ≡ true → without (s .pending) b ≡ 0
       → Closing W ps (s .t) (gathered (W .format) (s .sigma) (s .tau) (blockOf W b (r .walk .work))) (tried W r b .walk .work)

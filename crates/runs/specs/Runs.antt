@@ -15,7 +15,7 @@ pub record Ran : Type 0 where
   pub walk : Walked
   pub steps : ℕ
 
--- a step that was tried: a refused one leaves the run as it is
+-- a step that was tried: a refused one is not counted and the answer before it stands, over the work area as the refused step left it
 abbrev pub heeded : Ran → Walked → Ran
 heeded r w = by (w .answer)
   where

@@ -1,4 +1,4 @@
-// The first work number of a state that is not sound.
+// The place of the first work number that is not sound.
 use crate::numbers::at_most;
 use kinds::Doubles;
 use kinds::State;
@@ -23,7 +23,7 @@ pub fn limit(s: State) -> f64
     exponent::power(exponent::ceiling(s.sigma) - Doubles::of(s.n).exponent())
 }
 
-// The first work number that is not finite, of magnitude at most the limit; the length where there is none.
+// The place of the first work number that isn't both finite and of magnitude at most the limit; the length where there is none.
 pub fn bad_place(work: &[f64], limit: f64) -> usize
     requires { ⌜ T (finite limit) × (negative limit ≡ false) ⌝ }
     ensures { λ r. ⌜ r ≡ firstAbove doubles (magnitude binary64 limit) (now (work .entry)) ⌝ }

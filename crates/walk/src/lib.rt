@@ -1,4 +1,4 @@
-// The faithful walk: opening, block steps, closing, and the undivided run.
+// The faithful walk: the opening of a list, block steps, and the undivided call.
 use kinds::State;
 use kinds::Step;
 use kinds::Verdict;
