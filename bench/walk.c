@@ -7,22 +7,19 @@ enum { LENGTH = 4094 };
 
 static const uint64_t MAGNITUDE = 0x7E70000000000000, INFINITE = 0x7FF0000000000000, UNSIGNED = 0x7FFFFFFFFFFFFFFF, NORMAL = 0x0010000000000000;
 
+union bits {
+    uint64_t pattern;
+    double number;
+};
+
 static double of_bits(uint64_t p)
 {
-    union {
-        uint64_t pattern;
-        double number;
-    } u = {p};
-    return u.number;
+    return (union bits){.pattern = p}.number;
 }
 
 static uint64_t to_bits(double x)
 {
-    union {
-        double number;
-        uint64_t pattern;
-    } u = {x};
-    return u.pattern;
+    return (union bits){.number = x}.pattern;
 }
 
 /* 2^(k - 1074) */
