@@ -42,9 +42,12 @@ answered (count n) before words = called 0 before
 abbrev pub lengthFault : ℕ → ℕ → ℕ
 lengthFault list out = cond (ltb 32752 list) 1 (cond (not (eqb (list % 8) 0)) 4 (cond (not (eqb out 16)) 4 0))
 
--- of the patterns that the list's bytes are, whatever is heard of them
+-- the patterns that a list's bytes are, and a sum of them by whatever is heard
+abbrev pub patternsIn : List ℕ → List ℕ
+patternsIn list = unpacked (length list / 8) list
+
 abbrev pub summed : (List ℕ → Heard) → List ℕ → List ℕ → Called
-summed heardOf list out = answered (heardOf (unpacked (length list / 8) list)) out []
+summed heardOf list out = answered (heardOf (patternsIn list)) out []
 
 unfoldable pub sumCall : (List ℕ → Heard) → List ℕ → List ℕ → Called
 sumCall heardOf list out =

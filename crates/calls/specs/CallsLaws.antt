@@ -17,7 +17,7 @@ use Rattle.walk.specs.Walk.{faithfulOf}
 use Rattle.register.specs.Register.{Entered}
 use Rattle.calls.specs.Calls.{called, placeCode, answered, lengthFault, summed, sumCall, own, faithfulHeard, sumHeard}
 use Rattle.calls.specs.Calls.{registered, registerCall}
-use Rattle.calls.specs.Inner.{Told, Fitting}
+use Rattle.calls.specs.Inner.{Told, Listed}
 
 -- ---- the lengths
 module _ (list out : ℕ) where
@@ -43,7 +43,7 @@ module _ (list out : ℕ) (e : lengthFault list out ≡ 0) where
   tests : (ltb 32752 list ≡ false) × (eqb (list % 8) 0 ≡ true) × (eqb out 16 ≡ true)
   tests = passed (ltb 32752 list) (eqb (list % 8) 0) (eqb out 16) e
 
-  pub fitting : Fitting 4094 list
+  pub fitting : Listed 4094 list
   fitting =
       let m : list % 8 ≡ 0 = eqb→eq (list % 8) 0 (rw (tests .1) tt) in
       let l : list ≤ 32752 = nltb→le 32752 list (rw (tests .0) tt) in
@@ -103,7 +103,7 @@ nearest-within list numbers out n l e =
     rw (d, e)
 
 -- the first places of an area that holds the list
-pub front-length : {A : Type 0} {most bytes : ℕ} → Fitting most bytes → (x : A) → length (take (bytes / 8) (replicate most x)) ≡ bytes / 8
+pub front-length : {A : Type 0} {most bytes : ℕ} → Listed most bytes → (x : A) → length (take (bytes / 8) (replicate most x)) ≡ bytes / 8
 front-length {A} {most} {bytes} F x = length-take-le (bytes / 8) (replicate most x) (rw (length-replicate most) (F .few))
 
 pub own-front : (n k : ℕ) → n ≤ k → take n (own k) ≡ own n

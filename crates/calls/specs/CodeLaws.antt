@@ -7,9 +7,8 @@ use native.Mathlib.Omega.{arith}
 use lib.Dec.{eqb}
 use lib.ListN.{length}
 use Rattle.kinds.specs.Heard.{Place, nowhere, at, Heard, refused, more, done, nearest, parts, accepted, count}
-use Rattle.octets.specs.Octets.{unpacked}
 use Rattle.register.specs.Register.{Entered}
-use Rattle.calls.specs.Calls.{Called, called, placeCode, answered, lengthFault, summed, sumCall, registered, registerCall}
+use Rattle.calls.specs.Calls.{Called, called, placeCode, answered, lengthFault, patternsIn, summed, sumCall, registered, registerCall}
 
 -- ---- any two results that meet a contract are equal
 pub call-determined : {r q : ℕ} {xs ys : List ℕ} (c : Called) → called r xs ≡ c → called q ys ≡ c → (r ≡ q) × (xs ≡ ys)
@@ -36,7 +35,7 @@ pub sum-leaves : (heardOf : List ℕ → Heard) (list out : List ℕ) → (sumCa
 unfolding sumCall
 sum-leaves heardOf list out =
     let f = lengthFault (length list) (length out) in
-    either-leaves (eqb f 0) (summed heardOf list out) f out (answer-leaves (heardOf (unpacked (length list / 8) list)) out [])
+    either-leaves (eqb f 0) (summed heardOf list out) f out (answer-leaves (heardOf (patternsIn list)) out [])
 
 pub register-leaves : (enteredIn : List ℕ → Entered) (register : List ℕ) → (registerCall enteredIn register .code ≡ 0 → ⊥)
     → registerCall enteredIn register .bytes ≡ register

@@ -16,7 +16,7 @@ abbrev pub EntryTold : Entry → Type 0
 EntryTold Entered = Unit {0}
 EntryTold (Refused k p) = Told k p
 
--- so many bytes are whole numbers, and at most so many
-pub record Fitting (most bytes : ℕ) : Type 0 where
+-- so many bytes are a list of whole numbers, at most so many
+pub record Listed (most bytes : ℕ) : Type 0 where
   pub whole : bytes ≡ 8 * (bytes / 8)
   pub few : bytes / 8 ≤ most

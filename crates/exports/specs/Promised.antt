@@ -20,21 +20,17 @@ use Rattle.judge.specs.Judge.{faultOf, judged}
 use Rattle.judge.specs.JudgeLaws.{given-when}
 use Rattle.judge.specs.Table.{Allowed, First, GivenWhen}
 use Rattle.judge.specs.FaultLaws.{fault-number}
-use Rattle.octets.specs.Octets.{little, packed, unpacked}
+use Rattle.octets.specs.Octets.{little, packed}
 use Rattle.octets.specs.EightsLaws.{eights-length}
 use Rattle.sums.specs.Sums.{sumOf}
 use Rattle.sums.specs.Promised.{nearest-promised}
 use Rattle.runs.specs.Instances.{faithful-64}
 use Rattle.demands.specs.Refusals.{nearest-refused, faithful-refused}
 use Rattle.demands.specs.Hearing.{row}
-use Rattle.calls.specs.Calls.{Called, called, placeCode, answered, lengthFault, sumCall, own, faithfulHeard, sumHeard, faithfulCall, nearestCall}
+use Rattle.calls.specs.Calls.{Called, called, placeCode, answered, lengthFault, patternsIn, sumCall, own, faithfulHeard, sumHeard, faithfulCall, nearestCall}
 use Rattle.calls.specs.Inner.{Told}
 use Rattle.calls.specs.CallsLaws.{fault-0, fitting, sixteen, sum-refused, sum-summed, answered-refused, answered-done, answered-nearest, code-told}
 use Rattle.calls.specs.ToldLaws.{faithful-told, nearest-told}
-
--- the patterns that a list's bytes are
-abbrev pub patternsIn : List ℕ → List ℕ
-patternsIn list = unpacked (length list / 8) list
 
 -- the work area has the right length
 fits : (ps : List ℕ) → eqb (length (own (length ps))) (length ps) ≡ true
@@ -94,11 +90,7 @@ module _ (list out : List ℕ) (l : length list ≤ 32752) (m : length list % 8 
   -- a bad number is told with its fault and its place
   module _ (k i : ℕ) (B : First doubles ps k i) where
     two-or-three : (k ≡ 2) ⊎ (k ≡ 3)
-    two-or-three = by (fault-number doubles (getD ps i 0) (λ z. B .bad (sym (B .fault) ∙ z)))
-      where
-        by : (faultOf doubles (getD ps i 0) ≡ 2) ⊎ (faultOf doubles (getD ps i 0) ≡ 3) → (k ≡ 2) ⊎ (k ≡ 3)
-        by (inl e) = inl (sym (B .fault) ∙ e)
-        by (inr e) = inr (sym (B .fault) ∙ e)
+    two-or-three = rw (B .fault) at (fault-number doubles (getD ps i 0) (λ z. B .bad (sym (B .fault) ∙ z)))
 
     tells-it : tells k ≡ true
     tells-it = by two-or-three

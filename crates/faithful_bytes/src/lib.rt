@@ -11,7 +11,7 @@ ghost use Rattle.kinds.specs.Limits.{doubles};
 ghost use Rattle.kinds.specs.Heard.{stepHeard};
 ghost use Rattle.walk.specs.Walk.{faithfulOf};
 ghost use Rattle.calls.specs.Calls.{called, answered, summed, own, faithfulHeard};
-ghost use Rattle.calls.specs.Inner.{Fitting};
+ghost use Rattle.calls.specs.Inner.{Listed};
 
 // Of numbers: what is answered goes to the 16 bytes.
 fn answer(numbers: &[u64], work: &mut [f64], out: &mut [u8]) -> u32
@@ -41,7 +41,7 @@ fn within(list: &[u8], numbers: &mut [u64], work: &mut [f64], out: &mut [u8]) ->
 
 // Up to 64 numbers.
 fn short(list: &[u8], out: &mut [u8]) -> u32
-    requires { ⌜ Fitting 64 (length (now list)) × (length (now out) ≡ 16) ⌝ }
+    requires { ⌜ Listed 64 (length (now list)) × (length (now out) ≡ 16) ⌝ }
     ensures { λ r. ⌜ called r (now (out .exit)) ≡ summed faithfulHeard (now (list .entry)) (now (out .entry)) ⌝ }
 {
     let n = list.len() / SIZE;
@@ -52,7 +52,7 @@ fn short(list: &[u8], out: &mut [u8]) -> u32
 
 // Up to 512.
 fn middle(list: &[u8], out: &mut [u8]) -> u32
-    requires { ⌜ Fitting 512 (length (now list)) × (length (now out) ≡ 16) ⌝ }
+    requires { ⌜ Listed 512 (length (now list)) × (length (now out) ≡ 16) ⌝ }
     ensures { λ r. ⌜ called r (now (out .exit)) ≡ summed faithfulHeard (now (list .entry)) (now (out .entry)) ⌝ }
 {
     let n = list.len() / SIZE;
@@ -63,7 +63,7 @@ fn middle(list: &[u8], out: &mut [u8]) -> u32
 
 // Every list.
 fn long(list: &[u8], out: &mut [u8]) -> u32
-    requires { ⌜ Fitting 4094 (length (now list)) × (length (now out) ≡ 16) ⌝ }
+    requires { ⌜ Listed 4094 (length (now list)) × (length (now out) ≡ 16) ⌝ }
     ensures { λ r. ⌜ called r (now (out .exit)) ≡ summed faithfulHeard (now (list .entry)) (now (out .entry)) ⌝ }
 {
     let n = list.len() / SIZE;
@@ -74,7 +74,7 @@ fn long(list: &[u8], out: &mut [u8]) -> u32
 
 // In the shortest of them that holds the list.
 pub fn sum(list: &[u8], out: &mut [u8]) -> u32
-    requires { ⌜ Fitting 4094 (length (now list)) × (length (now out) ≡ 16) ⌝ }
+    requires { ⌜ Listed 4094 (length (now list)) × (length (now out) ≡ 16) ⌝ }
     ensures { λ r. ⌜ called r (now (out .exit)) ≡ summed faithfulHeard (now (list .entry)) (now (out .entry)) ⌝ }
 {
     let n = list.len() / SIZE;

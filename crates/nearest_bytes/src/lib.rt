@@ -7,7 +7,7 @@ ghost use mathlib.Core.List.{[]};
 ghost use Prim.Native.Nat.{_*_};
 ghost use lib.ListN.{length};
 ghost use Rattle.calls.specs.Calls.{called, answered, summed, sumHeard};
-ghost use Rattle.calls.specs.Inner.{Fitting};
+ghost use Rattle.calls.specs.Inner.{Listed};
 
 // Of numbers: what is answered goes to the 16 bytes.
 fn answer(numbers: &[u64], out: &mut [u8]) -> u32
@@ -34,7 +34,7 @@ fn within(list: &[u8], numbers: &mut [u64], out: &mut [u8]) -> u32
 
 // Up to 64 numbers.
 fn short(list: &[u8], out: &mut [u8]) -> u32
-    requires { ⌜ Fitting 64 (length (now list)) × (length (now out) ≡ 16) ⌝ }
+    requires { ⌜ Listed 64 (length (now list)) × (length (now out) ≡ 16) ⌝ }
     ensures { λ r. ⌜ called r (now (out .exit)) ≡ summed sumHeard (now (list .entry)) (now (out .entry)) ⌝ }
 {
     let n = list.len() / SIZE;
@@ -44,7 +44,7 @@ fn short(list: &[u8], out: &mut [u8]) -> u32
 
 // Up to 512.
 fn middle(list: &[u8], out: &mut [u8]) -> u32
-    requires { ⌜ Fitting 512 (length (now list)) × (length (now out) ≡ 16) ⌝ }
+    requires { ⌜ Listed 512 (length (now list)) × (length (now out) ≡ 16) ⌝ }
     ensures { λ r. ⌜ called r (now (out .exit)) ≡ summed sumHeard (now (list .entry)) (now (out .entry)) ⌝ }
 {
     let n = list.len() / SIZE;
@@ -54,7 +54,7 @@ fn middle(list: &[u8], out: &mut [u8]) -> u32
 
 // Every list.
 fn long(list: &[u8], out: &mut [u8]) -> u32
-    requires { ⌜ Fitting 4094 (length (now list)) × (length (now out) ≡ 16) ⌝ }
+    requires { ⌜ Listed 4094 (length (now list)) × (length (now out) ≡ 16) ⌝ }
     ensures { λ r. ⌜ called r (now (out .exit)) ≡ summed sumHeard (now (list .entry)) (now (out .entry)) ⌝ }
 {
     let n = list.len() / SIZE;
@@ -64,7 +64,7 @@ fn long(list: &[u8], out: &mut [u8]) -> u32
 
 // In the shortest of them that holds the list.
 pub fn sum(list: &[u8], out: &mut [u8]) -> u32
-    requires { ⌜ Fitting 4094 (length (now list)) × (length (now out) ≡ 16) ⌝ }
+    requires { ⌜ Listed 4094 (length (now list)) × (length (now out) ≡ 16) ⌝ }
     ensures { λ r. ⌜ called r (now (out .exit)) ≡ summed sumHeard (now (list .entry)) (now (out .entry)) ⌝ }
 {
     let n = list.len() / SIZE;
