@@ -16,7 +16,7 @@ use Rattle.kinds.specs.Limits.{doubles}
 use Rattle.kinds.specs.Heard.{Heard, refused, tells, placeOf, pattern, stepHeard, nearestHeard}
 use Rattle.kinds.specs.declared.Verdict.{Verdict}
 use Rattle.kinds.specs.declared.Verdict.the-variants as verdicts
-use Rattle.judge.specs.Judge.{faultOf, judged}
+use Rattle.judge.specs.Judge.{judged}
 use Rattle.judge.specs.JudgeLaws.{given-when}
 use Rattle.judge.specs.Table.{Allowed, First, GivenWhen}
 use Rattle.judge.specs.FaultLaws.{fault-number}
