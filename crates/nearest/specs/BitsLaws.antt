@@ -3,15 +3,17 @@ use mathlib.Core.Path.{_≡_, refl, sym, ap, _∙_}
 use mathlib.Core.Logic.{inl, inr}
 use mathlib.Core.Bool.{Bool, true, false, _&&_}
 use mathlib.Core.List.{List}
-use Prim.Native.Nat.{ℕ, zero, suc, _-_, _*_, _^_, _≤_, _<_}
-use native.Mathlib.Nat.{not-le-of-lt, lt-of-lt-of-le}
+use Prim.Native.Nat.{ℕ, zero, suc, _+_, _-_, _*_, _^_, _≤_, _<_}
+use native.Mathlib.Nat.{not-le-of-lt, lt-of-lt-of-le, zero-add}
 use native.Mathlib.Omega.{arith}
 use borrow.Author.Tests.{ne-eqb}
-use lib.Dec.{eqb, lit<}
+use lib.Dec.{eqb, lit<, lit≤}
 use lib.IntN.{pos, natAbs}
 use lib.Pow.{pow-pos}
 use lib.ListN.{length, getD}
-use lib.Ieee.{binary64}
+use lib.Ieee.{binary64, prec, hid}
+use lib.Ieee.Nearest.{closest}
+use Rattle.units.specs.Rounding.{dropped}
 use Rattle.units.specs.Powers.{le-or-lt}
 use Rattle.ieee.specs.Units.{signOf, roundedBits}
 use Rattle.nearest.specs.NearestBits.{bits-zero}
@@ -20,9 +22,19 @@ use Rattle.lists.specs.DigitLaws.{number-lt}
 use Rattle.lists.specs.TwosComplement.{signed-low, signed-high}
 use Rattle.lists.specs.Magnitude.{magnitude-negative, top-digit}
 use Rattle.words.specs.Words.{wordBits, wordCount, registerBits, wholeOf}
-use Rattle.nearest.specs.Head.{headOf, headBits}
-use Rattle.nearest.specs.HeadLaws.{head-bits}
-use Rattle.nearest.specs.Bits.{bitsOf}
+use Rattle.leading.specs.Head.{headOf}
+use Rattle.nearest.specs.Sticky.{closestOver, dropped-head, rounds-as-head}
+use Rattle.nearest.specs.Bits.{bitsOf, headBits}
+
+-- a number rounds as its head does
+pub head-bits : (n : ℕ) → headBits (headOf n) ≡ roundedBits binary64 false n
+head-bits n = (λ i. field i * hid binary64 + quotient i) ∙ sym (zero-add (dropped (prec binary64) n * hid binary64 + closest n (2 ^ dropped (prec binary64) n)))
+  where
+    field : headOf n .below + dropped (prec binary64) (headOf n .digits) ≡ dropped (prec binary64) n
+    field = sym (dropped-head n (lit≤ tt))
+
+    quotient : closestOver (headOf n .rest) (headOf n .digits) (2 ^ dropped (prec binary64) (headOf n .digits)) ≡ closest n (2 ^ dropped (prec binary64) n)
+    quotient = sym (rounds-as-head n (lit< tt))
 
 sign-positive : (z : Bool) (u : ℕ) → signOf z (pos u) ≡ (z && eqb u 0)
 sign-positive false zero = refl

@@ -1,7 +1,5 @@
 -- The bits of the double nearest to a whole number of words. Definitions first, then laws.
-pub mod Head
 pub mod Bits
 pub mod Sticky
 pub mod NearestBits
-pub mod HeadLaws
 pub mod BitsLaws

@@ -1,7 +1,7 @@
 // The bits of the double nearest to a register.
-use crate::head::leading;
-use crate::magnitude::negate;
 use crate::pattern::pattern;
+use leading::head::leading;
+use leading::magnitude::negate;
 use words::WORDS;
 ghost use mathlib.Core.Path.{_≡_};
 ghost use mathlib.Core.Bool.{cond};

@@ -3,8 +3,6 @@ use crate::bits::double;
 use crate::bits::nearest_bits;
 
 pub mod bits;
-mod head;
-mod magnitude;
 mod pattern;
 
 ghost use mathlib.Core.Path.{_≡_};

@@ -1,12 +1,12 @@
 // The pattern of the double nearest to a number of units, by its leading digits.
-use crate::head::Head;
-use crate::head::size;
+use leading::head::Head;
+use leading::head::size;
 ghost use mathlib.Core.Path.{_≡_};
 ghost use Prim.Native.Nat.{_*_, _^_, _<_, _≤_};
 ghost use lib.Ieee.{binary64, prec};
 ghost use Rattle.units.specs.Rounding.{dropped};
 ghost use Rattle.nearest.specs.Sticky.{closestOver};
-ghost use Rattle.nearest.specs.Head.{headBits};
+ghost use Rattle.nearest.specs.Bits.{headBits};
 
 // How many digits of x a significand has no room for.
 fn excess(x: u64) -> u64

@@ -1,9 +1,9 @@
--- `nearest::head::size` meets its contract: 64 less the leading zeros. Assumes nothing.
+-- `leading::head::size` meets its contract: 64 less the leading zeros. Assumes nothing.
 use borrow.Author.Needs.{needs}
 use lib.Count.{leading-le}
 use Rattle.lists.specs.LeadingZeros.{size-is}
-use Rattle.nearest.proofs.head.size.Statement.{statement}
-use Rattle.nearest.proofs.head.size.Tie as tie
+use Rattle.leading.proofs.head.size.Statement.{statement}
+use Rattle.leading.proofs.head.size.Tie as tie
 
 sub-result : tie.Need-sub-result
 sub-result c = leading-le 64 (c .args .x)

@@ -1,4 +1,4 @@
--- `nearest::head::used` meets its contract. The loop's invariant: the words from the k-th on are zero. Assumes nothing.
+-- `leading::head::used` meets its contract. The loop's invariant: the words from the k-th on are zero. Assumes nothing.
 use borrow.Author.Needs.{needs}
 use mathlib.Core.Path.{_≡_, _∙_}
 use Prim.Native.Nat.{_-_, _≤_}
@@ -7,8 +7,8 @@ use lib.ListN.{take}
 use Rattle.lists.specs.Digits.{number}
 use Rattle.lists.specs.LeadingDigits.{number-skip}
 use Rattle.words.specs.Words.{wordBits}
-use Rattle.nearest.proofs.head.used.Statement.{statement}
-use Rattle.nearest.proofs.head.used.Tie as tie
+use Rattle.leading.proofs.head.used.Statement.{statement}
+use Rattle.leading.proofs.head.used.Tie as tie
 
 abbrev Inv-loop : tie.InvT-loop
 Inv-loop words n k₀ k = (k ≤ n) × (number wordBits (take n words) ≡ number wordBits (take k words))

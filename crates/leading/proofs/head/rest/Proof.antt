@@ -1,4 +1,4 @@
--- `nearest::head::rest` meets its contract: something is below exactly where a word is in use. Assumes nothing.
+-- `leading::head::rest` meets its contract: something is below exactly where a word is in use. Assumes nothing.
 use borrow.Author.Tests.{lt-ltb}
 use borrow.Author.Needs.{needs}
 use mathlib.Core.Path.{_≡_, sym}
@@ -9,8 +9,8 @@ use lib.ListN.{take}
 use Rattle.lists.specs.Digits.{number}
 use Rattle.lists.specs.LeadingDigits.{used-some}
 use Rattle.words.specs.Words.{wordBits}
-use Rattle.nearest.proofs.head.rest.Statement.{statement}
-use Rattle.nearest.proofs.head.rest.Tie as tie
+use Rattle.leading.proofs.head.rest.Statement.{statement}
+use Rattle.leading.proofs.head.rest.Tie as tie
 
 returns : tie.Need-returns
 returns c =

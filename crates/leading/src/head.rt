@@ -7,7 +7,7 @@ ghost use lib.ListN.{length, take};
 ghost use Rattle.lists.specs.Digits.{number};
 ghost use Rattle.lists.specs.LeadingDigits.{Used};
 ghost use Rattle.words.specs.Words.{wordBits, wordCount};
-ghost use Rattle.nearest.specs.Head.{headOf};
+ghost use Rattle.leading.specs.Head.{headOf};
 
 // The leading 64 digits of a number, how many digits stand below them, and whether any of those is set.
 pub struct Head {

@@ -1,4 +1,4 @@
--- `nearest::head::leading` meets its contract: the head is that of the words in use, one or two at the top. Assumes nothing.
+-- `leading::head::leading` meets its contract: the head is that of the words in use, one or two at the top. Assumes nothing.
 use borrow.Author.Needs.{needs}
 use Prim.Native.Nat.{_-_, _^_, _≤_, _<_}
 use native.Mathlib.Omega.{arith}
@@ -6,9 +6,9 @@ use lib.ListN.{getD}
 use Rattle.lists.specs.Digits.{Digits}
 use Rattle.lists.specs.LeadingDigits.{size-of-word}
 use Rattle.words.specs.Words.{wordBits}
-use Rattle.nearest.specs.HeadLaws.{head-one, head-two}
-use Rattle.nearest.proofs.head.leading.Statement.{statement}
-use Rattle.nearest.proofs.head.leading.Tie as tie
+use Rattle.leading.specs.HeadLaws.{head-one, head-two}
+use Rattle.leading.proofs.head.leading.Statement.{statement}
+use Rattle.leading.proofs.head.leading.Tie as tie
 
 used-requires : tie.Need-used-requires
 used-requires c κs = search needs

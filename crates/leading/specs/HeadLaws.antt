@@ -1,26 +1,23 @@
 -- The head of a number of words, from its upper words. Assumes nothing.
-use mathlib.Core.Path.{_≡_, sym, ap, _∙_}
+use mathlib.Core.Path.{_≡_, ap}
 use mathlib.Core.List.{List}
 use mathlib.Core.Bool.{Bool, false}
 use Prim.Native.Nat.{ℕ, suc, _+_, _-_, _*_, _/_, _%_, _^_, _≤_, _<_}
-use native.Mathlib.Nat.{zero-add, mul-comm, mul-suc, div-one, mod-one}
+use native.Mathlib.Nat.{mul-comm, mul-suc, div-one, mod-one}
 use native.Mathlib.Omega.{arith}
-use lib.Dec.{ltb, lit<, lit≤}
+use lib.Dec.{ltb}
 use lib.Pow.{pow-pos}
 use lib.ListN.{length, getD, take}
-use lib.Ieee.{size, binary64, prec, hid}
+use lib.Ieee.{size}
 use lib.Ieee.Digits.{size-le}
-use lib.Ieee.Nearest.{closest}
 use Rattle.units.specs.Rounding.{dropped}
 use Rattle.units.specs.NaturalRounding.{dropped-le}
-use Rattle.nearest.specs.Sticky.{closestOver, dropped-head, rounds-as-head}
-use Rattle.ieee.specs.Units.{roundedBits}
 use Rattle.lists.specs.Digits.{number, Digits}
 use Rattle.lists.specs.DigitLaws.{weight-next}
 use Rattle.lists.specs.WordShifts.{cut-some}
 use Rattle.lists.specs.LeadingDigits.{Used, one-word, leading-size, leading-digits, leading-rest}
 use Rattle.words.specs.Words.{wordBits}
-use Rattle.nearest.specs.Head.{headOf, headBits}
+use Rattle.leading.specs.Head.{headOf}
 
 -- ---- how many digits stand below the leading w
 
@@ -62,13 +59,3 @@ module _ (ds : List ℕ) (n : ℕ) (D : Digits wordBits ds) (U : Used wordBits d
 
       b : ℕ
       b = getD ds (n - 2) 0
-
--- a number rounds as its head does
-pub head-bits : (n : ℕ) → headBits (headOf n) ≡ roundedBits binary64 false n
-head-bits n = (λ i. field i * hid binary64 + quotient i) ∙ sym (zero-add (dropped (prec binary64) n * hid binary64 + closest n (2 ^ dropped (prec binary64) n)))
-  where
-    field : headOf n .below + dropped (prec binary64) (headOf n .digits) ≡ dropped (prec binary64) n
-    field = sym (dropped-head n (lit≤ tt))
-
-    quotient : closestOver (headOf n .rest) (headOf n .digits) (2 ^ dropped (prec binary64) (headOf n .digits)) ≡ closest n (2 ^ dropped (prec binary64) n)
-    quotient = sym (rounds-as-head n (lit< tt))

@@ -1,4 +1,4 @@
--- `nearest::magnitude::negate` meets its contract. The loop's invariant: the words so far, the register's and the carry add up to a power of two.
+-- `leading::magnitude::negate` meets its contract. The loop's invariant: the words so far, the register's and the carry add up to a power of two.
 -- Assumes nothing.
 use borrow.Author.Needs.{needs}
 use borrow.Author.Tests.{ltb-true, ltb-false}
@@ -12,8 +12,8 @@ use lib.Dec.{ltb}
 use lib.ListN.{length, getD}
 use Rattle.lists.specs.Magnitude.{Negated, negated-none, negated-next, negated-all}
 use Rattle.words.specs.Words.{wordBits}
-use Rattle.nearest.proofs.magnitude.negate.Statement.{statement}
-use Rattle.nearest.proofs.magnitude.negate.Tie as tie
+use Rattle.leading.proofs.magnitude.negate.Statement.{statement}
+use Rattle.leading.proofs.magnitude.negate.Tie as tie
 
 -- the carry out of the wrapped sum t of a word's complement and the carry c
 carried : (d c t : ℕ) → d < 2 ^ 64 → c ≤ 1 → t ≡ (2 ^ 64 - 1 - d + c) % 2 ^ 64

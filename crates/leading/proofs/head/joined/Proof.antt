@@ -1,8 +1,8 @@
--- `nearest::head::joined` meets its contract: the shifts lose none of the upper word, and the sum fits. Assumes nothing.
+-- `leading::head::joined` meets its contract: the shifts lose none of the upper word, and the sum fits. Assumes nothing.
 use borrow.Author.Needs.{needs}
 use Rattle.lists.specs.WordShifts.{joined-is, joined-lt}
-use Rattle.nearest.proofs.head.joined.Statement.{statement}
-use Rattle.nearest.proofs.head.joined.Tie as tie
+use Rattle.leading.proofs.head.joined.Statement.{statement}
+use Rattle.leading.proofs.head.joined.Tie as tie
 
 sub-result : tie.Need-sub-result
 sub-result c = search needs
