@@ -1,8 +1,5 @@
-// What the tests share: numbers and lists from a generator, work areas, and how lines and answers are written.
-pub mod answers;
-pub mod areas;
+// What the tests run on: numbers and lists from a generator.
 pub mod generator;
 pub mod ladders;
 pub mod lists;
 pub mod shapes;
-pub mod text;

@@ -1,11 +1,11 @@
 // The tests that run: what the library answers on lists and registers made by a generator, one line for each. tests/trial.py says what document 01 asks for.
 use kinds::Doubles;
-use samples::areas::HELD;
-use trial_sums::lists;
-use trial_sums::registers;
+use report::areas::HELD;
+use trial_lists::lists;
+use trial_registers::registers;
+use trial_states::refusals;
+use trial_states::states;
 use trial_walks::lengths;
-use trial_walks::refusals;
-use trial_walks::states;
 use trial_walks::walks;
 use words::WORDS;
 

@@ -1,13 +1,13 @@
 // Lists with work areas of other lengths: what an opening and the undivided call refuse, in the order 1, 4, then 2 or 3.
 use kinds::Doubles;
-use samples::answers;
-use samples::areas;
-use samples::areas::HELD;
+use report::answers;
+use report::areas;
+use report::areas::HELD;
+use report::text;
 use samples::generator;
 use samples::generator::INFINITY;
 use samples::generator::ONE;
 use samples::ladders;
-use samples::text;
 
 const CASES: u64 = 10;
 

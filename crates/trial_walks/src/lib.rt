@@ -1,5 +1,3 @@
-// Tests of the faithful walk: lists in one call and block by block, work areas of other lengths, states that no call gave out, and refused steps.
+// Tests of the faithful walk: lists in one call and block by block, and work areas of other lengths.
 pub mod lengths;
-pub mod refusals;
-pub mod states;
 pub mod walks;

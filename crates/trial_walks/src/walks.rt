@@ -1,12 +1,12 @@
 // The faithful sum of each list: its opening, the undivided call, and block by block in three orders.
 use kinds::Step;
-use samples::answers;
-use samples::areas;
-use samples::areas::HELD;
+use report::answers;
+use report::areas;
+use report::areas::HELD;
+use report::text;
 use samples::generator;
 use samples::ladders;
 use samples::lists;
-use samples::text;
 
 const CASES: u64 = lists::CASES + ladders::CASES;
 

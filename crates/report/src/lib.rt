@@ -1,0 +1,4 @@
+// What the tests write: text, answers and work areas.
+pub mod answers;
+pub mod areas;
+pub mod text;

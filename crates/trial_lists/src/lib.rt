@@ -1,0 +1,2 @@
+// Tests of the sums: a line for each list.
+pub mod lists;

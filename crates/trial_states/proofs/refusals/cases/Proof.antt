@@ -1,0 +1,56 @@
+-- `trial_states::refusals::cases` meets its contract: the cases are below 2 ^ 64. Assumes nothing.
+use mathlib.Core.Path.{_≡_}
+use Prim.Native.Nat.{_-_, _^_}
+use borrow.Author.Needs.{needs}
+use lib.ListN.{length}
+use Rattle.trial_states.proofs.refusals.cases.Statement.{statement}
+use Rattle.trial_states.proofs.refusals.cases.Tie as tie
+
+abbrev Inv-loop : tie.InvT-loop
+Inv-loop area₀ k₀ area k = length area ≡ length area₀
+
+abbrev μ-loop : tie.MeasureT-loop
+μ-loop area₀ k₀ area k = 2 ^ 64 - k
+
+loop-holds : tie.Need-loop-holds Inv-loop μ-loop
+loop-holds c = search needs
+
+counted-requires : tie.Need-counted-requires Inv-loop μ-loop
+counted-requires c κs = search needs
+
+measured-requires : tie.Need-measured-requires Inv-loop μ-loop
+measured-requires c κs = search needs
+
+line-requires : tie.Need-line-requires Inv-loop μ-loop
+line-requires c κs = search needs
+
+add-k : tie.Need-add-k Inv-loop μ-loop
+add-k c = search needs
+
+loop-less : tie.Need-loop-less Inv-loop μ-loop
+loop-less c = search needs
+
+loop-again : tie.Need-loop-again Inv-loop μ-loop
+loop-again c = search needs
+
+same-length : tie.Need-same-length Inv-loop μ-loop
+same-length c = search needs
+
+returns : tie.Need-returns Inv-loop μ-loop
+returns c = search needs
+
+pub cases-spec : {M : Type 1} → statement M
+cases-spec =
+    tie.close
+    (tie.spec
+    Inv-loop
+    μ-loop
+    loop-holds
+    counted-requires
+    measured-requires
+    line-requires
+    add-k
+    loop-less
+    loop-again
+    same-length
+    returns)
