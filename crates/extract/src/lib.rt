@@ -1,4 +1,5 @@
 // One area of the faithful walk: taking its numbers, adding them up, and the largest magnitude. "Each is one rounded double operation."
+use kinds::SIGN;
 ghost use mathlib.Core.Path.{_≡_};
 ghost use mathlib.Core.Bool.{false};
 ghost use lib.Dec.{T};
@@ -52,19 +53,20 @@ pub fn absolute(x: f64) -> f64
     x
 }
 
-// "mu is the largest magnitude": +0 of an empty area.
+// "mu is the largest magnitude": +0 of an empty area. Patterns without their sign are in the order of their magnitudes; they are compared, and not the doubles,
+// since the compiler takes the greatest whole number of several places at once.
 pub fn largest(work: &[f64]) -> f64
     requires { ⌜ Each (λ x. T (finite x)) (now work) ⌝ }
     ensures { λ r. ⌜ Is binary64 r false (largest binary64 (now (work .entry))) ⌝ }
 {
-    let mut mu = 0.0;
+    let mut most = 0;
     let mut k = 0;
     while k < work.len() {
-        let x = absolute(work[k]);
-        if mu < x {
-            mu = x;
+        let m = f64::to_bits(work[k]) % SIGN;
+        if most < m {
+            most = m;
         }
         k += 1;
     }
-    mu
+    f64::from_bits(most)
 }

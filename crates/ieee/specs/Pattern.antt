@@ -1,8 +1,8 @@
--- Bit patterns by their units: what a finite pattern stands for, which patterns are finite, and that patterns without their sign are in the order of
--- their magnitudes. r and L are patterns without their sign; the infinity's is `ones f * hid f`. Assumes nothing.
+-- Bit patterns by their units: what a finite pattern stands for, which patterns are finite, that patterns without their sign are in the order of their
+-- magnitudes, and what the pattern of a number is. r and L are patterns without their sign; the infinity's is `ones f * hid f`. Assumes nothing.
 use mathlib.Core.Path.{_≡_, refl, sym, ap, _∙_}
 use mathlib.Core.Logic.{_⊎_, inl, inr, _↔_}
-use mathlib.Core.Bool.{Bool, true, false, cond}
+use mathlib.Core.Bool.{Bool, true, false, cond, not}
 use Prim.Native.Nat.{ℕ, zero, suc, _+_, _-_, _*_, _/_, _%_, _^_, _≤_, _<_}
 use native.Mathlib.Nat.{le-of-eq, le-of-lt, le-antisymm, le-of-suc-le-suc, lt-of-lt-of-le, lt-of-not-le, not-le-of-lt, eq-or-lt-of-le, zero-lt-suc}
 use native.Mathlib.Nat.{mul-one, mul-comm, mul-pos, mul-le-mul-left, mul-le-mul-right, mul-lt-mul-of-pos-right, pow-succ'}
@@ -11,14 +11,14 @@ use native.Mathlib.Omega.{arith}
 use lib.Dec.{T, leb, ltb, eqb, eqb→eq, lt→ltb, ltb→lt}
 use lib.Arith.{le→nltb, lt→nleb}
 use lib.Pow.{pow-pos, pow-mono}
-use lib.Ieee.{nan, inf, Format, prec, low, odd, hid, ones, top, ofFields, ofBits}
+use lib.Ieee.{Float, nan, inf, Format, prec, low, odd, hid, ones, top, ofFields, ofBits, toBits, nanBits}
 use lib.Ieee.Fits.{eq→eqb}
-use lib.Ieee.Bits.{is-true, is-false, ofBits-fits}
+use lib.Ieee.Bits.{is-true, is-false, ofBits-fits, ofBits-toBits, nanBits-above}
 use lib.Ieee.Exact.{odd-sign}
 use lib.Ieee.Scale.{finite}
 use lib.Ieee.Nearest.{div-mono}
 use Rattle.units.specs.Powers.{le-or-lt}
-use Rattle.ieee.specs.Units.{Is, Number, magnitude, fieldUnits, patternUnits}
+use Rattle.ieee.specs.Units.{Is, Number, negative, magnitude, fieldUnits, patternUnits}
 use Rattle.ieee.specs.Finite.{is-units, is-finite}
 
 module _ (f : Format) where
@@ -135,3 +135,22 @@ module _ (f : Format) where
 
   pub pattern-number : (b : ℕ) → b % top f < ones f * hid f → Number f (ofBits f b)
   pattern-number b h = record { fit = ofBits-fits f b; fini = rw (pattern-finite b) (lt→ltb (b % top f) (ones f * hid f) h) }
+
+  -- a pattern below the infinity's is no NaN's
+  pub pattern-no-nan : {r : ℕ} → r < ones f * hid f → T (not (nanBits f r))
+  pattern-no-nan {r} h =
+      let l : r < top f = omega arith in
+      rw (nanBits-above f r, mod-eq-of-lt l) (le→nltb (ones f * hid f) r (omega arith))
+
+-- ---- the pattern of a number: without its sign it is below the infinity's, and stands for the number's units
+module _ {f : Format} {x : Float} (X : Number f x) where
+  back : ofBits f (toBits f x) ≡ x
+  back = ofBits-toBits f x (X .fit)
+
+  pub bits-below : toBits f x % top f < ones f * hid f
+  bits-below = ltb→lt (toBits f x % top f) (ones f * hid f) (rw (← (pattern-finite f (toBits f x)), back) (X .fini))
+
+  pub bits-units : (negative x ≡ leb (top f) (toBits f x)) × (magnitude f x ≡ patternUnits f (toBits f x % top f))
+  bits-units =
+      let b = toBits f x in
+      rw back at (is-units f (ofBits f b) (leb (top f) b) (patternUnits f (b % top f)) (pattern-is f b bits-below))

@@ -10,10 +10,9 @@ use Rattle.units.specs.Rounding.{ceil}
 use Rattle.units.specs.Ceiling.{ceil-power}
 use Rattle.ieee.specs.Units.{Number, negative, patternUnits}
 use Rattle.ieee.specs.Finite.{is-units}
-use Rattle.ieee.specs.Pattern.{pattern-number, pattern-positive}
+use Rattle.ieee.specs.Pattern.{pattern-number, pattern-positive, pattern-no-nan}
 use Rattle.ieee.specs.Instances.{top-64}
 use Rattle.exponent.specs.Power.{powers}
-use Rattle.exponent.specs.CeilingLaws.{pattern-no-nan}
 use Rattle.kinds.specs.Limits.{doubles, exponentOf}
 use Rattle.kinds.specs.LimitsLaws.{exponent-most}
 use Rattle.sound.specs.Sound.{unitsAt}

@@ -6,8 +6,8 @@ use Prim.Native.Nat.{ℕ, suc, _+_, _-_, _*_, _%_, _^_, _≤_, _<_}
 use native.Mathlib.Omega.{arith}
 use lib.Pow.{pow-lt}
 use lib.Ieee.{binary64}
+use Rattle.ieee.specs.Pattern.{pattern-no-nan}
 use Rattle.exponent.specs.PowerLaws.{low-power, high-power}
-use Rattle.exponent.specs.CeilingLaws.{pattern-no-nan}
 use Rattle.exponent.proofs.power.Statement.{statement}
 use Rattle.exponent.proofs.power.Tie as tie
 

@@ -1,40 +1,53 @@
--- `extract::largest` meets its contract: mu is the largest magnitude of the places passed. Assumes nothing.
+-- `extract::largest` meets its contract: the greatest pattern of the places passed stands for their largest magnitude. Assumes nothing.
 use mathlib.Core.Logic.{inl, inr}
-use Prim.Native.Nat.{_-_, _<_}
+use Prim.Native.Nat.{_-_, _%_, _<_}
 use native.Mathlib.Omega.{arith}
 use borrow.Author.Needs.{needs}
 use lib.Dec.{T}
-use lib.Ieee.{nan, binary64}
+use lib.Ieee.{nan, binary64, top, toBits}
 use lib.Ieee.Scale.{finite}
 use lib.ListN.{length, take, getD}
 use lib.Seq.{take-all}
 use Rattle.lists.specs.Each.{each-at}
 use Rattle.lists.specs.Front.{take-next}
 use Rattle.ieee.specs.Units.{Number, magnitude}
+use Rattle.ieee.specs.Finite.{finite-no-nan}
+use Rattle.ieee.specs.Pattern.{pattern-no-nan}
 use Rattle.extract.specs.Extract.{largest}
 use Rattle.extract.specs.ExtractLaws.{largest-next}
-use Rattle.extract.specs.LargestLaws.{Positive, Unsigned, positive-is, zero-positive, absolute-is, larger, kept}
+use Rattle.extract.specs.LargestLaws.{Stands, zero-stands, number-stands, stands-is, larger, kept}
 use Rattle.extract.proofs.largest.Statement.{statement}
 use Rattle.extract.proofs.largest.Tie as tie
 
 abbrev Inv-loop : tie.InvT-loop
-Inv-loop work mu₀ k₀ mu k = Positive binary64 mu (largest binary64 (take k work))
+Inv-loop work most₀ k₀ most k = Stands binary64 most (largest binary64 (take k work))
 
 abbrev μ-loop : tie.MeasureT-loop
-μ-loop work mu₀ k₀ mu k = length work - k
+μ-loop work most₀ k₀ most k = length work - k
 
 loop-holds : tie.Need-loop-holds Inv-loop μ-loop
 unfolding largest
-loop-holds c = zero-positive binary64
+loop-holds c = zero-stands binary64
 
-mul-absolute : tie.Need-mul-absolute Inv-loop μ-loop
-mul-absolute c = search needs
+mul-m : tie.Need-mul-m Inv-loop μ-loop
+mul-m c = search needs
 
-shared-slice-read-absolute : tie.Need-shared-slice-read-absolute Inv-loop μ-loop
-shared-slice-read-absolute c = search needs
+shared-slice-read-m : tie.Need-shared-slice-read-m Inv-loop μ-loop
+shared-slice-read-m c = search needs
 
-absolute-requires : tie.Need-absolute-requires Inv-loop μ-loop
-absolute-requires c κs = search needs
+-- what is read at k
+number : (c : tie.After-shared-slice-known Inv-loop μ-loop)
+    → Number binary64 (getD (c .before .before .before .args .work .now) (c .before .before .loop .k) nan)
+number c =
+    let l = c .before .before in
+    let h : l .loop .k < length (l .before .args .work .now) = omega arith in
+    record {
+      fit = c .shared-slice-known .given (l .loop .k);
+      fini = each-at (λ x. T (finite x)) (l .before .args .work .now) (l .loop .k) nan (l .before .pre) h;
+    }
+
+float-to-bits-m : tie.Need-float-to-bits-m Inv-loop μ-loop
+float-to-bits-m c = finite-no-nan _ (number c .fini)
 
 add-k : tie.Need-add-k Inv-loop μ-loop
 add-k c = search needs
@@ -44,26 +57,25 @@ loop-less c = search needs
 
 loop-again : tie.Need-loop-again Inv-loop μ-loop
 loop-again c =
-    let a = c .before in
-    let l = a .before .before .before in
-    let s = l .before .before in
-    let w = s .args .work .now in
+    let l = c .before .before .before in
+    let w = l .before .args .work .now in
+    let x = getD w (l .loop .k) nan in
     let h : l .loop .k < length w = omega arith in
-    let X : Number binary64 (getD w (l .loop .k) nan) =
-    record { fit = a .before .shared-slice-known2 .given (l .loop .k); fini = each-at (λ x. T (finite x)) w (l .loop .k) nan (s .pre) h } in
-    let U : Unsigned binary64 (a .absolute .result) (magnitude binary64 (getD w (l .loop .k) nan)) = rw (a .absolute .ensures) (absolute-is binary64 X) in
+    let Q : Stands binary64 (toBits binary64 x % top binary64) (magnitude binary64 x) = number-stands binary64 (number (c .before)) in
     rw (take-next nan w (l .loop .k), largest-next) (elim (c .if1 .came) [
-      | inl g ↦ rw (g .1) (larger binary64 (l .loop .inv) U (g .0 .taken))
-      | inr g ↦ rw (g .1) (kept binary64 (l .loop .inv) U (g .0 .left))
+      | inl g ↦ rw (g .1) (larger binary64 (l .loop .inv) Q (omega arith))
+      | inr g ↦ rw (g .1) (kept binary64 (l .loop .inv) Q (omega arith))
     ])
+
+float-from-bits-result : tie.Need-float-from-bits-result Inv-loop μ-loop
+float-from-bits-result c = pattern-no-nan binary64 (c .before .loop .inv .below)
 
 returns : tie.Need-returns Inv-loop μ-loop
 returns c =
     let l = c .before in
-    let w = l .before .before .args .work .now in
-    rw (take-all (l .loop .k) w (omega arith)) at (positive-is binary64 (l .loop .inv))
+    rw (take-all (l .loop .k) (l .before .args .work .now) (omega arith)) at (stands-is binary64 (l .loop .inv))
 
 pub largest-spec : {M : Type 1} → statement M
 largest-spec =
     tie.close
-    (tie.spec Inv-loop μ-loop loop-holds mul-absolute shared-slice-read-absolute absolute-requires add-k loop-less loop-again returns)
+    (tie.spec Inv-loop μ-loop loop-holds mul-m shared-slice-read-m float-to-bits-m add-k loop-less loop-again float-from-bits-result returns)

@@ -6,7 +6,7 @@ use native.Mathlib.Omega.{arith}
 use borrow.Author.Needs.{needs}
 use lib.Dec.{lit<}
 use lib.Ieee.{Float, binary64, le}
-use Rattle.exponent.specs.CeilingLaws.{pattern-no-nan}
+use Rattle.ieee.specs.Pattern.{pattern-no-nan}
 use Rattle.kinds.specs.Limits.{doubles}
 use Rattle.kinds.specs.LimitsLaws.{exponent-most}
 use Rattle.kinds.specs.declared.Step.the-variants.{Done}
