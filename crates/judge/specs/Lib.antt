@@ -2,5 +2,6 @@
 pub mod Judge
 pub mod Table
 pub mod FaultLaws
+pub mod FaultlessLaws
 pub mod FirstFaultLaws
 pub mod JudgeLaws

@@ -7,7 +7,7 @@ ghost use Prim.Native.Nat.{_≤_};
 ghost use lib.ListN.{length};
 ghost use Rattle.kinds.specs.Limits.{doubles};
 ghost use Rattle.kinds.specs.declared.Verdict.the-variants.{Good};
-ghost use Rattle.judge.specs.Judge.{faultOf, firstFault, judged, floats, zeroSign};
+ghost use Rattle.judge.specs.Judge.{faultOf, faultless, firstFault, judged, floats, zeroSign};
 
 // The pattern of the infinity. From it on, a pattern without its sign stands for no number.
 pub const INFINITY: u64 = 0x7FF0_0000_0000_0000;
@@ -24,6 +24,20 @@ pub fn fault(p: u64) -> u32
         return 3;
     }
     0
+}
+
+// Whether no pattern has a fault. Either fault is a pattern above the limit's, the sign taken off: a NaN's and an infinity's are above every number's. The loop
+// isn't left early, so that several patterns can be looked at in one step.
+fn faultless(list: &[u64]) -> bool
+    ensures { λ r. ⌜ r ≡ faultless doubles (now (list .entry)) ⌝ }
+{
+    let mut over = false;
+    let mut j = 0;
+    while j < list.len() {
+        over = over | (Doubles::MAGNITUDE < list[j] % SIGN);
+        j += 1;
+    }
+    !over
 }
 
 // "the lowest bad place with its own fault". The bound on the length, which `judge` tests, is there because a place is told in 32 bits.
@@ -54,6 +68,9 @@ pub fn judge(list: &[u64], area: bool, parts: bool) -> Verdict
     }
     if !parts {
         return Verdict::Refused(5, 0);
+    }
+    if faultless(list) {
+        return Verdict::Good;
     }
     first_fault(list)
 }

@@ -1,13 +1,14 @@
--- The first number above a limit: what a loop over the places passes and ends with; and that for the limit 2^-M sigma it is the first place of a state that is
--- not sound. Assumes nothing.
-use mathlib.Core.Path.{_≡_, refl, _∙_}
-use mathlib.Core.Bool.{true, false, _&&_, cond}
+-- The first number above a limit: what a loop over the places passes and ends with, and a look at every place; and that for the limit 2^-M sigma it is the
+-- first place of a state that is not sound. Assumes nothing.
+use mathlib.Core.Path.{_≡_, refl, sym, ap, _∙_}
+use mathlib.Core.Bool.{Bool, true, false, _&&_, cond, and-true, and-assoc}
 use mathlib.Core.List.{List, [], _∷_}
 use Prim.Native.Nat.{ℕ, suc, _+_, _-_, _*_, _^_, _≤_, _<_}
 use native.Mathlib.Nat.{mul-le-mul-left, le-of-mul-le-mul-left}
 use native.Mathlib.Numerals.{add-one}
 use native.Mathlib.Omega.{arith}
-use lib.Dec.{leb, leb→le, le→leb}
+use borrow.Author.Tests.{ne-eqb}
+use lib.Dec.{leb, eqb, leb→le, le→leb}
 use lib.ListN.{length, getD, drop, drop-of-length-le}
 use lib.Pow.{pow-pos}
 use lib.Seq.{drop-cons}
@@ -15,7 +16,7 @@ use lib.Ieee.{Float}
 use lib.Ieee.Scale.{finite}
 use Rattle.units.specs.Powers.{pow-split}
 use Rattle.ieee.specs.Units.{magnitude}
-use Rattle.ieee.specs.Fractions.{same-test}
+use Rattle.ieee.specs.Fractions.{same-test, eqb-same}
 use Rattle.kinds.specs.Limits.{Width, exponentOf}
 use Rattle.kinds.specs.declared.State.{State}
 use Rattle.sound.specs.Sound.{atMost, badPlace}
@@ -46,6 +47,31 @@ module _ {W : Width} {most : ℕ} {xs : List Float} where
   passing-end {i} P h =
       let e : firstAbove W most (drop i xs) ≡ 0 = rw (drop-of-length-le xs {i = i} h) in
       omega (arith, P .rest)
+
+-- ---- the places before i have been looked at, and good says whether each is at most the limit
+pub record Looked (W : Width) (most : ℕ) (xs : List Float) (good : Bool) (i : ℕ) : Type 0 where
+  pub rest : eqb (firstAbove W most xs) (length xs) ≡ (good && eqb (firstAbove W most (drop i xs)) (length (drop i xs)))
+
+counts : (t : Bool) (n m : ℕ) → eqb (cond t (n + 1) 0) (suc m) ≡ (t && eqb n m)
+counts true n m = eqb-same (n + 1) (suc m) n m (omega arith) (omega arith)
+counts false n m = ne-eqb 0 (suc m) (omega arith)
+
+module _ {W : Width} {most : ℕ} {xs : List Float} where
+  pub looked-none : Looked W most xs true 0
+  looked-none = record { rest = refl }
+
+  module _ {good : Bool} {i : ℕ} (L : Looked W most xs good i) where
+    pub looked-next : (d : Float) → i < length xs → Looked W most xs (good && atMost W most (getD xs i d)) (i + 1)
+    unfolding firstAbove
+    looked-next d l =
+        let t = atMost W most (getD xs i d) in
+        let n = firstAbove W most (drop (suc i) xs) in
+        let m = length (drop (suc i) xs) in
+        record { rest = L .rest ∙ rw (add-one, drop-cons xs i d) (ap (λ (b : Bool). good && b) (counts t n m) ∙ sym (and-assoc good t (eqb n m))) }
+
+    pub looked-all : length xs ≤ i → good ≡ eqb (firstAbove W most xs) (length xs)
+    unfolding firstAbove
+    looked-all h = sym (L .rest ∙ rw (drop-of-length-le xs {i = i} h) (and-true good))
 
 -- ---- 2^-M sigma
 module _ (W : Width) (s : State) {k : ℕ} (sigma : magnitude (W .format) (s .sigma) ≡ 2 ^ k) (low : exponentOf (s .n) ≤ k) where

@@ -5,7 +5,8 @@ use kinds::State;
 ghost use mathlib.Core.Path.{_≡_};
 ghost use mathlib.Core.Bool.{true, false};
 ghost use Prim.Native.Nat.{_-_};
-ghost use lib.Dec.{T};
+ghost use lib.Dec.{T, eqb};
+ghost use lib.ListN.{length};
 ghost use lib.Ieee.{binary64};
 ghost use lib.Ieee.Scale.{finite};
 ghost use Rattle.units.specs.Rounding.{ceil};
@@ -23,8 +24,23 @@ pub fn limit(s: State) -> f64
     exponent::power(exponent::ceiling(s.sigma) - Doubles::of(s.n).exponent())
 }
 
-// The place of the first work number that isn't both finite and of magnitude at most the limit; the length where there is none.
-pub fn bad_place(work: &[f64], limit: f64) -> usize
+// Whether every work number is within the limit: finite and of magnitude at most it. The loop isn't left early, so that several numbers can be looked at in one
+// step.
+fn within(work: &[f64], limit: f64) -> bool
+    requires { ⌜ T (finite limit) × (negative limit ≡ false) ⌝ }
+    ensures { λ r. ⌜ r ≡ eqb (firstAbove doubles (magnitude binary64 limit) (now (work .entry))) (length (now (work .entry))) ⌝ }
+{
+    let mut good = true;
+    let mut i = 0;
+    while i < work.len() {
+        good = good & at_most(work[i], limit);
+        i += 1;
+    }
+    good
+}
+
+// The place of the first work number that isn't within the limit, by a loop that ends there; the length where there is none.
+fn first_above(work: &[f64], limit: f64) -> usize
     requires { ⌜ T (finite limit) × (negative limit ≡ false) ⌝ }
     ensures { λ r. ⌜ r ≡ firstAbove doubles (magnitude binary64 limit) (now (work .entry)) ⌝ }
 {
@@ -36,4 +52,16 @@ pub fn bad_place(work: &[f64], limit: f64) -> usize
         place += 1;
     }
     place
+}
+
+// The place of the first work number that isn't both finite and of magnitude at most the limit; the length where there is none. It is searched for only where
+// there is one.
+pub fn bad_place(work: &[f64], limit: f64) -> usize
+    requires { ⌜ T (finite limit) × (negative limit ≡ false) ⌝ }
+    ensures { λ r. ⌜ r ≡ firstAbove doubles (magnitude binary64 limit) (now (work .entry)) ⌝ }
+{
+    if within(work, limit) {
+        return work.len();
+    }
+    first_above(work, limit)
 }

@@ -1,9 +1,11 @@
 -- `judge::judge` meets its contract: each return is a case of the definition. Assumes nothing.
-use mathlib.Core.Path.{sym, _∙_}
+use mathlib.Core.Path.{_≡_, sym, _∙_}
 use native.Mathlib.Omega.{arith}
 use borrow.Author.Needs.{needs}
 use borrow.Author.Tests.{not-false}
 use Rattle.kinds.specs.Limits.{doubles}
+use Rattle.judge.specs.Judge.{firstFault, judged}
+use Rattle.judge.specs.FaultlessLaws.{faultless-good}
 use Rattle.judge.specs.JudgeLaws.{judged-1, judged-4, judged-5, judged-passed}
 use Rattle.judge.proofs.judge.Statement.{statement}
 use Rattle.judge.proofs.judge.Tie as tie
@@ -25,19 +27,42 @@ returns-3 c =
     sym
     (judged-5 doubles (a .area) (a .parts) (a .list .now) (omega arith) (rw (not-false (a .area) (t .if2 .left)) tt) (rw (c .if3 .taken) tt))
 
-first-fault-requires : tie.Need-first-fault-requires
-first-fault-requires c κs = search needs
+-- none of 1, 4 and 5 is given
+passed : (c : tie.Else3)
+    → let a = c .before .before .before .before .args in
+    judged doubles (a .area) (a .parts) (a .list .now) ≡ firstFault doubles (a .list .now) 0
+passed c =
+    let t = c .before in
+    let a = t .before .before .before .args in
+    judged-passed doubles (a .area) (a .parts) (a .list .now) (record {
+      few = omega arith;
+      right-area = rw (not-false (a .area) (t .if2 .left)) tt;
+      right-parts = rw (not-false (a .parts) (c .if3 .left)) tt;
+    })
+
+faultless-requires : tie.Need-faultless-requires
+faultless-requires c κs = search needs
 
 returns-4 : tie.Need-returns-4
 returns-4 c =
-    let u = c .before in
-    let t = u .before in
-    let a = t .before .before .before .args in
-    c .first-fault .ensures ∙ sym (judged-passed doubles (a .area) (a .parts) (a .list .now) (record {
-      few = omega arith;
-      right-area = rw (not-false (a .area) (t .if2 .left)) tt;
-      right-parts = rw (not-false (a .parts) (u .if3 .left)) tt;
-    }))
+    let f = c .before in
+    let a = f .before .before .before .before .before .args in
+    sym (passed (f .before) ∙ faultless-good doubles (a .list .now) 0 .0 (sym (f .faultless .ensures) ∙ c .if4 .taken))
+
+first-fault-requires : tie.Need-first-fault-requires
+first-fault-requires c κs = search needs
+
+returns-5 : tie.Need-returns-5
+returns-5 c = c .first-fault .ensures ∙ sym (passed (c .before .before .before))
 
 pub judge-spec : {M : Type 1} → statement M
-judge-spec = tie.close (tie.spec returns returns-2 returns-3 first-fault-requires returns-4)
+judge-spec =
+    tie.close
+    (tie.spec
+    returns
+    returns-2
+    returns-3
+    faultless-requires
+    returns-4
+    first-fault-requires
+    returns-5)
