@@ -1,5 +1,6 @@
 // What the calls have in common: the code of a refusal, the judgement of the lengths, and the 16 bytes of a sum.
 use kinds::Doubles;
+use kinds::tells;
 use octets::little::SIZE;
 ghost use mathlib.Core.Path.{_≡_};
 ghost use mathlib.Core.List.{[], _∷_};
@@ -13,12 +14,12 @@ ghost use Rattle.calls.specs.Inner.{Told};
 // The bytes of a sum: "16 bytes: the pattern, then the rounds"
 pub const SUM: usize = 16;
 
-// "the refusal number plus 32·(place + 1) where a place is told and plus 0 where none is": 2 and 3 tell one.
+// "the refusal number plus 32·(place + 1) where a place is told and plus 0 where none is"
 pub fn refusal(number: u32, place: u32) -> u32
     requires { ⌜ Told number place ⌝ }
     ensures { λ r. ⌜ r ≡ number + placeCode (placeOf number place) ⌝ }
 {
-    if (number == 2) | (number == 3) {
+    if tells(number) {
         return number + 32 * (place + 1);
     }
     number

@@ -1,3 +1,4 @@
 -- What the calls with the C calling convention promise.
+pub mod SumBytes
 pub mod Promised
 pub mod RegisterBytes

@@ -3,15 +3,13 @@
 use mathlib.Core.Path.{_≡_, refl, sym, ap, _∙_}
 use mathlib.Core.Logic.{_⊎_, inl, inr, _↔_}
 use mathlib.Core.Bool.{true}
-use mathlib.Core.List.{List, [], _∷_}
+use mathlib.Core.List.{List, []}
 use Prim.Native.Nat.{ℕ, _+_, _*_, _/_, _%_, _≤_}
 use native.Mathlib.Decide.{ℕ-discrete}
 use native.Mathlib.Omega.{arith}
 use borrow.Author.Tests.{eq-eqb}
 use lib.Dec.{eqb, eqb→eq}
-use lib.Ieee.{Float}
 use lib.ListN.{length, getD, length-replicate}
-use Rattle.ieee.specs.Accuracy.{FaithfulTo, NearestTo}
 use Rattle.kinds.specs.Limits.{doubles}
 use Rattle.kinds.specs.Heard.{Heard, refused, tells, placeOf, pattern, stepHeard, nearestHeard}
 use Rattle.kinds.specs.declared.Verdict.{Verdict}
@@ -20,9 +18,8 @@ use Rattle.judge.specs.Judge.{judged}
 use Rattle.judge.specs.JudgeLaws.{given-when}
 use Rattle.judge.specs.Table.{Allowed, First, GivenWhen}
 use Rattle.judge.specs.FaultLaws.{fault-number}
-use Rattle.octets.specs.Octets.{little, packed}
+use Rattle.octets.specs.Octets.{little}
 use Rattle.octets.specs.EightsLaws.{eights-length}
-use Rattle.sums.specs.Sums.{sumOf}
 use Rattle.sums.specs.Promised.{nearest-promised}
 use Rattle.runs.specs.Instances.{faithful-64}
 use Rattle.demands.specs.Refusals.{nearest-refused, faithful-refused}
@@ -31,6 +28,7 @@ use Rattle.calls.specs.Calls.{Called, called, placeCode, answered, lengthFault,
 use Rattle.calls.specs.Inner.{Told}
 use Rattle.calls.specs.CallsLaws.{fault-0, fitting, sixteen, sum-refused, sum-summed, answered-refused, answered-done, answered-nearest, code-told}
 use Rattle.calls.specs.ToldLaws.{faithful-told, nearest-told}
+use Rattle.exports.specs.SumBytes.{FaithfulBytes, NearestBytes, Accepted}
 
 -- the work area has the right length
 fits : (ps : List ℕ) → eqb (length (own (length ps))) (length ps) ≡ true
@@ -53,15 +51,7 @@ module _ (list out : List ℕ) (l : length list ≤ 32752) (m : length list % 8 
   is-summed : (heardOf : List ℕ → Heard) → sumCall heardOf list out ≡ answered (heardOf ps) out []
   is-summed heardOf = sum-summed heardOf list out (fault-0 (length list) (length out) l m o)
 
-  -- "An accepted sum writes 16 bytes: the pattern, then the rounds", of a faithful sum
-  pub record FaithfulBytes (c : Called) : Type 0 where
-    pub sum : Float
-    pub rounds : ℕ
-    pub is : c ≡ called 0 (packed (pattern sum ∷ rounds ∷ []))
-    pub faithful : FaithfulTo (doubles .format) (sumOf (doubles .format) ps) sum
-    pub most : rounds ≤ 51
-
-  pub faithful-call : Allowed doubles ps → FaithfulBytes (faithfulCall list out)
+  pub faithful-call : Allowed doubles ps → FaithfulBytes list (faithfulCall list out)
   faithful-call A =
       let F = faithful-64 ps (own (length ps)) (record { few = few; right-area = rw (fits ps) tt; right-parts = tt }, A) in
       record {
@@ -72,13 +62,7 @@ module _ (list out : List ℕ) (l : length list ≤ 32752) (m : length list % 8 
         most = F .most;
       }
 
-  -- and of the nearest sum, with 0 for the rounds
-  pub record NearestBytes (c : Called) : Type 0 where
-    pub sum : Float
-    pub is : c ≡ called 0 (packed (pattern sum ∷ 0 ∷ []))
-    pub nearest : NearestTo (doubles .format) (sumOf (doubles .format) ps) sum
-
-  pub nearest-call : Allowed doubles ps → NearestBytes (nearestCall list out)
+  pub nearest-call : Allowed doubles ps → NearestBytes list (nearestCall list out)
   nearest-call A =
       let P = nearest-promised ps (record { few = few; right-area = tt; right-parts = tt }, A) in
       record {
@@ -120,11 +104,6 @@ module _ (list out : List ℕ) (l : length list ≤ 32752) (m : length list % 8 
         is-summed sumHeard ∙ ap (λ h. answered h out []) (nearest-hears ps k i given) ∙ code (nearest-told ps k i (nearest-refused ps k i .1 given))
 
 -- ---- exactly when 0 is returned
-pub record Accepted (list out : List ℕ) : Type 0 where
-  pub bytes : length list ≤ 32752
-  pub whole : length list % 8 ≡ 0
-  pub sixteen : length out ≡ 16
-  pub allowed : Allowed doubles (patternsIn list)
 
 -- no refusal of a list has the number 0
 some-number : (ps : List ℕ) (k i : ℕ) → GivenWhen doubles true true ps (verdicts.Refused k i) → k ≡ 0 → ⊥

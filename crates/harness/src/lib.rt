@@ -4,14 +4,10 @@
 // Numbers lie least significant byte first, 8 bytes each. A call answers 0, or the refusal number plus 32·(place + 1) where a place is told and plus 0 where
 // none is, or 0xFFFFFFFF where the lengths are such that the harness itself can't hold them. What is lent to the library as a work area, parts slice or output
 // area is copied back after every call, refused ones too, so that a wrong write is seen.
-mod code;
-mod doubles;
-mod numbers;
-mod parts;
-mod registers;
-mod sheets;
-mod states;
-mod walks;
+use held::parts;
+use held::registers;
+use held::sheets;
+use held::walks;
 
 // More than a list may have, so that lists of 4,095 and 4,096 numbers reach the library.
 const ROOM: usize = 4160;

@@ -3,6 +3,7 @@ ghost use mathlib.Core.Path.{_≡_};
 ghost use Prim.Native.Nat.{_≤_};
 ghost use Rattle.kinds.specs.Limits.{doubles, exponentOf, blocksOf, Tied};
 ghost use Rattle.kinds.specs.States.{stateOf};
+ghost use Rattle.kinds.specs.Heard.{tells};
 
 // What the sign adds to a pattern. Patterns without it are in the order of their magnitudes.
 pub const SIGN: u64 = 0x8000_0000_0000_0000;
@@ -96,6 +97,13 @@ impl State {
 }
 
 // ---- answers. A refusal holds document 01's number and the place, 0 where none is told.
+
+// Whether a refusal with this number tells a place: 2 and 3 do.
+pub fn tells(number: u32) -> bool
+    ensures { λ r. ⌜ r ≡ tells number ⌝ }
+{
+    (number == 2) | (number == 3)
+}
 
 // of a list: whether it is allowed
 pub enum Verdict {

@@ -5,7 +5,7 @@ use mathlib.Core.List.{_++_}
 use Prim.Native.Nat.{ℕ, zero, suc, _+_, _^_, _≤_, _<_}
 use native.Mathlib.Omega.{arith}
 use borrow.Author.Tests.{lt-ltb}
-use lib.Dec.{ltb, eqb}
+use lib.Dec.{ltb}
 use lib.ListN.{length, length-append}
 use Rattle.lists.specs.Apart.{apart}
 use Rattle.kinds.specs.Limits.{doubles}
@@ -48,7 +48,7 @@ first : (b : Bool) → (b || ltb 0 0) ≡ told (cond b (at 0) nowhere)
 first true = refl
 first false = refl
 
-pub place-told : (k p : ℕ) → (eqb k 2 || eqb k 3 || ltb 0 p) ≡ told (placeOf k p)
+pub place-told : (k p : ℕ) → (tells k || ltb 0 p) ≡ told (placeOf k p)
 place-told k zero = first (tells k)
 place-told k (suc p) = either (tells k) p
 

@@ -1,4 +1,5 @@
 // The lines, each put behind a text.
+use kinds::tells;
 use numerals::decimal;
 use numerals::pattern;
 use numerals::put;
@@ -50,11 +51,11 @@ pub fn three(text: &mut [u8], n: usize, sum: u64, rounds: u32, near: u64) -> usi
     nearest(text, summed, near)
 }
 
-// Whether a refusal tells a place: 2 and 3 do, at place 0 too.
-fn tells(k: u32, place: u32) -> bool
+// Whether a place is told: by its number, at place 0 too.
+fn place_told(k: u32, place: u32) -> bool
     ensures { λ r. ⌜ r ≡ Lines·told (placeOf k place) ⌝ }
 {
-    (k == 2) | (k == 3) | (0 < place)
+    tells(k) | (0 < place)
 }
 
 // `refused 3 at 1` or `refused 11`, at the start of the text
@@ -63,7 +64,7 @@ pub fn refused(text: &mut [u8], k: u32, place: u32) -> usize
     ensures { λ r. ⌜ Placed (refusedLine k (placeOf k place)) 0 (now (text .entry)) r (now (text .exit)) ⌝ }
 {
     let numbered = decimal(text, 0, b"refused ", k as u64);
-    if tells(k, place) {
+    if place_told(k, place) {
         let told = decimal(text, numbered, b" at ", place as u64);
         return put(text, told, b"\n");
     }

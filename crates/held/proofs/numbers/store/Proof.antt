@@ -1,28 +1,28 @@
--- `harness::numbers::load` meets its contract: stores keep the length. Assumes nothing.
+-- `held::numbers::store` meets its contract: stores keep the length. Assumes nothing.
 use mathlib.Core.Path.{_≡_}
 use Prim.Native.Nat.{_-_}
 use borrow.Author.Needs.{needs}
 use lib.ListN.{length}
-use Rattle.harness.proofs.numbers.load.Statement.{statement}
-use Rattle.harness.proofs.numbers.load.Tie as tie
+use Rattle.held.proofs.numbers.store.Statement.{statement}
+use Rattle.held.proofs.numbers.store.Tie as tie
 
 abbrev Inv-loop : tie.InvT-loop
-Inv-loop bytes area₀ i₀ area i = length area ≡ length area₀
+Inv-loop area bytes₀ i₀ bytes i = length bytes ≡ length bytes₀
 
 abbrev μ-loop : tie.MeasureT-loop
-μ-loop bytes area₀ i₀ area i = length area₀ - i
+μ-loop area bytes₀ i₀ bytes i = length area - i
 
 loop-holds : tie.Need-loop-holds Inv-loop μ-loop
 loop-holds c = search needs
 
-get-requires : tie.Need-get-requires Inv-loop μ-loop
-get-requires c κs = search needs
+mul-put : tie.Need-mul-put Inv-loop μ-loop
+mul-put c = search needs
 
-mul-area : tie.Need-mul-area Inv-loop μ-loop
-mul-area c = search needs
+shared-slice-read-put : tie.Need-shared-slice-read-put Inv-loop μ-loop
+shared-slice-read-put c = search needs
 
-slice-write-area : tie.Need-slice-write-area Inv-loop μ-loop
-slice-write-area c = search needs
+put-requires : tie.Need-put-requires Inv-loop μ-loop
+put-requires c κs = search needs
 
 add-i : tie.Need-add-i Inv-loop μ-loop
 add-i c = search needs
@@ -39,16 +39,16 @@ same-length c = search needs
 returns : tie.Need-returns Inv-loop μ-loop
 returns c = search needs
 
-pub load-spec : {M : Type 1} → statement M
-load-spec =
+pub store-spec : {M : Type 1} → statement M
+store-spec =
     tie.close
     (tie.spec
     Inv-loop
     μ-loop
     loop-holds
-    get-requires
-    mul-area
-    slice-write-area
+    mul-put
+    shared-slice-read-put
+    put-requires
     add-i
     loop-less
     loop-again

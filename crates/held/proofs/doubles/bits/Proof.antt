@@ -1,4 +1,4 @@
--- `harness::doubles::bits` meets its contract: a float that equals itself is no NaN. Assumes nothing.
+-- `held::doubles::bits` meets its contract: a float that equals itself is no NaN. Assumes nothing.
 use mathlib.Core.Path.{_≡_}
 use mathlib.Core.Bool.{false, not}
 use Prim.Native.Nat.{ℕ}
@@ -6,8 +6,8 @@ use native.Mathlib.Omega.{arith}
 use borrow.Author.Needs.{needs}
 use lib.Dec.{T}
 use lib.Ieee.{Float, nan, inf, fin, ne, eq, isNan}
-use Rattle.harness.proofs.doubles.bits.Statement.{statement}
-use Rattle.harness.proofs.doubles.bits.Tie as tie
+use Rattle.held.proofs.doubles.bits.Statement.{statement}
+use Rattle.held.proofs.doubles.bits.Tie as tie
 
 no-nan : (x : Float) → ne x x ≡ false → T (not (isNan x))
 unfolding ne eq isNan

@@ -1,10 +1,10 @@
--- `harness::doubles::load` meets its contract: stores keep the length. Assumes nothing.
+-- `held::doubles::load` meets its contract: stores keep the length. Assumes nothing.
 use mathlib.Core.Path.{_≡_}
 use Prim.Native.Nat.{_-_}
 use borrow.Author.Needs.{needs}
 use lib.ListN.{length}
-use Rattle.harness.proofs.doubles.load.Statement.{statement}
-use Rattle.harness.proofs.doubles.load.Tie as tie
+use Rattle.held.proofs.doubles.load.Statement.{statement}
+use Rattle.held.proofs.doubles.load.Tie as tie
 
 abbrev Inv-loop : tie.InvT-loop
 Inv-loop bytes area₀ i₀ area i = length area ≡ length area₀

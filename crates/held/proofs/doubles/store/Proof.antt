@@ -1,10 +1,10 @@
--- `harness::doubles::store` meets its contract: stores keep the length. Assumes nothing.
+-- `held::doubles::store` meets its contract: stores keep the length. Assumes nothing.
 use mathlib.Core.Path.{_≡_}
 use Prim.Native.Nat.{_-_}
 use borrow.Author.Needs.{needs}
 use lib.ListN.{length}
-use Rattle.harness.proofs.doubles.store.Statement.{statement}
-use Rattle.harness.proofs.doubles.store.Tie as tie
+use Rattle.held.proofs.doubles.store.Statement.{statement}
+use Rattle.held.proofs.doubles.store.Tie as tie
 
 abbrev Inv-loop : tie.InvT-loop
 Inv-loop area bytes₀ i₀ bytes i = length bytes ≡ length bytes₀

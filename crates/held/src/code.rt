@@ -8,16 +8,13 @@ pub const ACCEPTED: u32 = 0;
 // No list that the harness holds has as many places.
 const PLACES: u32 = 0x10000;
 
-// "the refusal number plus 32·(place + 1) where a place is told and plus 0 where none is": it is told for 2 and 3.
+// "the refusal number plus 32·(place + 1) where a place is told and plus 0 where none is"
 pub fn refusal(number: u32, place: u32) -> u32 {
     if PLACES <= place {
         return UNHELD;
     }
-    if number == 2 {
-        return 2 + 32 * (place + 1);
-    }
-    if number == 3 {
-        return 3 + 32 * (place + 1);
+    if kinds::tells(number) {
+        return std::num::wrapping_add_u32(number, 32 * (place + 1));
     }
     number
 }
