@@ -84,6 +84,13 @@ least-normal f =
     never : true ≡ false → ⊥
     never e = let z : _≡_ {A = ℕ} 0 1 = cc in omega arith
 
+-- "sigma is at most 2^-1022": 2^(prec - 1) units are the least normal number
+pub normal-above : (f : Format) (k : ℕ) {sigma : Float} → Positive f sigma (2 ^ k) → le sigma (leastNormal f) ≡ false → prec f ≤ k
+normal-above f k S u = elim (le-or-lt (prec f) k) [
+  | inl l ↦ l
+  | inr l ↦ absurd (omega (arith, above f S (least-normal f) u, pow-mono {i = k} {j = prec f - 1} (omega arith)))
+]
+
 -- ---- the close
 -- t' as the round closes that took all of xs
 abbrev pub carried : Width → Float → Float → List Float → Float
@@ -162,7 +169,6 @@ module _ {W : Width} {F : Fitting W} {e n : ℕ} {sigma t : Float} {rounds : ℕ
   half : exponentOf n + exponentOf n < prec (W .format)
   half = omega (arith, F .most-is n (B .few), F .half)
 
-  -- "sigma is at most 2^-1022": 2^(prec - 1) units are the least normal number
   pub below-normal : le sigma (leastNormal (W .format)) ≡ true → exponentOf n + e < prec (W .format)
   below-normal u = elim (le-or-lt (prec f) (exponentOf n + e)) [
     | inl l ↦ absurd (omega (arith, reached f (B .scale .power) (least-normal f) u, pow-lt {i = prec f - 1} {j = exponentOf n + e} (omega arith)))
@@ -173,13 +179,7 @@ module _ {W : Width} {F : Fitting W} {e n : ℕ} {sigma t : Float} {rounds : ℕ
       f = W .format
 
   pub above-normal : le sigma (leastNormal (W .format)) ≡ false → prec (W .format) ≤ exponentOf n + e
-  above-normal u = elim (le-or-lt (prec f) (exponentOf n + e)) [
-    | inl l ↦ l
-    | inr l ↦ absurd (omega (arith, above f (B .scale .power) (least-normal f) u, pow-mono {i = exponentOf n + e} {j = prec f - 1} (omega arith)))
-  ]
-    where
-      f : Format
-      f = W .format
+  above-normal u = normal-above (W .format) (exponentOf n + e) (B .scale .power) u
 
   -- 2^(2M+1) eps sigma, where eps sigma is a unit or more
   pub threshold : prec (W .format) ≤ exponentOf n + e

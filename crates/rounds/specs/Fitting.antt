@@ -20,9 +20,9 @@ pub record Fitting (W : Width) : Type 0 where
   pub fine : prec (W .format) ≤ low (W .format)
   -- an extraction at the largest sigma does not overflow
   pub room : most + top + 3 ≤ low (W .format) + emax (W .format)
-  -- tau stays below the largest sigma, and t below 2^(2M+1) eps times it; no sum of a close overflows
+  -- tau of a run stays below the largest sigma, and t below 2^(2M+1) eps times it; no sum of a close overflows, whatever sound state it closes
   pub tau-room : most + top ≤ bound
   pub t-room : most + most + most + top + 1 ≤ bound + prec (W .format)
-  pub sum-room : bound + 5 ≤ low (W .format) + emax (W .format)
+  pub sum-room : bound + 6 ≤ low (W .format) + emax (W .format)
   -- each further round lowers sigma by a factor of 2^(prec - M) or more
   pub enough : top < suc (W .rounds) * (prec (W .format) - most)

@@ -35,7 +35,7 @@ abbrev pub wholes : Format → List Float → List Whole
 wholes f xs = map (whole f) xs
 
 -- a sum is -0 only where both operands are, so not where the first never is
-sum-plus : {f : Format} (x y : Float) {r : Float} → (magnitude f x ≡ 0 → negative x ≡ false) → Rounds f (negative x && negative y) (whole f x ⊕ whole f y) r
+pub sum-plus : {f : Format} (x y : Float) {r : Float} → (magnitude f x ≡ 0 → negative x ≡ false) → Rounds f (negative x && negative y) (whole f x ⊕ whole f y) r
     → magnitude f r ≡ 0 → negative r ≡ false
 unfolding whole
 sum-plus {f} x y {r} h R z = R .sign ∙ ap (signOf (negative x && negative y)) zero ∙ go (negative x) (negative y) refl refl
@@ -88,6 +88,13 @@ module _ {f : Format} {M e : ℕ} {sigma : Float} (σ : Scale f M e sigma) where
 
   pub high-units : {x : Float} → Small f (2 ^ e) x → whole f (highPart f sigma x) ≡ units.high (prec f) (M + e) (whole f x)
   high-units X = high-is X .units
+
+  high-within : {x : Float} → Small f (2 ^ e) x → Within (whole f (highPart f sigma x)) (2 ^ e)
+  high-within X = rw (high-is X .units) (extract (prec f) (prec-pos f) M e (σ .some) (σ .few) (ready X .rep) (ready X .small) .high-small)
+
+  -- a high part is no larger than the number may be
+  pub high-small : {x : Float} → Small f (2 ^ e) x → Small f (2 ^ e) (highPart f sigma x)
+  high-small {x} X = record { number = high-is X .number; within = omega (arith, whole-mag f (highPart f sigma x), high-within X) }
 
   remainder-is : {x : Float} → Small f (2 ^ e) x
       → Rounds f (negative x && not (negative (highPart f sigma x))) (whole f x ⊖ units.high (prec f) (M + e) (whole f x)) (remainderOf f sigma x)
@@ -154,11 +161,8 @@ module _ {f : Format} {M e : ℕ} {sigma : Float} (σ : Scale f M e sigma) where
 
   next-sum : {c : ℕ} {tau x : Float} → Tau c tau → Small f (2 ^ e) x → c < 2 ^ M
       → Rounds f (negative tau && negative (highPart f sigma x)) (whole f tau ⊕ whole f (highPart f sigma x)) (add f tau (highPart f sigma x))
-  next-sum {c} {tau} {x} T X l = add-rounds (T .number) (high-is X .number) (M + e + 1) (omega (arith, σ .room))
-      (omega (arith, tau-under (T .units) l, high, pow-add 2 (M + e) 1, pow-mono {i = e} {j = M + e} (omega arith)))
-    where
-      high : Within (whole f (highPart f sigma x)) (2 ^ e)
-      high = rw (high-is X .units) (extract (prec f) (prec-pos f) M e (σ .some) (σ .few) (ready X .rep) (ready X .small) .high-small)
+  next-sum T X l = add-rounds (T .number) (high-is X .number) (M + e + 1) (omega (arith, σ .room))
+      (omega (arith, tau-under (T .units) l, high-within X, pow-add 2 (M + e) 1, pow-mono {i = e} {j = M + e} (omega arith)))
 
   next-units : {c : ℕ} {tau x : Float} → Tau c tau → Small f (2 ^ e) x → c < 2 ^ M
       → whole f (add f tau (highPart f sigma x)) ≡ fl (prec f) (whole f tau ⊕ units.high (prec f) (M + e) (whole f x))

@@ -34,7 +34,7 @@ module _ (f : Format) (j c₀ : ℕ) (room : c₀ * 2 ^ j ≤ 2 ^ (low f + emax 
     small = omega (arith, mul-le-mul-right (2 ^ j) h, mul-le-mul-right (2 ^ j) fit);
   }
 
-  sums : (xs : List Float) (c : ℕ) (T : Float) → Number f T → Within (whole f T) (c * 2 ^ j) → Each (Small f (2 ^ j)) xs → c + length xs ≤ c₀
+  pub sums : (xs : List Float) (c : ℕ) (T : Float) → Number f T → Within (whole f T) (c * 2 ^ j) → Each (Small f (2 ^ j)) xs → c + length xs ≤ c₀
       → Number f (foldl (add f) T xs) × (whole f (foldl (add f) T xs) ≡ units.summed (prec f) (whole f T) (wholes f xs))
       × Within (whole f (foldl (add f) T xs)) (c₀ * 2 ^ j)
   sums [] c T N W h l = (N, refl, omega (arith, W, mul-le-mul-right (2 ^ j) l))
@@ -64,7 +64,7 @@ module _ {f : Format} where
   pub held : {k : ℕ} {x : Float} → Small f (2 ^ k) x → Held f k x
   held {x = x} X = record { number = X .number; within = omega (arith, whole-mag f x, X .within) }
 
-  wider : {k l : ℕ} {x : Float} → k ≤ l → Held f k x → Held f l x
+  pub wider : {k l : ℕ} {x : Float} → k ≤ l → Held f k x → Held f l x
   wider h X = record { number = X .number; within = omega (arith, X .within, pow-mono h) }
 
   module _ (k : ℕ) (room : k + 1 ≤ low f + emax f) {x y : Float} (X : Held f k x) (Y : Held f k y) where

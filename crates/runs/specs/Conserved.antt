@@ -17,7 +17,7 @@ use Rattle.rounds.specs.InUnits.{Small, wholes, high-units, remainder-exact}
 use Rattle.rounds.specs.Begun.{tau-all}
 use Rattle.runs.specs.CloseUnits.{held, tau1-units, tau2-units}
 use Rattle.runs.specs.Taken.{pendingAt, mixed, takenOf}
-use Rattle.runs.specs.Summing.{Summing, closes, two, half, few}
+use Rattle.runs.specs.Summing.{Summing, closes, two, half, few, room}
 use Rattle.runs.specs.MidRound.{Mid, highUnits}
 
 module _ {W : Width} {F : Fitting W} {S : Whole} {e n : ℕ} {sigma t : Float} {rounds : ℕ} {xs : List Float} (A : Summing W F S e n sigma t rounds xs) where
@@ -57,5 +57,5 @@ module _ {W : Width} {F : Fitting W} {S : Whole} {e n : ℕ} {sigma t : Float} {
       let f = W .format in
       let t-held = held (A .begun .kept) in
       let tau-held = held (tau-all (A .begun)) in
-      rw (tau1-units (F .bound) (F .sum-room) t-held tau-held .0, tau2-units (F .bound) (F .sum-room) t-held tau-held .0)
+      rw (tau1-units (F .bound) (room A) t-held tau-held .0, tau2-units (F .bound) (room A) t-held tau-held .0)
       (close-conserves (prec f) (exponentOf n) n (two A) (half A) (few A) (closes A))

@@ -1,4 +1,5 @@
--- The theorems about runs at document 01's width, and at the numbers for binary32 (2,046 numbers, 2^100, 2^111, 20 rounds), a line each. Assumes nothing.
+-- The theorems about runs and about a step over any sound state, at document 01's width and at the numbers for binary32 (2,046 numbers, 2^100, 2^111, 20
+-- rounds), a line each. Assumes nothing.
 use mathlib.Core.Path.{_≡_}
 use mathlib.Core.Bool.{true}
 use mathlib.Core.List.{List, _++_, Perm}
@@ -12,7 +13,10 @@ use Rattle.kinds.specs.declared.Step.the-variants.{More, Done}
 use Rattle.kinds.specs.declared.Verdict.the-variants.{Good}
 use Rattle.judge.specs.Table.{GivenWhen}
 use Rattle.rounds.specs.Instances.{doubles-fit, singles, singles-fit}
-use Rattle.walk.specs.Walk.{opened, rising, faithfulOf}
+use Rattle.sound.specs.Sound.{gated}
+use Rattle.walk.specs.Walk.{opened, rising, stepped, faithfulOf}
+use Rattle.runs.specs.AnyState.{Floats, Stepped}
+use Rattle.runs.specs.AnyStateLaws.{any-state}
 use Rattle.runs.specs.Faithful.{FaithfulSum, faithful-promised}
 use Rattle.runs.specs.Runs.{runOf, joined, members}
 use Rattle.runs.specs.AnyRun.{any-run}
@@ -22,6 +26,13 @@ use Rattle.runs.specs.Demand3Laws.{run-goes, run-finishes, run-bounded, 
 -- an accepted list of either width
 abbrev pub Accepted : Width → List ℕ → List Float → Type 0
 Accepted W ps work = GivenWhen W (eqb (length work) (length ps)) true ps Good
+
+-- ---- a step over any sound state
+pub any-state-64 : (s : State) (b : ℕ) (xs : List Float) → Floats doubles s xs → gated doubles s b xs ≡ Good → Stepped doubles (stepped doubles s b xs)
+any-state-64 = any-state doubles-fit
+
+pub any-state-32 : (s : State) (b : ℕ) (xs : List Float) → Floats singles s xs → gated singles s b xs ≡ Good → Stepped singles (stepped singles s b xs)
+any-state-32 = any-state singles-fit
 
 -- ---- demand 2, the faithful sum
 pub faithful-64 : (ps : List ℕ) (work : List Float) → Accepted doubles ps work → FaithfulSum doubles ps (faithfulOf doubles ps work)

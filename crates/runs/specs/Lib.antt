@@ -1,5 +1,7 @@
 -- What holds of every run of the faithful walk.
 pub mod CloseUnits
+pub mod AnyState
+pub mod AnyStateLaws
 pub mod Summing
 pub mod SumRun
 pub mod OpenedSum

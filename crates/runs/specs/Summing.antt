@@ -96,8 +96,8 @@ module _ {W : Width} {F : Fitting W} {S : Whole} {e n : ℕ} {sigma t : Float} {
       (round-closes (prec f) (prec-pos f) (exponentOf n) e (σ .some) (σ .few) (A .opened) (omega (arith, few)) tau-gathers)
 
   -- ---- t', and what is zero
-  room : F .bound + 5 ≤ low (W .format) + emax (W .format)
-  room = F .sum-room
+  pub room : F .bound + 5 ≤ low (W .format) + emax (W .format)
+  room = omega (arith, F .sum-room)
 
   next-units : (whole (W .format) (carried W sigma t xs) ≡ units.tau1 (prec (W .format)) (whole (W .format) t) (whole (W .format) (tauOf W sigma xs)))
       × Held (W .format) (F .bound + 1) (carried W sigma t xs)

@@ -30,7 +30,7 @@ pub passes : {W : Width} (F : Fitting W) (s : State) (b : ℕ) (xs : List Float)
 passes {W} F s b xs fit g = passed W (F .top) (F .top-is) (λ n h. omega (arith, F .most-is n h, F .room)) s b xs fit g
 
 module _ {W : Width} (F : Fitting W) {s : State} {b : ℕ} {xs : List Float} (P : Passed W (F .top) s b xs) (fit : Each (λ x. T (fits (W .format) x)) xs) where
-  scale : Scale (W .format) (exponentOf (s .n)) (P .e) (s .sigma)
+  pub scale : Scale (W .format) (exponentOf (s .n)) (P .e) (s .sigma)
   scale = record {
     some = exponent-some (s .n);
     few = omega (arith, F .most-is (s .n) (P .few), F .half);
@@ -44,11 +44,11 @@ module _ {W : Width} (F : Fitting W) {s : State} {b : ℕ} {xs : List Float} (P 
       inside : exponentOf (s .n) + P .e < powers f
       inside = omega (arith, F .most-is (s .n) (P .few), P .low, F .room)
 
-  small : Each (Small (W .format) (2 ^ P .e)) xs
+  pub small : Each (Small (W .format) (2 ^ P .e)) xs
   small = each-both (Within W (2 ^ P .e)) (λ x. T (fits (W .format) x)) (Small (W .format) (2 ^ P .e))
       (λ x X f. record { number = record { fit = f; fini = X .fini }; within = X .small }) xs (P .work) fit
 
-  turned-small : Each (Small (W .format) (2 ^ P .e)) (turned W (s .sigma) b xs)
+  pub turned-small : Each (Small (W .format) (2 ^ P .e)) (turned W (s .sigma) b xs)
   unfolding turned
   turned-small =
       let A = Small (W .format) (2 ^ P .e) in
@@ -58,7 +58,7 @@ module _ {W : Width} (F : Fitting W) {s : State} {b : ℕ} {xs : List Float} (P 
       let after = drop (k + W .block) xs in
       each-join A (take k xs) (turn ++ after) (each-take A k xs small) (each-join A turn after block (each-drop A (k + W .block) xs small))
 
-  turned-length : length (turned W (s .sigma) b xs) ≡ length xs
+  pub turned-length : length (turned W (s .sigma) b xs) ≡ length xs
   unfolding turned
   turned-length =
       simp (length-append, remainders-length (W .format) (s .sigma), length-take, length-drop)

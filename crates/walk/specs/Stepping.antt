@@ -23,6 +23,7 @@ use Rattle.kinds.specs.declared.State.{State}
 use Rattle.kinds.specs.declared.Verdict.the-variants.{Good}
 use Rattle.extract.specs.Extract.{plusZero, remainders, gathered}
 use Rattle.extract.specs.ExtractLaws.{remainders-length}
+use Rattle.extract.specs.LargestLaws.{Positive}
 use Rattle.sound.specs.Sound.{unitsAt, soundSigma, atMost, soundNumbers, soundPending, badPlace, sound, gated}
 use Rattle.rounds.specs.Fitting.{Fitting}
 use Rattle.rounds.specs.InUnits.{Small, Scale, remainders-small}
@@ -42,24 +43,26 @@ pub record Stepping (W : Width) (F : Fitting W) (e : ℕ) (s : State) (xs : List
   pub left : 0 < s .pending
   pub inside : s .pending < 2 ^ blocksOf W (s .n)
 
-module _ {W : Width} {F : Fitting W} {e : ℕ} {s : State} {xs : List Float} (I : Stepping W F e s xs) where
-  sigma-sound : soundSigma W (s .n) (s .sigma) ≡ true
-  unfolding soundSigma
-  sigma-sound =
-      simp (
-        is-true (finite (s .sigma)) (I .scale .power .number .fini),
-        I .scale .power .sign,
-        I .scale .power .units,
-        ceil-power (exponentOf (s .n) + e),
-        eq-eqb (2 ^ (exponentOf (s .n) + e)) _ refl,
-        le-leb (2 ^ exponentOf (s .n)) (2 ^ (exponentOf (s .n) + e)) (pow-mono (omega arith)),
-        F .top-is,
-        le-leb (2 ^ (exponentOf (s .n) + e)) (2 ^ exponentOf (s .n) * 2 ^ F .top) most,
-      )
-    where
-      most : 2 ^ (exponentOf (s .n) + e) ≤ 2 ^ exponentOf (s .n) * 2 ^ F .top
-      most = rw (pow-add 2 (exponentOf (s .n)) e) (mul-le-mul-left (2 ^ exponentOf (s .n)) (pow-mono (I .low)))
+-- 2^(M + e) units are a sound sigma, where a number may be 2^e units
+pub sigma-sound : {W : Width} (F : Fitting W) (n e : ℕ) {sigma : Float} → Positive (W .format) sigma (2 ^ (exponentOf n + e)) → e ≤ F .top
+    → soundSigma W n sigma ≡ true
+unfolding soundSigma
+sigma-sound F n e {sigma} P low =
+    simp (
+      is-true (finite sigma) (P .number .fini),
+      P .sign,
+      P .units,
+      ceil-power (exponentOf n + e),
+      eq-eqb (2 ^ (exponentOf n + e)) _ refl,
+      le-leb (2 ^ exponentOf n) (2 ^ (exponentOf n + e)) (pow-mono (omega arith)),
+      F .top-is,
+      le-leb (2 ^ (exponentOf n + e)) (2 ^ exponentOf n * 2 ^ F .top) most,
+    )
+  where
+    most : 2 ^ (exponentOf n + e) ≤ 2 ^ exponentOf n * 2 ^ F .top
+    most = rw (pow-add 2 (exponentOf n) e) (mul-le-mul-left (2 ^ exponentOf n) (pow-mono low))
 
+module _ {W : Width} {F : Fitting W} {e : ℕ} {s : State} {xs : List Float} (I : Stepping W F e s xs) where
   small-sound : (x : Float) → Small (W .format) (2 ^ F .bound) x → atMost W (unitsAt W (W .carried)) x ≡ true
   unfolding atMost
   small-sound x X = simp (is-true (finite x) (X .number .fini), F .bound-is, le-leb _ _ (X .within))
@@ -71,7 +74,7 @@ module _ {W : Width} {F : Fitting W} {e : ℕ} {s : State} {xs : List Float} (I 
         le-leb _ _ (I .some),
         le-leb _ _ (I .few),
         le-leb _ _ (I .rounds),
-        sigma-sound,
+        sigma-sound F (s .n) e (I .scale .power) (I .low),
         small-sound (s .t) (I .t),
         small-sound (s .tau) (I .tau),
       )

@@ -1,0 +1,43 @@
+-- What a step leaves of any sound state, whether a call gave it out or not: numbers, a sigma in its bounds, and a sum that isn't -0. Definitions only.
+use mathlib.Core.Path.{_≡_}
+use mathlib.Core.Bool.{true, false}
+use mathlib.Core.List.{List}
+use lib.Dec.{T}
+use lib.Ieee.{Float, fits}
+use Rattle.ieee.specs.Units.{Number, magnitude, negative}
+use Rattle.lists.specs.Each.{Each}
+use Rattle.kinds.specs.Limits.{Width}
+use Rattle.kinds.specs.declared.State.{State}
+use Rattle.kinds.specs.declared.Step.{Step}
+use Rattle.kinds.specs.declared.Step.the-variants.{More, Done, Refused}
+use Rattle.sound.specs.Sound.{soundSigma}
+use Rattle.walk.specs.Walk.{Walked}
+
+-- the format holds the floats of a state and its work area, as it always holds the code's; they may be NaN or infinite
+pub record Floats (W : Width) (s : State) (xs : List Float) : Type 0 where
+  pub sigma : T (fits (W .format) (s .sigma))
+  pub t : T (fits (W .format) (s .t))
+  pub tau : T (fits (W .format) (s .tau))
+  pub work : Each (λ x. T (fits (W .format) x)) xs
+
+-- the next state: no NaN and no infinity, and "sigma is a power of two from 2^(M-1074) to 2^(1000+M)". tau may pass 2^1012
+pub record StateNumbers (W : Width) (s : State) : Type 0 where
+  pub sigma : Number (W .format) (s .sigma)
+  pub bounds : soundSigma W (s .n) (s .sigma) ≡ true
+  pub t : Number (W .format) (s .t)
+  pub tau : Number (W .format) (s .tau)
+
+-- the finished sum: no NaN, no infinity and not -0
+pub record SumNumber (W : Width) (x : Float) : Type 0 where
+  pub number : Number (W .format) x
+  pub plus : magnitude (W .format) x ≡ 0 → negative x ≡ false
+
+-- the answer, which is no refusal, and the work area
+abbrev pub Answered : Width → Step → Type 0
+Answered W (More s) = StateNumbers W s
+Answered W (Done x r) = SumNumber W x
+Answered W (Refused k p) = ⊥
+
+pub record Stepped (W : Width) (w : Walked) : Type 0 where
+  pub answer : Answered W (w .answer)
+  pub work : Each (Number (W .format)) (w .work)

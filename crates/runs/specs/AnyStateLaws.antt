@@ -1,0 +1,233 @@
+-- A step over any sound state leaves what `AnyState` says, whether a call gave the state out or not. The additions to tau need not be exact then: tau, at most
+-- 2^bound units before, is at most twice that after its block. Assumes nothing.
+use mathlib.Core.Path.{_≡_, refl, sym, ap, _∙_, subst}
+use mathlib.Core.Bool.{Bool, true, false, cond, _||_}
+use mathlib.Core.List.{List, [], _∷_, map, foldl}
+use Prim.Native.Nat.{ℕ, _+_, _-_, _*_, _^_, _≤_}
+use native.Mathlib.Omega.{arith}
+use borrow.Author.Tests.{eqb-false}
+use lib.Dec.{T, eqb}
+use lib.ListN.{length, drop, length-map, length-take, length-drop}
+use lib.Pow.{pow-add, pow-mono}
+use lib.Ieee.{Float, Format, prec, low, emax, add, le, eq, fits}
+use Rattle.units.specs.Rounding.{ceil}
+use Rattle.units.specs.Ceiling.{ceil-ge, ceil-least}
+use Rattle.units.specs.Powers.{pow-split}
+use Rattle.ieee.specs.Units.{Number, magnitude, negative, whole}
+use Rattle.ieee.specs.Sum.{whole-mag}
+use Rattle.ieee.specs.Compare.{eq-units}
+use Rattle.ieee.specs.InRange.{add-rounds}
+use Rattle.lists.specs.Each.{Each, each-map, each-weaker, each-take, each-drop}
+use Rattle.kinds.specs.Limits.{Width, exponentOf}
+use Rattle.kinds.specs.declared.State.{State}
+use Rattle.kinds.specs.declared.Step.the-variants.{More}
+use Rattle.kinds.specs.declared.Verdict.the-variants.{Good}
+use Rattle.extract.specs.Extract.{plusZero, highPart, gathered, lastSum, largest}
+use Rattle.extract.specs.ExtractLaws.{largest-le}
+use Rattle.extract.specs.LargestLaws.{Positive, zero-positive}
+use Rattle.sound.specs.Sound.{unitsAt, gated}
+use Rattle.sound.specs.PassedLaws.{Passed}
+use Rattle.sound.specs.SoundLaws as sound
+use Rattle.rounds.specs.Round.{blockOf, turned, takenState, allZero, sigmaOf, roundOf, fresh, scaled, leastNormal, finished, closed}
+use Rattle.rounds.specs.ClosedLaws.{fresh-zero, fresh-round, tau1Of, finishes, closed-zero, closed-finish, closed-further}
+use Rattle.rounds.specs.Closes.{scaled-positive, normal-above}
+use Rattle.rounds.specs.Fitting.{Fitting}
+use Rattle.rounds.specs.Begun.{Begun}
+use Rattle.rounds.specs.FreshRound.{begins}
+use Rattle.rounds.specs.InUnits.{Small, Scale, sum-plus, high-small}
+use Rattle.walk.specs.Walk.{taken, stepped}
+use Rattle.walk.specs.StepLaws.{stepped-good}
+use Rattle.walk.specs.Stepping.{sigma-sound}
+use Rattle.walk.specs.Accepted.{passes, scale, small, turned-small, turned-length}
+use Rattle.runs.specs.CloseUnits.{zero-whole, sums, last-sum, Held, held, wider, plus, tau1-units, tau2-units}
+use Rattle.runs.specs.AnyState.{Floats, StateNumbers, SumNumber, Answered, Stepped}
+
+-- ---- tau, at most 2^bound units, is at most 2^(bound + 1) after at most 2^most high parts: each sum is at most a multiple of 2^j that the format holds
+gathered-sum : (f : Format) (sigma tau : Float) (xs : List Float) → gathered f sigma tau xs ≡ foldl (add f) tau (map (highPart f sigma) xs)
+unfolding gathered
+gathered-sum f sigma tau [] = refl
+gathered-sum f sigma tau (x ∷ xs) = gathered-sum f sigma (add f tau (highPart f sigma x)) xs
+
+module _ {W : Width} (F : Fitting W) {M e : ℕ} {sigma : Float} (σ : Scale (W .format) M e sigma) (below : e ≤ F .top) where
+  gathered-held : (tau : Float) (xs : List Float) → Held (W .format) (F .bound) tau → Each (Small (W .format) (2 ^ e)) xs → length xs ≤ 2 ^ F .most
+      → Held (W .format) (F .bound + 1) (gathered (W .format) sigma tau xs)
+  gathered-held tau xs T h l =
+      let few : 2 ^ F .most + length qs ≤ 2 ^ (F .most + 1) = rw (length-map xs (highPart f sigma), pow-add 2 (F .most) 1) (omega arith) in
+      let S = sums f j (2 ^ (F .most + 1)) inside (pow-mono (omega (arith, F .half))) qs (2 ^ F .most) tau (T .number) (rw half-bound (T .within)) highs few in
+      rw (gathered-sum f sigma tau xs) (record { number = S .0; within = rw whole-bound at (S .2) })
+    where
+      f : Format
+      f = W .format
+
+      -- 2^bound units are 2^most times 2^j; a high part is at most 2^top units and so at most 2^j, and there are at most 2^most of them
+      j : ℕ
+      j = F .bound - F .most
+
+      half-bound : 2 ^ F .most * 2 ^ j ≡ 2 ^ F .bound
+      half-bound = omega (arith, pow-split {i = F .most} {j = F .bound} (omega (arith, F .tau-room)))
+
+      whole-bound : 2 ^ (F .most + 1) * 2 ^ j ≡ 2 ^ (F .bound + 1)
+      whole-bound = omega (arith, half-bound, ap (λ (x : ℕ). x * 2 ^ j) (pow-add 2 (F .most) 1), pow-add 2 (F .bound) 1)
+
+      inside : 2 ^ (F .most + 1) * 2 ^ j ≤ 2 ^ (low f + emax f)
+      inside = rw whole-bound (pow-mono (omega (arith, F .sum-room)))
+
+      qs : List Float
+      qs = map (highPart f sigma) xs
+
+      highs : Each (Small f (2 ^ j)) qs
+      highs = each-map (Small f (2 ^ e)) (Small f (2 ^ j)) (highPart f sigma)
+          (λ x X. record {
+            number = high-small σ X .number;
+            within = omega (arith, high-small σ X .within, pow-mono {i = e} {j = j} (omega (arith, F .tau-room)));
+          }) xs h
+
+-- ---- the answer of rule 3: a number, and -0 only where t' is
+module _ {f : Format} (b : ℕ) (room : b + 5 ≤ low f + emax f) {t tau : Float} (t-held : Held f b t) (tau-held : Held f b tau) (xs : List Float)
+    (T-held : Held f b (lastSum f xs)) where
+  sum-number : (magnitude f (add f t tau) ≡ 0 → negative (add f t tau) ≡ false)
+      → Number f (finished f (add f t tau) t tau xs)
+      × (magnitude f (finished f (add f t tau) t tau xs) ≡ 0 → negative (finished f (add f t tau) t tau xs) ≡ false)
+  unfolding finished
+  sum-number h =
+      let tau1 : Held f (b + 1 + 1 + 1 + 1) (add f t tau) = wider (omega arith) (tau1-units b room t-held tau-held .1) in
+      let rest = plus (b + 1 + 1 + 1) (omega arith) (tau2-units b room t-held tau-held .1) (wider (omega arith) T-held) .1 in
+      let R = add-rounds (tau1 .number) (rest .number) (b + 1 + 1 + 1 + 1 + 1) (omega arith)
+      (omega (arith, tau1 .within, rest .within, pow-add 2 (b + 1 + 1 + 1 + 1) 1)) in
+      (R .number, sum-plus (add f t tau) _ h R)
+
+-- "t' is zero" is the test for a magnitude of 0
+not-zero : (f : Format) (x : Float) → Number f x → eq x (plusZero f) ≡ false → magnitude f x ≡ 0 → ⊥
+not-zero f x X z m =
+    let none : whole f x .up + whole f (plusZero f) .dn ≡ whole f (plusZero f) .up + whole f x .dn = rw (zero-whole f) (omega (arith, whole-mag f x)) in
+    eqb-false _ _ (sym (eq-units f x (plusZero f) X (zero-positive f .number)) ∙ z) none
+
+neither : (a b : Bool) → (a || b) ≡ false → a ≡ false
+neither false b e = refl
+neither true b e = e
+
+-- ---- a state that is sound, and a block that is pending
+module _ {W : Width} (F : Fitting W) {s : State} {b : ℕ} {xs : List Float} (P : Passed W (F .top) s b xs) (h : Floats W s xs) where
+  abbrev f : Format
+  f = W .format
+
+  abbrev M : ℕ
+  M = exponentOf (s .n)
+
+  M-most : M ≤ F .most
+  M-most = F .most-is (s .n) (P .few)
+
+  σ : Scale f M (P .e) (s .sigma)
+  σ = scale F P (h .work)
+
+  abbrev ys : List Float
+  ys = turned W (s .sigma) b xs
+
+  abbrev next : State
+  next = takenState W s b xs
+
+  room : F .bound + 1 + 5 ≤ low f + emax f
+  room = omega (arith, F .sum-room)
+
+  kept : {x : Float} → T (fits f x) → sound.Within W (unitsAt W (W .carried)) x → Held f (F .bound) x
+  kept fit X = held (record { number = record { fit = fit; fini = X .fini }; within = rw (F .bound-is) at (X .small) })
+
+  t-held : Held f (F .bound + 1) (s .t)
+  t-held = wider (omega arith) (kept (h .t) (P .t))
+
+  tau-held : Held f (F .bound + 1) (gathered f (s .sigma) (s .tau) (blockOf W b xs))
+  tau-held = gathered-held F σ (P .low) (s .tau) (blockOf W b xs) (kept (h .tau) (P .tau)) block fewer
+    where
+      block : Each (Small f (2 ^ P .e)) (blockOf W b xs)
+      block = each-take (Small f (2 ^ P .e)) (W .block) (drop (W .block * b) xs) (each-drop (Small f (2 ^ P .e)) (W .block * b) xs (small F P (h .work)))
+
+      fewer : length (blockOf W b xs) ≤ 2 ^ F .most
+      fewer = simp (length-take, length-drop) (omega (arith, P .long, ceil-ge (s .n + 2), pow-mono M-most))
+
+  T-held : Held f (F .bound + 1) (lastSum f ys)
+  T-held =
+      let S = last-sum f (P .e) (2 ^ M) (rw (← (pow-add 2 M (P .e))) (pow-mono (omega (arith, σ .room)))) (pow-mono (omega (arith, σ .few))) ys
+      (turned-small F P (h .work)) (omega (arith, turned-length F P (h .work), P .long, ceil-ge (s .n + 2))) in
+      let l : 2 ^ (M + P .e) ≤ 2 ^ (F .bound + 1) = pow-mono (omega (arith, M-most, P .low, F .tau-room)) in
+      record { number = S .0; within = omega (arith, S .2, pow-add 2 M (P .e), l) }
+
+  carried-held : Held f (F .bound + 1 + 1) (tau1Of W next)
+  carried-held = tau1-units (F .bound + 1) room t-held tau-held .1
+
+  -- ---- the next state
+  opens : (e : ℕ) {sigma t : Float} (rounds : ℕ) → Positive f sigma (2 ^ (M + e)) → e ≤ F .top → Number f t
+      → StateNumbers W (roundOf W (s .n) sigma t rounds)
+  unfolding roundOf
+  opens e rounds S l N = record { sigma = S .number; bounds = sigma-sound F (s .n) e S l; t = N; tau = zero-positive f .number }
+
+  -- rules 1 and 2
+  afresh : (rounds : ℕ) → Answered W (fresh W (plusZero f) (s .n) ys rounds)
+  afresh rounds = by (allZero f ys) refl
+    where
+      e : ℕ
+      e = ceil (largest f ys)
+
+      least : e ≤ F .top
+      least =
+          let l = ceil-least {j = P .e} (largest-le f (2 ^ P .e) ys (each-weaker _ _ (λ y Y. Y .within) ys (turned-small F P (h .work)))) in
+          omega (arith, l, P .low)
+
+      -- sigma is that of a run's first round over this area
+      first : Begun W F e (s .n) (sigmaOf f (s .n) ys) (plusZero f) 0 ys
+      first = begins (2 ^ P .e) (P .some) (P .few) (turned-length F P (h .work) ∙ P .long) (turned-small F P (h .work)) (omega (arith, least))
+
+      by : (a : Bool) → allZero f ys ≡ a → Answered W (fresh W (plusZero f) (s .n) ys rounds)
+      by true a = subst (Answered W) (sym (fresh-zero W (plusZero f) (s .n) ys rounds a))
+          (record { number = zero-positive f .number; plus = λ z. zero-positive f .sign })
+      by false a = subst (Answered W) (sym (fresh-round W (plusZero f) (s .n) ys rounds a))
+          (opens e rounds (first .scale .power) least (zero-positive f .number))
+
+  -- rule 4: sigma is above 2^-1022, so that 2^M eps times it is at least 2^M units
+  further : finishes W next ≡ false → StateNumbers W (roundOf W (s .n) (scaled f M (s .sigma)) (tau1Of W next) (s .rounds + 1))
+  further r = opens (M + P .e - prec f) (s .rounds + 1) lowered (omega (arith, σ .few, P .low)) (carried-held .number)
+    where
+      normal : prec f ≤ M + P .e
+      normal = normal-above f (M + P .e) (σ .power) (neither (le (s .sigma) (leastNormal f)) _ r)
+
+      lowered : Positive f (scaled f M (s .sigma)) (2 ^ (M + (M + P .e - prec f)))
+      lowered = scaled-positive f M (M + P .e) (M + (M + P .e - prec f)) (F .fine) (σ .power) (omega (arith, normal)) (omega (arith, σ .few))
+          (omega (arith, σ .room, σ .few))
+
+  -- rule 3
+  ends : eq (tau1Of W next) (plusZero f) ≡ false → SumNumber W (finished f (tau1Of W next) (s .t) (next .tau) ys)
+  ends z =
+      let S = sum-number (F .bound + 1) room t-held tau-held ys T-held (λ m. absurd (not-zero f (tau1Of W next) (carried-held .number) z m)) in
+      record { number = S .0; plus = S .1 }
+
+  closes : Answered W (closed W next ys)
+  closes = by (eq (tau1Of W next) (plusZero f)) refl
+    where
+      by : (z : Bool) → eq (tau1Of W next) (plusZero f) ≡ z → Answered W (closed W next ys)
+      by true z = subst (Answered W) (sym (closed-zero W next ys z)) (afresh (s .rounds + 1))
+      by false z = rule (finishes W next) refl
+        where
+          rule : (r : Bool) → finishes W next ≡ r → Answered W (closed W next ys)
+          rule true r = subst (Answered W) (sym (closed-finish W next ys z r)) (ends z)
+          rule false r = subst (Answered W) (sym (closed-further W next ys z r)) (further r)
+
+  goes-on : StateNumbers W next
+  goes-on = record {
+    sigma = σ .power .number;
+    bounds = sigma-sound F (s .n) (P .e) (σ .power) (P .low);
+    t = t-held .number;
+    tau = tau-held .number;
+  }
+
+  passed : Stepped W (taken W s b xs)
+  unfolding taken
+  passed = record {
+    answer = by (eqb (next .pending) 0);
+    work = each-weaker (Small f (2 ^ P .e)) (Number f) (λ y Y. Y .number) ys (turned-small F P (h .work));
+  }
+    where
+      by : (z : Bool) → Answered W (cond z (closed W next ys) (More next))
+      by true = closes
+      by false = goes-on
+
+pub any-state : {W : Width} (F : Fitting W) (s : State) (b : ℕ) (xs : List Float) → Floats W s xs → gated W s b xs ≡ Good → Stepped W (stepped W s b xs)
+any-state {W} F s b xs h g = subst (Stepped W) (stepped-good W s b xs (gated W s b xs) g) (passed F (passes F s b xs (h .sigma) g) h)
