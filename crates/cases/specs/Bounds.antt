@@ -5,7 +5,7 @@ use mathlib.Core.List.{List, [], _∷_, _++_}
 use Prim.Native.Nat.{ℕ, _+_, _^_}
 use lib.ListN.{replicate}
 use Rattle.kinds.specs.Heard.{nowhere, at, refused, more, done, parts}
-use Rattle.cases.specs.Calls.{Given, Row, held, opening, step, sumInParts}
+use Rattle.cases.specs.Calls.{Given, Row, held, opening, step, faithfulSum, sumInParts}
 
 -- a state with t = tau = +0; one with a given t
 abbrev opened : ℕ → ℕ → ℕ → Given
@@ -58,6 +58,21 @@ bounds =
       expected = record { heard = more 0x7E90000000000000 0 0 2 1 0; area = 0x7E70000000000000 ∷ 0xFE70000000000000 ∷ [] };
     }
     ∷ record { call = opening (0 ∷ 0xFE70000000000001 ∷ []); expected = record { heard = refused 3 (at 1); area = held ∷ held ∷ [] } }
+    -- "or the magnitude of t' is at least 2^(2M+1) eps sigma": t' is 2^-46 at sigma = 4 and M = 2, and that is enough
+    ∷ record {
+      call = faithfulSum (0x3FF0000000000000 ∷ 0xBFEFFFFFFFFFFF80 ∷ []);
+      expected = record { heard = done 0x3D10000000000000 1; area = 0 ∷ 0 ∷ [] };
+    }
+    -- "if sigma is at most 2^-1022": it is, and t' is one unit
+    ∷ record {
+      call = faithfulSum (0x0004000000000000 ∷ 0x8003FFFFFFFFFFFF ∷ []);
+      expected = record { heard = done 1 1; area = 0 ∷ 0 ∷ [] };
+    }
+    -- "T is the work area added up from +0 in rising order": 2^-53 takes in neither of two 2^-106, which together it would
+    ∷ record {
+      call = faithfulSum (0x3FF0000000000000 ∷ 0x3CA0000000000000 ∷ 0x3950000000000000 ∷ 0x3950000000000000 ∷ []);
+      expected = record { heard = done 0x3FF0000000000000 1; area = 0 ∷ 0x3CA0000000000000 ∷ 0x3950000000000000 ∷ 0x3950000000000000 ∷ [] };
+    }
     -- "Parts: 1 to 8"
     ∷ record { call = sumInParts [] 8; expected = record { heard = parts true; area = replicate 8 0 } }
     ∷ record { call = sumInParts [] 9; expected = record { heard = refused 5 nowhere; area = replicate 9 0 } }

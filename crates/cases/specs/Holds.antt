@@ -120,7 +120,7 @@ computed = refl
 
 computed-bounds : every bounds ≡ true
 unfolding
-    every bounds judged firstFault faultOf W.openedAfter W.steppedAfter W.taken R.turned R.roundOf R.fresh R.scaled R.finished R.closed
+    every bounds judged firstFault faultOf W.openedAfter W.steppedAfter W.taken W.rising W.roundsFrom R.turned R.roundOf R.fresh R.scaled R.finished R.closed
     N.soundSigma N.atMost N.soundNumbers N.soundPending N.badPlace N.sound N.gated remainders gathered lastSum largest powerOf ceil
     S.partsAfter S.parts signed residue nearestFloat value
     ofBits toBits add sub mul le eq

@@ -27,7 +27,7 @@ pub fn fault(p: u64) -> u32
 }
 
 // Whether no pattern has a fault. Either fault is a pattern above the limit's, the sign taken off: a NaN's and an infinity's are above every number's. The loop
-// isn't left early, so that several patterns can be looked at in one step.
+// isn't left early, so that several patterns can be looked at at once.
 fn faultless(list: &[u64]) -> bool
     ensures { λ r. ⌜ r ≡ faultless doubles (now (list .entry)) ⌝ }
 {

@@ -26,7 +26,7 @@ pub fn begin(n: usize, sigma: f64, t: f64, rounds: u32) -> State
 
 // "e the least whole number with mu at most 2^e, sigma = 2^(M+e)"
 pub fn sigma(n: usize, mu: f64) -> f64
-    requires { ⌜ (n ≤ doubles .length) × (negative mu ≡ false) × Small (doubles .format) (unitsAt doubles (doubles .magnitude)) mu ⌝ }
+    requires { ⌜ (n ≤ doubles .length) × Small (doubles .format) (unitsAt doubles (doubles .magnitude)) mu × (negative mu ≡ false) ⌝ }
     ensures { λ r. ⌜ r ≡ powerOf (doubles .format) (exponentOf n + ceil (magnitude (doubles .format) mu)) ⌝ }
 {
     exponent::power(Doubles::of(n).exponent() + exponent::ceiling(mu))

@@ -24,8 +24,8 @@ pub fn limit(s: State) -> f64
     exponent::power(exponent::ceiling(s.sigma) - Doubles::of(s.n).exponent())
 }
 
-// Whether every work number is within the limit: finite and of magnitude at most it. The loop isn't left early, so that several numbers can be looked at in one
-// step.
+// Whether every work number is within the limit: finite and of magnitude at most it. The loop isn't left early, so that several numbers can be looked at at
+// once.
 fn within(work: &[f64], limit: f64) -> bool
     requires { ⌜ T (finite limit) × (negative limit ≡ false) ⌝ }
     ensures { λ r. ⌜ r ≡ eqb (firstAbove doubles (magnitude binary64 limit) (now (work .entry))) (length (now (work .entry))) ⌝ }

@@ -36,7 +36,7 @@ returns c =
 sigma-requires : tie.Need-sigma-requires
 sigma-requires c κs =
     let s = c .before .before .before in
-    (s .pre .1, mu (c .before) .sign, mu-small binary64 (s .args .work .now) (mu (c .before)) (s .pre .2))
+    (s .pre .1, mu-small binary64 (s .args .work .now) (mu (c .before)) (s .pre .2), mu (c .before) .sign)
 
 begin-requires : tie.Need-begin-requires
 begin-requires c κs =

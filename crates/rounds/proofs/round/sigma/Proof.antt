@@ -24,7 +24,7 @@ exists : (c : tie.After-ceiling) → c .before .exponent .result + c .ceiling .r
 exists c =
     let a = c .before .before .before in
     rw (c .before .exponent .ensures, c .ceiling .ensures)
-    (sigma-exists doubles-fit (c .before .before .of .result .n) (magnitude binary64 (a .args .mu)) (search needs) (a .pre .2 .within))
+    (sigma-exists doubles-fit (c .before .before .of .result .n) (magnitude binary64 (a .args .mu)) (search needs) (a .pre .1 .within))
 
 add-power : tie.Need-add-power
 add-power c = omega (arith, exists c)
