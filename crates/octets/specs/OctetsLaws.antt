@@ -1,4 +1,5 @@
--- Numbers in bytes: one byte more, the bound, and that bytes and number determine each other, most significant byte first and least. Assumes nothing.
+-- Numbers in bytes: one byte more, bytes cut in two, the bound, and that bytes and number determine each other, most significant byte first and least.
+-- Assumes nothing.
 use mathlib.Core.Path.{_≡_, sym, ap, _∙_}
 use mathlib.Core.List.{List, [], _∷_, _++_, append-assoc, append-nil, reverse, reverseAux, reverse-append, reverse-reverse}
 use Prim.Native.Nat.{ℕ, suc, _+_, _*_, _/_, _%_, _^_, _≤_, _<_}
@@ -7,9 +8,9 @@ use native.Mathlib.Numerals.{add-one}
 use native.Mathlib.Omega.{arith}
 use lib.Pow.{pow-pos, pow-mono}
 use lib.ListN.{length, getD, take, drop, set, take-append-drop, length-append, length-drop, length-reverse}
-use lib.Seq.{take-suc, drop-cons, getD-drop, length-take-le}
+use lib.Seq.{take-suc, take-add, drop-cons, drop-drop, getD-drop, length-take-le}
 use Rattle.lists.specs.Digits.{number, digits, Digits}
-use Rattle.lists.specs.DigitLaws.{weight-next, number-nil, number-cons, digits-number, number-digits}
+use Rattle.lists.specs.DigitLaws.{weight-next, number-nil, number-cons, number-append, digits-number, number-digits}
 use Rattle.lists.specs.DigitLaws.{digits-head, digits-tail, digits-more, digits-length, digits-none, digits-last}
 use Rattle.lists.specs.Front.{store-front}
 use Rattle.octets.specs.Octets.{littleEndian, bigEndian, little, big, bytesAt}
@@ -26,12 +27,30 @@ big-next bs at i h =
     let k : i < length (drop at bs) = rw (length-drop at bs) (omega arith) in
     rw (add-one, take-suc (drop at bs) i 0 k, big-more (take i (drop at bs)) (getD (drop at bs) i 0), getD-drop at bs i 0)
 
--- ---- one byte less significant
-pub little-none : (bs : List ℕ) (at : ℕ) → little (bytesAt bs at 0) ≡ 0
-little-none bs at = number-nil 8
-
+-- ---- least significant byte first: a byte and i after it, four bytes, i bytes and j after them
 pub little-next : (bs : List ℕ) (at i : ℕ) → at < length bs → little (bytesAt bs at (i + 1)) ≡ little (bytesAt bs (at + 1) i) * 256 + getD bs at 0
 little-next bs at i h = rw (add-one, add-one, drop-cons bs at 0 h, number-cons 8 (getD bs at 0) (take i (drop (suc at) bs))) (omega arith)
+
+pub little-four : (bs : List ℕ) (at : ℕ) → at + 4 ≤ length bs
+    → little (bytesAt bs at 4) ≡ getD bs at 0 + getD bs (at + 1) 0 * 256 + getD bs (at + 2) 0 * 65536 + getD bs (at + 3) 0 * 16777216
+little-four bs at h =
+    let b : at + 1 + 1 ≡ at + 2 = omega arith in
+    let c : at + 2 + 1 ≡ at + 3 = omega arith in
+    rw (
+      little-next bs at 3 (omega arith),
+      little-next bs (at + 1) 2 (omega arith),
+      b,
+      little-next bs (at + 2) 1 (omega arith),
+      c,
+      little-next bs (at + 3) 0 (omega arith),
+      number-nil 8,
+    ) (omega arith)
+
+pub little-cut : (bs : List ℕ) (at i j : ℕ) → at + i ≤ length bs
+    → little (bytesAt bs at (i + j)) ≡ little (bytesAt bs at i) + little (bytesAt bs (at + i) j) * 2 ^ (8 * i)
+little-cut bs at i j h =
+    let l : length (bytesAt bs at i) ≡ i = length-take-le i (drop at bs) (rw (length-drop at bs) (omega arith)) in
+    rw (take-add i j (drop at bs), number-append 8 (bytesAt bs at i) (take j (drop i (drop at bs))), drop-drop i at bs, l)
 
 -- the first i bytes of a number, and the one after them
 pub little-last : (i v : ℕ) → littleEndian (i + 1) v ≡ littleEndian i v ++ (v / 2 ^ (8 * i) % 256 ∷ [])
