@@ -1,8 +1,8 @@
 // A block that the gate let pass.
+use blocks::round;
+use closes::close;
 use kinds::State;
 use kinds::Step;
-use rounds::close;
-use rounds::round;
 ghost use mathlib.Core.Path.{_≡_};
 ghost use Rattle.kinds.specs.Limits.{doubles};
 ghost use Rattle.kinds.specs.declared.Verdict.the-variants.{Good};
@@ -17,7 +17,7 @@ pub fn accepted(s: State, work: &mut [f64], block: usize) -> Step
     let next = round::take(s, work, block);
     let pending = next.pending;
     if pending == 0 {
-        return close::close(next, work);
+        return close(next, work);
     }
     Step::More(next)
 }

@@ -26,7 +26,7 @@ pub fn open(list: &[u64], work: &mut [f64]) -> Step
 pub fn step(s: State, work: &mut [f64], block: usize) -> Step
     ensures { λ r. ⌜ walked r (now (work .exit)) ≡ stepped doubles s block (now (work .entry)) ⌝ }
 {
-    match sound::gate(s, work, block) {
+    match gate::gate(s, work, block) {
         Verdict::Refused(k, place) => Step::Refused(k, place),
         Verdict::Good => accepted::accepted(s, work, block),
     }

@@ -1,6 +1,6 @@
 // How a walk opens.
+use blocks::fresh::fresh;
 use kinds::Step;
-use rounds::fresh::fresh;
 ghost use mathlib.Core.Path.{_≡_};
 ghost use Prim.Native.Nat.{_≤_};
 ghost use lib.IntN.{pos};

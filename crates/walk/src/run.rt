@@ -1,8 +1,8 @@
 // The undivided run: rounds with their blocks in rising order, over a core that doesn't look at soundness again.
+use blocks::round;
+use closes::close;
 use kinds::State;
 use kinds::Step;
-use rounds::close;
-use rounds::round;
 ghost use mathlib.Core.Path.{_≡_};
 ghost use Prim.Native.Nat.{suc, _-_};
 ghost use Rattle.kinds.specs.Limits.{doubles, blocksOf};
@@ -22,7 +22,7 @@ pub fn run(first: State, work: &mut [f64]) -> Step
     let mut s = first;
     loop {
         let taken = round::take_all(s, work);
-        let answer = close::close(taken, work);
+        let answer = close(taken, work);
         match answer {
             Step::More(next) => {
                 s = next;
