@@ -8,7 +8,6 @@ use report::areas;
 use report::text;
 use samples::generator::INFINITY;
 use samples::generator::SIGN;
-use trial_walks::walks;
 
 const CASES: u64 = 33;
 
@@ -124,7 +123,7 @@ fn length(area: &mut [f64]) {
     states::several(
         states::of(area.len(), SIGMA, 0, 0, 1, 0),
         area,
-        walks::RISING,
+        orders::RISING,
         0,
     );
 }

@@ -8,7 +8,6 @@ use report::text;
 use samples::generator;
 use samples::generator::ONE;
 use samples::generator::SIGN;
-use trial_walks::walks;
 
 // How many of each there are.
 const SEEDED: u64 = 120;
@@ -136,7 +135,7 @@ pub fn several(start: State, area: &mut [f64], order: u64, r: u64) {
             break;
         }
         turn = generator::following(turn);
-        at = walks::onward(at, area, order, turn);
+        at = orders::onward(at, area, order, turn);
         answers::told(at);
         steps += 1;
     }
@@ -151,7 +150,7 @@ fn seeded(area: &mut [f64], k: u64) {
     if n <= area.len() {
         let largest = exponent(r);
         fill(&mut area[0..n], power(largest), r);
-        several(sound(size, largest, r), &mut area[0..n], walks::STRAY, r);
+        several(sound(size, largest, r), &mut area[0..n], orders::STRAY, r);
     }
 }
 
@@ -196,7 +195,7 @@ fn witnessed(area: &mut [f64], k: u64) {
         let part = &mut area[0..n];
         areas::fill(part, areas::double(c.1));
         areas::put(part, c.2, areas::double(c.3));
-        several(witness(n, k), part, walks::RISING, 0);
+        several(witness(n, k), part, orders::RISING, 0);
     }
 }
 

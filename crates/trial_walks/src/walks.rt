@@ -1,5 +1,8 @@
 // The faithful sum of each list: its opening, the undivided call, and block by block in three orders.
 use kinds::Step;
+use orders::FALLING;
+use orders::RISING;
+use orders::SEEDED;
 use report::answers;
 use report::areas;
 use report::areas::HELD;
@@ -10,62 +13,8 @@ use samples::lists;
 
 const CASES: u64 = lists::CASES + ladders::CASES;
 
-// The orders of blocks: the lowest pending one first, the highest first, by turns of the generator, and by turns with blocks that are not pending or not
-// there.
-pub const RISING: u64 = 0;
-
-const FALLING: u64 = 1;
-
-const SEEDED: u64 = 2;
-
-pub const STRAY: u64 = 3;
-
 // More steps than any walk has: 51 rounds of 64 blocks.
 const STEPS: u64 = 3264;
-
-fn lowest(pending: u64) -> usize {
-    (u64::trailing_zeros(pending) % 128) as usize
-}
-
-fn highest(pending: u64) -> usize {
-    std::num::wrapping_sub_u32(63, u64::leading_zeros(pending)) as usize
-}
-
-// The first at or above the turn's place; where none is, the lowest or the highest.
-fn seeded(pending: u64, turn: u64) -> usize {
-    let start = (turn % 64) as u32;
-    let above = (pending >> start) << start;
-    if above != 0 {
-        return lowest(above);
-    }
-    if (turn >> 32) % 2 == 1 {
-        lowest(pending)
-    } else {
-        highest(pending)
-    }
-}
-
-fn choice(order: u64, pending: u64, turn: u64) -> usize {
-    if order == RISING {
-        return lowest(pending);
-    }
-    if order == FALLING {
-        return highest(pending);
-    }
-    if (order == STRAY) & ((turn >> 40) % 8 == 0) {
-        return (turn % 5) as usize;
-    }
-    seeded(pending, turn)
-}
-
-// The next step of a walk that goes on; nothing of one that has ended.
-pub fn onward(at: Step, work: &mut [f64], order: u64, turn: u64) -> Step {
-    match at {
-        Step::More(s) => walk::step(s, work, choice(order, s.pending, turn)),
-        Step::Done(x, rounds) => Step::Done(x, rounds),
-        Step::Refused(number, place) => Step::Refused(number, place),
-    }
-}
 
 // The walk block by block to its end.
 fn run(list: &[u64], work: &mut [f64], order: u64, r: u64) -> Step {
@@ -77,7 +26,7 @@ fn run(list: &[u64], work: &mut [f64], order: u64, r: u64) -> Step {
             break;
         }
         turn = generator::following(turn);
-        at = onward(at, work, order, turn);
+        at = orders::onward(at, work, order, turn);
         steps += 1;
     }
     text::named(b" steps ", steps);
