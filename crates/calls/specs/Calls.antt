@@ -6,20 +6,18 @@ use lib.Dec.{ltb, eqb}
 use lib.Ieee.{Float, ofBits}
 use lib.ListN.{length, replicate}
 use Rattle.kinds.specs.Limits.{doubles}
+use Rattle.kinds.specs.Outcome.{Outcome, outcome}
 use Rattle.kinds.specs.Heard.{Place, nowhere, at, Heard, refused, more, done, nearest, parts, accepted, count}
 use Rattle.kinds.specs.Heard.{stepHeard, nearestHeard, entryHeard}
 use Rattle.octets.specs.Octets.{packed, unpacked}
+use Rattle.words.specs.Words.{wordCount}
 use Rattle.walk.specs.Walk.{faithfulOf}
 use Rattle.sums.specs.Sums.{nearestOf}
-use Rattle.register.specs.Register.{Entered, added, withdrawn}
+use Rattle.register.specs.Register.{Changed, added, withdrawn}
 
 -- what is returned, and the lent bytes afterwards
-pub record Called : Type 0 where
-  pub code : ℕ
-  pub bytes : List ℕ
-
-abbrev pub called : ℕ → List ℕ → Called
-called c bs = record { code = c; bytes = bs }
+abbrev pub Called : Type 0
+Called = Outcome ℕ ℕ
 
 -- ---- "The call returns 0, or the refusal number plus 32·(place + 1) where a place is told and plus 0 where none is."
 abbrev pub placeCode : Place → ℕ
@@ -29,18 +27,28 @@ placeCode (at p) = 32 * (p + 1)
 -- What is heard, as a call returns and leaves it, with the lent bytes before and the words of a register afterwards: "An accepted sum writes 16 bytes: the
 -- pattern, then the rounds (0 for nearest); an accepted register call changes only the register's 264 bytes." The last three are heard of no call here.
 unfoldable pub answered : Heard → List ℕ → List ℕ → Called
-answered (refused k p) before words = called (k + placeCode p) before
-answered (done x rounds) before words = called 0 (packed (x ∷ rounds ∷ []))
-answered (nearest x) before words = called 0 (packed (x ∷ 0 ∷ []))
-answered accepted before words = called 0 (packed words)
-answered (more sigma t tau n pending rounds) before words = called 0 before
-answered (parts b) before words = called 0 before
-answered (count n) before words = called 0 before
+answered (refused k p) before words = outcome (k + placeCode p) before
+answered (done x rounds) before words = outcome 0 (packed (x ∷ rounds ∷ []))
+answered (nearest x) before words = outcome 0 (packed (x ∷ 0 ∷ []))
+answered accepted before words = outcome 0 (packed words)
+answered (more sigma t tau n pending rounds) before words = outcome 0 before
+answered (parts b) before words = outcome 0 before
+answered (count n) before words = outcome 0 before
+
+-- ---- the bytes of the longest list, of a sum and of a register
+abbrev pub listBytes : ℕ
+listBytes = 8 * doubles .length
+
+abbrev pub sumBytes : ℕ
+sumBytes = 16
+
+abbrev pub registerBytes : ℕ
+registerBytes = 8 * wordCount
 
 -- ---- the sums
 -- "A list above 32,752 bytes is refusal 1; other lengths that aren't a multiple of 8, and wrong lengths of the 16 or 264 bytes, are refusal 4." 0 is no fault.
 abbrev pub lengthFault : ℕ → ℕ → ℕ
-lengthFault list out = cond (ltb 32752 list) 1 (cond (not (eqb (list % 8) 0)) 4 (cond (not (eqb out 16)) 4 0))
+lengthFault list out = cond (ltb listBytes list) 1 (cond (not (eqb (list % 8) 0)) 4 (cond (not (eqb out sumBytes)) 4 0))
 
 -- the patterns that a list's bytes are, and a sum of them by whatever is heard
 abbrev pub patternsIn : List ℕ → List ℕ
@@ -52,7 +60,7 @@ summed heardOf list out = answered (heardOf (patternsIn list)) out []
 unfoldable pub sumCall : (List ℕ → Heard) → List ℕ → List ℕ → Called
 sumCall heardOf list out =
     let fault = lengthFault (length list) (length out) in
-    cond (eqb fault 0) (summed heardOf list out) (called fault out)
+    cond (eqb fault 0) (summed heardOf list out) (outcome fault out)
 
 -- "The exported faithful sum is lent no work area and keeps its own."
 abbrev pub own : ℕ → List Float
@@ -70,14 +78,17 @@ sumHeard ps = nearestHeard (nearestOf ps)
 abbrev pub nearestCall : List ℕ → List ℕ → Called
 nearestCall list out = sumCall sumHeard list out
 
--- ---- the register, with what a call enters in its words
-abbrev pub registered : (List ℕ → Entered) → List ℕ → Called
-registered enteredIn register =
-    let e = enteredIn (unpacked 33 register) in
-    answered (entryHeard (e .answer)) register (e .words)
+-- ---- the register: the words that its bytes are, with what a call enters in them
+abbrev pub wordsIn : List ℕ → List ℕ
+wordsIn register = unpacked wordCount register
 
-unfoldable pub registerCall : (List ℕ → Entered) → List ℕ → Called
-registerCall enteredIn register = cond (eqb (length register) 264) (registered enteredIn register) (called 4 register)
+abbrev pub registered : (List ℕ → Changed) → List ℕ → Called
+registered enteredIn register =
+    let e = enteredIn (wordsIn register) in
+    answered (entryHeard (e .answer)) register (e .area)
+
+unfoldable pub registerCall : (List ℕ → Changed) → List ℕ → Called
+registerCall enteredIn register = cond (eqb (length register) registerBytes) (registered enteredIn register) (outcome 4 register)
 
 abbrev pub addCall : List ℕ → ℕ → Called
 addCall register p = registerCall (λ (ws : List ℕ). added ws p) register

@@ -10,28 +10,29 @@ use lib.Ieee.{Float, ofBits}
 use lib.ListN.{length, take, replicate, length-replicate}
 use lib.Seq.{length-take-le}
 use Rattle.kinds.specs.Limits.{doubles}
-use Rattle.kinds.specs.Heard.{Heard, refused, done, nearest, accepted, tells, placeOf, stepHeard}
+use Rattle.kinds.specs.Outcome.{outcome}
+use Rattle.kinds.specs.Heard.{Refusal, Heard, refused, done, nearest, accepted, tells, placeOf, stepHeard}
+use Rattle.register.specs.Register.{Changed}
 use Rattle.octets.specs.Octets.{little, packed, unpacked}
 use Rattle.octets.specs.EightsLaws.{eights-length}
 use Rattle.walk.specs.Walk.{faithfulOf}
-use Rattle.register.specs.Register.{Entered}
-use Rattle.calls.specs.Calls.{called, placeCode, answered, lengthFault, summed, sumCall, own, faithfulHeard, sumHeard}
+use Rattle.calls.specs.Calls.{placeCode, answered, lengthFault, summed, sumCall, own, faithfulHeard, sumHeard, listBytes, sumBytes, registerBytes}
 use Rattle.calls.specs.Calls.{registered, registerCall}
-use Rattle.calls.specs.Inner.{Told, Listed}
+use Rattle.calls.specs.Inner.{Listed}
 
 -- ---- the lengths
 module _ (list out : ℕ) where
-  pub fault-1 : 32752 < list → lengthFault list out ≡ 1
-  fault-1 h = rw (lt-ltb 32752 list h)
+  pub fault-1 : listBytes < list → lengthFault list out ≡ 1
+  fault-1 h = rw (lt-ltb listBytes list h)
 
-  pub fault-list : list ≤ 32752 → (list % 8 ≡ 0 → ⊥) → lengthFault list out ≡ 4
-  fault-list h m = rw (le-ltb 32752 list h, ne-eqb (list % 8) 0 m)
+  pub fault-list : list ≤ listBytes → (list % 8 ≡ 0 → ⊥) → lengthFault list out ≡ 4
+  fault-list h m = rw (le-ltb listBytes list h, ne-eqb (list % 8) 0 m)
 
-  pub fault-out : list ≤ 32752 → list % 8 ≡ 0 → (out ≡ 16 → ⊥) → lengthFault list out ≡ 4
-  fault-out h m o = rw (le-ltb 32752 list h, eq-eqb (list % 8) 0 m, ne-eqb out 16 o)
+  pub fault-out : list ≤ listBytes → list % 8 ≡ 0 → (out ≡ sumBytes → ⊥) → lengthFault list out ≡ 4
+  fault-out h m o = rw (le-ltb listBytes list h, eq-eqb (list % 8) 0 m, ne-eqb out sumBytes o)
 
-  pub fault-0 : list ≤ 32752 → list % 8 ≡ 0 → out ≡ 16 → lengthFault list out ≡ 0
-  fault-0 h m o = rw (le-ltb 32752 list h, eq-eqb (list % 8) 0 m, eq-eqb out 16 o)
+  pub fault-0 : list ≤ listBytes → list % 8 ≡ 0 → out ≡ sumBytes → lengthFault list out ≡ 0
+  fault-0 h m o = rw (le-ltb listBytes list h, eq-eqb (list % 8) 0 m, eq-eqb out sumBytes o)
 
 module _ (list out : ℕ) (e : lengthFault list out ≡ 0) where
   passed : (a b c : Bool) → _≡_ {A = ℕ} (cond a 1 (cond (not b) 4 (cond (not c) 4 0))) 0 → (a ≡ false) × (b ≡ true) × (c ≡ true)
@@ -40,21 +41,21 @@ module _ (list out : ℕ) (e : lengthFault list out ≡ 0) where
   passed false true false e = absurd (omega arith)
   passed false false c e = absurd (omega arith)
 
-  tests : (ltb 32752 list ≡ false) × (eqb (list % 8) 0 ≡ true) × (eqb out 16 ≡ true)
-  tests = passed (ltb 32752 list) (eqb (list % 8) 0) (eqb out 16) e
+  tests : (ltb listBytes list ≡ false) × (eqb (list % 8) 0 ≡ true) × (eqb out sumBytes ≡ true)
+  tests = passed (ltb listBytes list) (eqb (list % 8) 0) (eqb out sumBytes) e
 
-  pub fitting : Listed 4094 list
+  pub fitting : Listed (doubles .length) list
   fitting =
       let m : list % 8 ≡ 0 = eqb→eq (list % 8) 0 (rw (tests .1) tt) in
-      let l : list ≤ 32752 = nltb→le 32752 list (rw (tests .0) tt) in
+      let l : list ≤ listBytes = nltb→le listBytes list (rw (tests .0) tt) in
       record { whole = omega arith; few = omega arith }
 
-  pub sixteen : out ≡ 16
-  sixteen = eqb→eq out 16 (rw (tests .2) tt)
+  pub sixteen : out ≡ sumBytes
+  sixteen = eqb→eq out sumBytes (rw (tests .2) tt)
 
 -- ---- the calls
 module _ (heardOf : List ℕ → Heard) (list out : List ℕ) where
-  pub sum-refused : (lengthFault (length list) (length out) ≡ 0 → ⊥) → sumCall heardOf list out ≡ called (lengthFault (length list) (length out)) out
+  pub sum-refused : (lengthFault (length list) (length out) ≡ 0 → ⊥) → sumCall heardOf list out ≡ outcome (lengthFault (length list) (length out)) out
   unfolding sumCall
   sum-refused h = rw (ne-eqb (lengthFault (length list) (length out)) 0 h)
 
@@ -62,30 +63,30 @@ module _ (heardOf : List ℕ → Heard) (list out : List ℕ) where
   unfolding sumCall
   sum-summed h = rw (eq-eqb (lengthFault (length list) (length out)) 0 h)
 
-module _ (enteredIn : List ℕ → Entered) (register : List ℕ) where
-  pub register-refused : (length register ≡ 264 → ⊥) → registerCall enteredIn register ≡ called 4 register
+module _ (enteredIn : List ℕ → Changed) (register : List ℕ) where
+  pub register-refused : (length register ≡ registerBytes → ⊥) → registerCall enteredIn register ≡ outcome 4 register
   unfolding registerCall
-  register-refused h = rw (ne-eqb (length register) 264 h)
+  register-refused h = rw (ne-eqb (length register) registerBytes h)
 
-  pub register-registered : length register ≡ 264 → registerCall enteredIn register ≡ registered enteredIn register
+  pub register-registered : length register ≡ registerBytes → registerCall enteredIn register ≡ registered enteredIn register
   unfolding registerCall
-  register-registered h = rw (eq-eqb (length register) 264 h)
+  register-registered h = rw (eq-eqb (length register) registerBytes h)
 
 -- ---- what is heard
 module _ (before words : List ℕ) where
-  pub answered-refused : (k i : ℕ) → answered (refused k (placeOf k i)) before words ≡ called (k + placeCode (placeOf k i)) before
+  pub answered-refused : (k i : ℕ) → answered (refused k (placeOf k i)) before words ≡ outcome (k + placeCode (placeOf k i)) before
   unfolding answered
   answered-refused k i = refl
 
-  pub answered-done : (x rounds : ℕ) → answered (done x rounds) before words ≡ called 0 (packed (x ∷ rounds ∷ []))
+  pub answered-done : (x rounds : ℕ) → answered (done x rounds) before words ≡ outcome 0 (packed (x ∷ rounds ∷ []))
   unfolding answered
   answered-done x rounds = refl
 
-  pub answered-nearest : (x : ℕ) → answered (nearest x) before words ≡ called 0 (packed (x ∷ 0 ∷ []))
+  pub answered-nearest : (x : ℕ) → answered (nearest x) before words ≡ outcome 0 (packed (x ∷ 0 ∷ []))
   unfolding answered
   answered-nearest x = refl
 
-  pub answered-accepted : answered accepted before words ≡ called 0 (packed words)
+  pub answered-accepted : answered accepted before words ≡ outcome 0 (packed words)
   unfolding answered
   answered-accepted = refl
 
@@ -112,7 +113,7 @@ own-front (suc n) zero h = absurd (omega arith)
 own-front (suc n) (suc k) h = ap (λ (xs : List Float). ofBits (doubles .format) 0 ∷ xs) (own-front n k (omega arith))
 
 -- ---- the code of a refusal
-module _ {k i : ℕ} (R : Told k i) where
+module _ {k i : ℕ} (R : Refusal (doubles .length) k i) where
   pub code-told : tells k ≡ true → placeCode (placeOf k i) ≡ 32 * (i + 1)
   code-told t = ap placeCode (R .as-told) ∙ rw t
 

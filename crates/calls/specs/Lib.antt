@@ -2,5 +2,5 @@
 pub mod Calls
 pub mod Inner
 pub mod CallsLaws
-pub mod ToldLaws
+pub mod RefusalLaws
 pub mod CodeLaws

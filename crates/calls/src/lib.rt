@@ -6,17 +6,17 @@ ghost use mathlib.Core.Path.{_≡_};
 ghost use mathlib.Core.List.{[], _∷_};
 ghost use Prim.Native.Nat.{_+_};
 ghost use lib.ListN.{length};
-ghost use Rattle.kinds.specs.Heard.{placeOf};
+ghost use Rattle.kinds.specs.Heard.{Refusal, placeOf};
+ghost use Rattle.kinds.specs.Limits.{doubles};
 ghost use Rattle.octets.specs.Octets.{packed};
-ghost use Rattle.calls.specs.Calls.{placeCode, lengthFault};
-ghost use Rattle.calls.specs.Inner.{Told};
+ghost use Rattle.calls.specs.Calls.{placeCode, sumBytes, lengthFault};
 
 // The bytes of a sum: "16 bytes: the pattern, then the rounds"
-pub const SUM: usize = 16;
+pub const SUM: usize = 2 * SIZE;
 
 // "the refusal number plus 32·(place + 1) where a place is told and plus 0 where none is"
 pub fn refusal(number: u32, place: u32) -> u32
-    requires { ⌜ Told number place ⌝ }
+    requires { ⌜ Refusal (doubles .length) number place ⌝ }
     ensures { λ r. ⌜ r ≡ number + placeCode (placeOf number place) ⌝ }
 {
     if tells(number) {
@@ -43,7 +43,7 @@ pub fn lengths(list: &[u8], out: &[u8]) -> u32
 
 // An accepted sum to its 16 bytes.
 pub fn answer(pattern: u64, rounds: u64, out: &mut [u8])
-    requires { ⌜ length (now out) ≡ 16 ⌝ }
+    requires { ⌜ length (now out) ≡ sumBytes ⌝ }
     ensures { λ _. ⌜ now (out .exit) ≡ packed (pattern ∷ rounds ∷ []) ⌝ }
 {
     let pair = [pattern, rounds];

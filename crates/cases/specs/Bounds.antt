@@ -4,6 +4,7 @@ use mathlib.Core.Bool.{true}
 use mathlib.Core.List.{List, [], _∷_, _++_}
 use Prim.Native.Nat.{ℕ, _+_, _^_}
 use lib.ListN.{replicate}
+use Rattle.kinds.specs.Outcome.{outcome}
 use Rattle.kinds.specs.Heard.{nowhere, at, refused, more, done, parts}
 use Rattle.cases.specs.Calls.{Given, Row, held, opening, step, faithfulSum, sumInParts}
 
@@ -19,61 +20,61 @@ bounds =
     -- "rounds closed 0 to 50": the 51st round may close and go on, and its state is not sound
     record {
       call = step (opened 1 1 50) (0x3C30000000000000 ∷ []) 0;
-      expected = record { heard = more 0x3C50000000000000 0 0 1 1 51; area = 0x3C30000000000000 ∷ [] };
+      expected = outcome (more 0x3C50000000000000 0 0 1 1 51) (0x3C30000000000000 ∷ []);
     }
-    ∷ record { call = step (opened 1 1 51) (0x3C30000000000000 ∷ []) 0; expected = record { heard = refused 8 nowhere; area = 0x3C30000000000000 ∷ [] } }
+    ∷ record { call = step (opened 1 1 51) (0x3C30000000000000 ∷ []) 0; expected = outcome (refused 8 nowhere) (0x3C30000000000000 ∷ []) }
     -- "t and tau are finite, of magnitude at most 2^1012"
     ∷ record {
       call = step (carrying 0x7F30000000000000) (0x3FF0000000000000 ∷ []) 0;
-      expected = record { heard = done 0x7F30000000000000 1; area = 0 ∷ [] };
+      expected = outcome (done 0x7F30000000000000 1) (0 ∷ []);
     }
     ∷ record {
       call = step (carrying 0x7F30000000000001) (0x3FF0000000000000 ∷ []) 0;
-      expected = record { heard = refused 8 nowhere; area = 0x3FF0000000000000 ∷ [] };
+      expected = outcome (refused 8 nowhere) (0x3FF0000000000000 ∷ []);
     }
     -- "n is 1 to 4,094": the last of 64 blocks; and one number more, in an area of that length
     ∷ record {
       call = step (opened 4094 (2 ^ 63 + 1) 0) (replicate 4094 0) 63;
-      expected = record { heard = more 0x4070000000000000 0 0 4094 1 0; area = replicate 4094 0 };
+      expected = outcome (more 0x4070000000000000 0 0 4094 1 0) (replicate 4094 0);
     }
-    ∷ record { call = step (opened 4095 1 0) (replicate 4095 0) 0; expected = record { heard = refused 8 nowhere; area = replicate 4095 0 } }
+    ∷ record { call = step (opened 4095 1 0) (replicate 4095 0) 0; expected = outcome (refused 8 nowhere) (replicate 4095 0) }
     -- "Blocks hold 64 numbers": block 0 of 65 leaves the last place
     ∷ record {
       call = step (opened 65 3 0) (replicate 65 0x3FF0000000000000) 0;
-      expected = record { heard = more 0x4070000000000000 0 0x4050000000000000 65 2 0; area = replicate 64 0 ++ (0x3FF0000000000000 ∷ []) };
+      expected = outcome (more 0x4070000000000000 0 0x4050000000000000 65 2 0) (replicate 64 0 ++ (0x3FF0000000000000 ∷ []));
     }
     -- "block number at or above B"; "block already taken in this round"; and an area of another length
     ∷ record {
       call = step (opened 65 2 0) (replicate 65 0x3FF0000000000000) 2;
-      expected = record { heard = refused 6 nowhere; area = replicate 65 0x3FF0000000000000 };
+      expected = outcome (refused 6 nowhere) (replicate 65 0x3FF0000000000000);
     }
     ∷ record {
       call = step (opened 65 2 0) (replicate 65 0x3FF0000000000000) 0;
-      expected = record { heard = refused 7 nowhere; area = replicate 65 0x3FF0000000000000 };
+      expected = outcome (refused 7 nowhere) (replicate 65 0x3FF0000000000000);
     }
-    ∷ record { call = step (opened 65 2 0) (replicate 64 0) 0; expected = record { heard = refused 4 nowhere; area = replicate 64 0 } }
+    ∷ record { call = step (opened 65 2 0) (replicate 64 0) 0; expected = outcome (refused 4 nowhere) (replicate 64 0) }
     -- "magnitude at most 2^1000 (pattern 7E70000000000000 and its negative are allowed)": sigma is 2^1002
     ∷ record {
       call = opening (0x7E70000000000000 ∷ 0xFE70000000000000 ∷ []);
-      expected = record { heard = more 0x7E90000000000000 0 0 2 1 0; area = 0x7E70000000000000 ∷ 0xFE70000000000000 ∷ [] };
+      expected = outcome (more 0x7E90000000000000 0 0 2 1 0) (0x7E70000000000000 ∷ 0xFE70000000000000 ∷ []);
     }
-    ∷ record { call = opening (0 ∷ 0xFE70000000000001 ∷ []); expected = record { heard = refused 3 (at 1); area = held ∷ held ∷ [] } }
+    ∷ record { call = opening (0 ∷ 0xFE70000000000001 ∷ []); expected = outcome (refused 3 (at 1)) (held ∷ held ∷ []) }
     -- "or the magnitude of t' is at least 2^(2M+1) eps sigma": t' is 2^-46 at sigma = 4 and M = 2, and that is enough
     ∷ record {
       call = faithfulSum (0x3FF0000000000000 ∷ 0xBFEFFFFFFFFFFF80 ∷ []);
-      expected = record { heard = done 0x3D10000000000000 1; area = 0 ∷ 0 ∷ [] };
+      expected = outcome (done 0x3D10000000000000 1) (0 ∷ 0 ∷ []);
     }
     -- "if sigma is at most 2^-1022": it is, and t' is one unit
     ∷ record {
       call = faithfulSum (0x0004000000000000 ∷ 0x8003FFFFFFFFFFFF ∷ []);
-      expected = record { heard = done 1 1; area = 0 ∷ 0 ∷ [] };
+      expected = outcome (done 1 1) (0 ∷ 0 ∷ []);
     }
     -- "T is the work area added up from +0 in rising order": 2^-53 takes in neither of two 2^-106, which together it would
     ∷ record {
       call = faithfulSum (0x3FF0000000000000 ∷ 0x3CA0000000000000 ∷ 0x3950000000000000 ∷ 0x3950000000000000 ∷ []);
-      expected = record { heard = done 0x3FF0000000000000 1; area = 0 ∷ 0x3CA0000000000000 ∷ 0x3950000000000000 ∷ 0x3950000000000000 ∷ [] };
+      expected = outcome (done 0x3FF0000000000000 1) (0 ∷ 0x3CA0000000000000 ∷ 0x3950000000000000 ∷ 0x3950000000000000 ∷ []);
     }
     -- "Parts: 1 to 8"
-    ∷ record { call = sumInParts [] 8; expected = record { heard = parts true; area = replicate 8 0 } }
-    ∷ record { call = sumInParts [] 9; expected = record { heard = refused 5 nowhere; area = replicate 9 0 } }
+    ∷ record { call = sumInParts [] 8; expected = outcome (parts true) (replicate 8 0) }
+    ∷ record { call = sumInParts [] 9; expected = outcome (refused 5 nowhere) (replicate 9 0) }
     ∷ []

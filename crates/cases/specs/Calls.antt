@@ -1,10 +1,11 @@
--- A call of the library on given input, and what is told of it: what its caller hears, and its lent area afterwards. Definitions only.
+-- A call of the library on given input, and what comes of it: what its caller hears, and its lent area afterwards. Definitions only.
 -- The meanings are those that the public contracts cite.
 use mathlib.Core.List.{List, [], map}
 use Prim.Native.Nat.{ℕ}
 use lib.ListN.{length, replicate}
 use lib.Ieee.{binary64, ofBits, toBits}
 use Rattle.kinds.specs.Limits.{doubles}
+use Rattle.kinds.specs.Outcome.{Outcome, outcome}
 use Rattle.kinds.specs.Heard.{Heard, stepHeard, nearestHeard, partedHeard, entryHeard}
 use Rattle.register.specs.Register.{added, withdrawn, rounded}
 use Rattle.kinds.specs.States.{stateOf}
@@ -38,28 +39,28 @@ pub data Call : Type 0 where
   withdraw : List ℕ → ℕ → Call
   round : List ℕ → Call
 
-pub record Told : Type 0 where
-  pub heard : Heard
-  pub area : List ℕ
+-- what its caller hears, beside the patterns or words of the lent area afterwards
+abbrev pub Result : Type 0
+Result = Outcome Heard ℕ
 
-abbrev walkTold : Walked → Told
-walkTold w = record { heard = stepHeard (w .answer); area = map (toBits binary64) (w .work) }
+abbrev walkResult : Walked → Result
+walkResult w = outcome (stepHeard (w .answer)) (map (toBits binary64) (w .area))
 
-unfoldable pub told : Call → Told
-told (faithfulSum ps) = walkTold (faithfulOf doubles ps (replicate (length ps) (ofBits binary64 held)))
-told (opening ps) = walkTold (opened doubles ps (replicate (length ps) (ofBits binary64 held)))
-told (step s ps b) =
+unfoldable pub resultOf : Call → Result
+resultOf (faithfulSum ps) = walkResult (faithfulOf doubles ps (replicate (length ps) (ofBits binary64 held)))
+resultOf (opening ps) = walkResult (opened doubles ps (replicate (length ps) (ofBits binary64 held)))
+resultOf (step s ps b) =
     let given = stateOf (s .n) (ofBits binary64 (s .sigma)) (ofBits binary64 (s .t)) (ofBits binary64 (s .tau)) (s .pending) (s .rounds) in
-    walkTold (stepped doubles given b (map (ofBits binary64) ps))
-told (nearestSum ps) = record { heard = nearestHeard (nearestOf ps); area = [] }
-told (sumInParts ps k) =
+    walkResult (stepped doubles given b (map (ofBits binary64) ps))
+resultOf (nearestSum ps) = outcome (nearestHeard (nearestOf ps)) []
+resultOf (sumInParts ps k) =
     let s = partsOf ps (replicate k (ofBits binary64 0)) in
-    record { heard = partedHeard (s .answer); area = map (toBits binary64) (s .area) }
-told (add ws p) = record { heard = entryHeard (added ws p .answer); area = added ws p .words }
-told (withdraw ws p) = record { heard = entryHeard (withdrawn ws p .answer); area = withdrawn ws p .words }
-told (round ws) = record { heard = nearestHeard (rounded ws); area = [] }
+    outcome (partedHeard (s .answer)) (map (toBits binary64) (s .area))
+resultOf (add ws p) = outcome (entryHeard (added ws p .answer)) (added ws p .area)
+resultOf (withdraw ws p) = outcome (entryHeard (withdrawn ws p .answer)) (withdrawn ws p .area)
+resultOf (round ws) = outcome (nearestHeard (rounded ws)) []
 
 -- one row of the table
 pub record Row : Type 0 where
   pub call : Call
-  pub expected : Told
+  pub expected : Result

@@ -19,8 +19,9 @@ use Rattle.sound.specs.Sound as N
 use Rattle.rounds.specs.Round as R
 use Rattle.walk.specs.Walk as W
 use Rattle.sums.specs.Sums as S
+use Rattle.kinds.specs.Outcome.{outcome}
 use Rattle.kinds.specs.Heard.{nowhere, at, Heard, refused, more, done, nearest, parts, accepted, count}
-use Rattle.cases.specs.Calls.{Told, Row, told}
+use Rattle.cases.specs.Calls.{Result, Row, resultOf}
 use Rattle.cases.specs.Table.{table}
 use Rattle.cases.specs.Bounds.{bounds}
 
@@ -69,8 +70,8 @@ same (x ∷ xs) [] = false
 same (x ∷ xs) (y ∷ ys) = eqb x y && same xs ys
 
 passes : Row → Bool
-unfolding same code told
-passes r = same (code (told (r .call) .heard)) (code (r .expected .heard)) && same (told (r .call) .area) (r .expected .area)
+unfolding same code resultOf
+passes r = same (code (resultOf (r .call) .answer)) (code (r .expected .answer)) && same (resultOf (r .call) .area) (r .expected .area)
 
 every : List Row → Bool
 unfolding passes
@@ -85,26 +86,26 @@ same-lists [] (y ∷ ys) t = absurd t
 same-lists (x ∷ xs) [] t = absurd t
 same-lists (x ∷ xs) (y ∷ ys) t = λ i. eqb→eq x y (and-l (eqb x y) (same xs ys) t) i ∷ same-lists xs ys (and-r (eqb x y) (same xs ys) t) i
 
-row-holds : (r : Row) → T (passes r) → told (r .call) ≡ r .expected
+row-holds : (r : Row) → T (passes r) → resultOf (r .call) ≡ r .expected
 unfolding passes
-row-holds r t = λ i. record { heard = heard i; area = area i }
+row-holds r t = λ i. outcome (heard i) (area i)
   where
-    a : Told
-    a = told (r .call)
+    a : Result
+    a = resultOf (r .call)
 
-    b : Told
+    b : Result
     b = r .expected
 
-    codes : code (a .heard) ≡ code (b .heard)
-    codes = same-lists (code (a .heard)) (code (b .heard)) (and-l (same (code (a .heard)) (code (b .heard))) (same (a .area) (b .area)) t)
+    codes : code (a .answer) ≡ code (b .answer)
+    codes = same-lists (code (a .answer)) (code (b .answer)) (and-l (same (code (a .answer)) (code (b .answer))) (same (a .area) (b .area)) t)
 
-    heard : a .heard ≡ b .heard
-    heard = sym (decoded (a .heard)) ∙ ap decode codes ∙ decoded (b .heard)
+    heard : a .answer ≡ b .answer
+    heard = sym (decoded (a .answer)) ∙ ap decode codes ∙ decoded (b .answer)
 
     area : a .area ≡ b .area
-    area = same-lists (a .area) (b .area) (and-r (same (code (a .heard)) (code (b .heard))) (same (a .area) (b .area)) t)
+    area = same-lists (a .area) (b .area) (and-r (same (code (a .answer)) (code (b .answer))) (same (a .area) (b .area)) t)
 
-rows-hold : (rs : List Row) → T (every rs) → (k : ℕ) (d : Row) → k < length rs → told (getD rs k d .call) ≡ getD rs k d .expected
+rows-hold : (rs : List Row) → T (every rs) → (k : ℕ) (d : Row) → k < length rs → resultOf (getD rs k d .call) ≡ getD rs k d .expected
 unfolding every
 rows-hold [] t k d h = absurd (omega arith)
 rows-hold (r ∷ rs) t zero d h = row-holds r (and-l (passes r) (every rs) t)
@@ -126,8 +127,8 @@ unfolding
     ofBits toBits add sub mul le eq
 computed-bounds = refl
 
-pub table-holds : (k : ℕ) (d : Row) → k < length table → told (getD table k d .call) ≡ getD table k d .expected
+pub table-holds : (k : ℕ) (d : Row) → k < length table → resultOf (getD table k d .call) ≡ getD table k d .expected
 table-holds k d h = rows-hold table (rw computed tt) k d h
 
-pub bounds-hold : (k : ℕ) (d : Row) → k < length bounds → told (getD bounds k d .call) ≡ getD bounds k d .expected
+pub bounds-hold : (k : ℕ) (d : Row) → k < length bounds → resultOf (getD bounds k d .call) ≡ getD bounds k d .expected
 bounds-hold k d h = rows-hold bounds (rw computed-bounds tt) k d h

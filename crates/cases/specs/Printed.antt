@@ -13,6 +13,7 @@ use Rattle.units.specs.Rounding.{ceil}
 use Rattle.lists.specs.Digits.{number}
 use Rattle.ieee.specs.Units.{value, magnitude, nearestFloat}
 use Rattle.kinds.specs.Limits.{doubles}
+use Rattle.kinds.specs.Outcome.{outcome}
 use Rattle.kinds.specs.Heard.{pattern}
 use Rattle.kinds.specs.declared.Step.the-variants.{Done}
 use Rattle.kinds.specs.declared.Nearest.the-variants.{Sum}
@@ -28,7 +29,7 @@ use Rattle.walk.specs.Walk as W
 use Rattle.sums.specs.Sums as S
 use Rattle.sums.specs.AnswerLaws.{nearest-good}
 use Rattle.octets.specs.Octets.{eights}
-use Rattle.sheet.specs.Sheet.{Reading, reading, readOf}
+use Rattle.sheet.specs.Sheet.{Reading, readOf}
 use Rattle.sheet.specs.SheetLaws.{read-all}
 use Rattle.sheet.specs.Instances.{three}
 use Rattle.sheet.specs.Instances as sheets
@@ -50,14 +51,14 @@ allowed = refl
 good : (xs : List Float) → length xs ≡ 3 → judged doubles (eqb (length xs) 3) true three ≡ Good
 good xs h = ap (λ (b : Bool). judged doubles b true three) (eq-eqb (length xs) 3 h) ∙ allowed
 
-run : (xs : List Float) → W.roundsFrom doubles 1 51 (W.openedAfter doubles Good three xs) ≡ W.walked (Done one 2) zeros
+run : (xs : List Float) → W.roundsFrom doubles 1 51 (W.openedAfter doubles Good three xs) ≡ outcome (Done one 2) zeros
 unfolding
     W.openedAfter W.steppedAfter W.taken W.rising W.roundsFrom R.turned R.roundOf R.fresh R.scaled R.finished R.closed
     N.soundSigma N.atMost N.soundNumbers N.soundPending N.badPlace N.sound N.gated remainders gathered lastSum largest powerOf ceil
     nearestFloat value ofBits toBits add sub mul le eq
 run xs = refl
 
-walked-three : (xs : List Float) → length xs ≡ 3 → W.faithfulOf doubles three xs ≡ W.walked (Done one 2) zeros
+walked-three : (xs : List Float) → length xs ≡ 3 → W.faithfulOf doubles three xs ≡ outcome (Done one 2) zeros
 walked-three xs h = ap (λ (v : Verdict). W.roundsFrom doubles 1 51 (W.openedAfter doubles v three xs)) (good xs h) ∙ run xs
 
 -- ---- the two sums, and their lines
@@ -77,7 +78,7 @@ three-printed xs h =
 
 -- ---- "For the sheet .. it prints all of"
 module _ (numbers : List ℕ) (work : List Float) (text : List ℕ) (h : 3 ≤ length numbers) (k : 3 ≤ length work) where
-  read-three : readOf doubles sheets.printed numbers ≡ reading (Read 3) (three ++ drop 3 numbers)
+  read-three : readOf doubles sheets.printed numbers ≡ outcome (Read 3) (three ++ drop 3 numbers)
   unfolding eights number
   read-three = read-all doubles sheets.printed numbers (omega arith) refl (omega arith) refl h
 
@@ -88,4 +89,4 @@ module _ (numbers : List ℕ) (work : List Float) (text : List ℕ) (h : 3 ≤ l
       let l = three-printed (take 3 work) (length-take-le 3 work k) in
       let w = walked-three (take 3 work) (length-take-le 3 work k) in
       ap (λ (r : Reading). linesAfter (r .answer) (r .area) work text) read-three
-      ∙ (λ i. printed (length (l i)) (three ++ drop 3 numbers) (w i .work ++ drop 3 work) (l i ++ drop (length (l i)) text))
+      ∙ (λ i. printed (length (l i)) (three ++ drop 3 numbers) (w i .area ++ drop 3 work) (l i ++ drop (length (l i)) text))

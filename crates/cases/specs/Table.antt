@@ -4,6 +4,7 @@ use mathlib.Core.Bool.{true}
 use mathlib.Core.List.{List, [], _∷_, _++_}
 use Prim.Native.Nat.{ℕ, _-_, _^_}
 use lib.ListN.{replicate}
+use Rattle.kinds.specs.Outcome.{outcome}
 use Rattle.kinds.specs.Heard.{nowhere, at, refused, done, nearest, parts, accepted}
 use Rattle.cases.specs.Calls.{Row, held, faithfulSum, nearestSum, sumInParts, add, withdraw, round}
 
@@ -28,48 +29,48 @@ justNot = replicate 31 (2 ^ 64 - 1) ++ ((2 ^ 64 - 2 ^ 60 - 1) ∷ (2 ^ 50 - 1) �
 unfoldable pub table : List Row
 table =
     -- 1
-    record { call = faithfulSum []; expected = record { heard = done 0 0; area = [] } }
+    record { call = faithfulSum []; expected = outcome (done 0 0) [] }
     -- 2
-    ∷ record { call = faithfulSum (0x3FF0000000000000 ∷ []); expected = record { heard = done 0x3FF0000000000000 1; area = 0 ∷ [] } }
+    ∷ record { call = faithfulSum (0x3FF0000000000000 ∷ []); expected = outcome (done 0x3FF0000000000000 1) (0 ∷ []) }
     -- 3
     ∷ record {
       call = faithfulSum (0x8000000000000000 ∷ 0x8000000000000000 ∷ []);
-      expected = record { heard = done 0 0; area = 0x8000000000000000 ∷ 0x8000000000000000 ∷ [] };
+      expected = outcome (done 0 0) (0x8000000000000000 ∷ 0x8000000000000000 ∷ []);
     }
     -- 4
-    ∷ record { call = faithfulSum (0x3FF0000000000000 ∷ 0xBFF0000000000000 ∷ []); expected = record { heard = done 0 1; area = 0 ∷ 0 ∷ [] } }
+    ∷ record { call = faithfulSum (0x3FF0000000000000 ∷ 0xBFF0000000000000 ∷ []); expected = outcome (done 0 1) (0 ∷ 0 ∷ []) }
     -- 5, "faithful and nearest 1; two parts 1 and 2^-53, exact"; the faithful sum's rounds are the walk's
     ∷ record {
       call = faithfulSum (0x3FF0000000000000 ∷ 0x3CA0000000000000 ∷ []);
-      expected = record { heard = done 0x3FF0000000000000 1; area = 0 ∷ 0x3CA0000000000000 ∷ [] };
+      expected = outcome (done 0x3FF0000000000000 1) (0 ∷ 0x3CA0000000000000 ∷ []);
     }
-    ∷ record { call = nearestSum (0x3FF0000000000000 ∷ 0x3CA0000000000000 ∷ []); expected = record { heard = nearest 0x3FF0000000000000; area = [] } }
+    ∷ record { call = nearestSum (0x3FF0000000000000 ∷ 0x3CA0000000000000 ∷ []); expected = outcome (nearest 0x3FF0000000000000) [] }
     ∷ record {
       call = sumInParts (0x3FF0000000000000 ∷ 0x3CA0000000000000 ∷ []) 2;
-      expected = record { heard = parts true; area = 0x3FF0000000000000 ∷ 0x3CA0000000000000 ∷ [] };
+      expected = outcome (parts true) (0x3FF0000000000000 ∷ 0x3CA0000000000000 ∷ []);
     }
     -- 6, "faithful 1, nearest 3FF0000000000001"; the faithful sum's rounds are the walk's
     ∷ record {
       call = faithfulSum (0x3FF0000000000000 ∷ 0x3CA0000000000000 ∷ 1 ∷ []);
-      expected = record { heard = done 0x3FF0000000000000 1; area = 0 ∷ 0x3CA0000000000000 ∷ 1 ∷ [] };
+      expected = outcome (done 0x3FF0000000000000 1) (0 ∷ 0x3CA0000000000000 ∷ 1 ∷ []);
     }
-    ∷ record { call = nearestSum (0x3FF0000000000000 ∷ 0x3CA0000000000000 ∷ 1 ∷ []); expected = record { heard = nearest 0x3FF0000000000001; area = [] } }
+    ∷ record { call = nearestSum (0x3FF0000000000000 ∷ 0x3CA0000000000000 ∷ 1 ∷ []); expected = outcome (nearest 0x3FF0000000000001) [] }
     -- 7
     ∷ record {
       call = faithfulSum (0x4630000000000000 ∷ 0x3FF0000000000000 ∷ 0xC630000000000000 ∷ []);
-      expected = record { heard = done 0x3FF0000000000000 2; area = 0 ∷ 0 ∷ 0 ∷ [] };
+      expected = outcome (done 0x3FF0000000000000 2) (0 ∷ 0 ∷ 0 ∷ []);
     }
     -- 8
-    ∷ record { call = faithfulSum (1 ∷ 1 ∷ []); expected = record { heard = done 2 1; area = 0 ∷ 0 ∷ [] } }
+    ∷ record { call = faithfulSum (1 ∷ 1 ∷ []); expected = outcome (done 2 1) (0 ∷ 0 ∷ []) }
     -- 9, "refusal 3, place 0"
-    ∷ record { call = faithfulSum (0x7E70000000000001 ∷ []); expected = record { heard = refused 3 (at 0); area = held ∷ [] } }
-    ∷ record { call = nearestSum (0x7E70000000000001 ∷ []); expected = record { heard = refused 3 (at 0); area = [] } }
+    ∷ record { call = faithfulSum (0x7E70000000000001 ∷ []); expected = outcome (refused 3 (at 0)) (held ∷ []) }
+    ∷ record { call = nearestSum (0x7E70000000000001 ∷ []); expected = outcome (refused 3 (at 0)) [] }
     -- 10
-    ∷ record { call = withdraw zeros 0x3FF0000000000000; expected = record { heard = accepted; area = lessOne } }
-    ∷ record { call = add lessOne 0x3FF0000000000000; expected = record { heard = accepted; area = zeros } }
+    ∷ record { call = withdraw zeros 0x3FF0000000000000; expected = outcome accepted lessOne }
+    ∷ record { call = add lessOne 0x3FF0000000000000; expected = outcome accepted zeros }
     -- 11
-    ∷ record { call = add largest 1; expected = record { heard = refused 9 nowhere; area = largest } }
+    ∷ record { call = add largest 1; expected = outcome (refused 9 nowhere) largest }
     -- 12
-    ∷ record { call = round tooLarge; expected = record { heard = refused 10 nowhere; area = [] } }
-    ∷ record { call = round justNot; expected = record { heard = nearest 0x7FEFFFFFFFFFFFFF; area = [] } }
+    ∷ record { call = round tooLarge; expected = outcome (refused 10 nowhere) [] }
+    ∷ record { call = round justNot; expected = outcome (nearest 0x7FEFFFFFFFFFFFFF) [] }
     ∷ []

@@ -9,21 +9,23 @@ use lib.IntN.{_+ℤ_, _-ℤ_}
 use lib.Ieee.{Float}
 use Rattle.lists.specs.Apart.{apart}
 use Rattle.kinds.specs.Limits.{doubles}
+use Rattle.kinds.specs.Outcome.{Outcome, outcome}
 use Rattle.kinds.specs.declared.State.{State}
 use Rattle.kinds.specs.declared.Verdict.{Verdict}
 use Rattle.kinds.specs.declared.Verdict.the-variants as verdicts
 use Rattle.kinds.specs.declared.Nearest.the-variants as nearests
+use Rattle.kinds.specs.declared.Parted.{Parted}
 use Rattle.kinds.specs.declared.Parted.the-variants as parteds
 use Rattle.kinds.specs.declared.Entry.the-variants as entries
 use Rattle.kinds.specs.declared.Step.the-variants as steps
 use Rattle.judge.specs.Judge.{judged}
-use Rattle.judge.specs.Table.{GivenWhen}
+use Rattle.judge.specs.Table.{ListWhen}
 use Rattle.words.specs.Words.{wholeOf}
-use Rattle.finite.specs.Finite.{unitsOf}
+use Rattle.addend.specs.Addend.{unitsOf}
 use Rattle.register.specs.Register.{added, withdrawn, rounded}
 use Rattle.register.specs.Entries.{EntryWhen}
 use Rattle.register.specs.RegisterLaws.{entry-when, entry-leaves}
-use Rattle.sums.specs.Sums.{Split, split, nearestOf, fitting, partsOf, partsAfter}
+use Rattle.sums.specs.Sums.{nearestOf, fitting, partsOf, partsAfter}
 use Rattle.sums.specs.Promised.{nearest-refusals, parts-refusals}
 use Rattle.rounds.specs.Instances.{doubles-fit}
 use Rattle.walk.specs.Walk.{opened, stepped, faithfulOf}
@@ -33,25 +35,25 @@ use Rattle.demands.specs.WalkRefusals as walks
 
 -- ---- sums::nearest is lent no area
 
-pub nearest-refused : (ps : List ℕ) (k i : ℕ) → (nearestOf ps ≡ nearests.Refused k i) ↔ GivenWhen doubles true true ps (verdicts.Refused k i)
+pub nearest-refused : (ps : List ℕ) (k i : ℕ) → (nearestOf ps ≡ nearests.Refused k i) ↔ ListWhen doubles true true ps (verdicts.Refused k i)
 nearest-refused = nearest-refusals
 
 -- ---- sums::parts
 
 module _ (ps : List ℕ) (area : List Float) (k i : ℕ) where
-  whole : (v : Verdict) → partsAfter v ps area .answer ≡ parteds.Refused k i → partsAfter v ps area ≡ split (parteds.Refused k i) area
+  whole : (v : Verdict) → partsAfter v ps area .answer ≡ parteds.Refused k i → partsAfter v ps area ≡ outcome (parteds.Refused k i) area
   unfolding partsAfter
   whole verdicts.Good e = apart (cc)
   whole (verdicts.Refused l j) e = rw e
 
-  pub parts-refused : (partsOf ps area .answer ≡ parteds.Refused k i) ↔ GivenWhen doubles true (fitting area) ps (verdicts.Refused k i)
+  pub parts-refused : (partsOf ps area .answer ≡ parteds.Refused k i) ↔ ListWhen doubles true (fitting area) ps (verdicts.Refused k i)
   parts-refused = (
     λ e. parts-refusals ps area k i .0 (whole (judged doubles true (fitting area) ps) e),
-    λ G. ap (λ (w : Split). w .answer) (parts-refusals ps area k i .1 G),
+    λ G. ap (λ (w : Outcome Parted Float). w .answer) (parts-refusals ps area k i .1 G),
   )
 
   pub parts-leaves : partsOf ps area .answer ≡ parteds.Refused k i → partsOf ps area .area ≡ area
-  parts-leaves e = ap (λ (w : Split). w .area) (whole (judged doubles true (fitting area) ps) e)
+  parts-leaves e = ap (λ (w : Outcome Parted Float). w .area) (whole (judged doubles true (fitting area) ps) e)
 
 -- ---- register::add, register::withdraw
 
@@ -59,13 +61,13 @@ module _ (ws : List ℕ) (p k i : ℕ) where
   pub add-refused : (added ws p .answer ≡ entries.Refused k i) ↔ EntryWhen ws p (wholeOf ws +ℤ unitsOf p) (entries.Refused k i)
   add-refused = entry-when ws p (wholeOf ws +ℤ unitsOf p) (entries.Refused k i)
 
-  pub add-leaves : added ws p .answer ≡ entries.Refused k i → added ws p .words ≡ ws
+  pub add-leaves : added ws p .answer ≡ entries.Refused k i → added ws p .area ≡ ws
   add-leaves = entry-leaves ws p (wholeOf ws +ℤ unitsOf p)
 
   pub withdraw-refused : (withdrawn ws p .answer ≡ entries.Refused k i) ↔ EntryWhen ws p (wholeOf ws -ℤ unitsOf p) (entries.Refused k i)
   withdraw-refused = entry-when ws p (wholeOf ws -ℤ unitsOf p) (entries.Refused k i)
 
-  pub withdraw-leaves : withdrawn ws p .answer ≡ entries.Refused k i → withdrawn ws p .words ≡ ws
+  pub withdraw-leaves : withdrawn ws p .answer ≡ entries.Refused k i → withdrawn ws p .area ≡ ws
   withdraw-leaves = entry-leaves ws p (wholeOf ws -ℤ unitsOf p)
 
 -- ---- register::round writes to no area
@@ -79,13 +81,13 @@ module _ (ps : List ℕ) (work : List Float) (k i : ℕ) where
   pub open-refused : (opened doubles ps work .answer ≡ steps.Refused k i) ↔ WalkWhen doubles ps work (verdicts.Refused k i)
   open-refused = walks.open-refused doubles ps work k i
 
-  pub open-leaves : opened doubles ps work .answer ≡ steps.Refused k i → opened doubles ps work .work ≡ work
+  pub open-leaves : opened doubles ps work .answer ≡ steps.Refused k i → opened doubles ps work .area ≡ work
   open-leaves = walks.open-leaves doubles ps work k i
 
   pub faithful-refused : (faithfulOf doubles ps work .answer ≡ steps.Refused k i) ↔ WalkWhen doubles ps work (verdicts.Refused k i)
   faithful-refused = walks.faithful-refused doubles ps work doubles-fit k i
 
-  pub faithful-leaves : faithfulOf doubles ps work .answer ≡ steps.Refused k i → faithfulOf doubles ps work .work ≡ work
+  pub faithful-leaves : faithfulOf doubles ps work .answer ≡ steps.Refused k i → faithfulOf doubles ps work .area ≡ work
   faithful-leaves = walks.faithful-leaves doubles ps work doubles-fit k i
 
 -- ---- walk::step
@@ -94,5 +96,5 @@ module _ (s : State) (b : ℕ) (work : List Float) (k i : ℕ) where
   pub step-refused : (stepped doubles s b work .answer ≡ steps.Refused k i) ↔ StepWhen doubles s b work (verdicts.Refused k i)
   step-refused = walks.step-refused doubles s b work (doubles-fit .top) (doubles-fit .top-is) k i
 
-  pub step-leaves : stepped doubles s b work .answer ≡ steps.Refused k i → stepped doubles s b work .work ≡ work
+  pub step-leaves : stepped doubles s b work .answer ≡ steps.Refused k i → stepped doubles s b work .area ≡ work
   step-leaves = walks.step-leaves doubles s b work k i

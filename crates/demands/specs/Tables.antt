@@ -1,7 +1,7 @@
 -- Document 01's table of refusals for a block step, for the walk of a list and for rounding a register: what each answer is given exactly for.
 -- Definitions only.
 use mathlib.Core.Path.{_≡_}
-use mathlib.Core.Bool.{true, false, cond}
+use mathlib.Core.Bool.{true, false}
 use mathlib.Core.List.{List}
 use Prim.Native.Nat.{ℕ, _≤_, _<_}
 use lib.Dec.{eqb}
@@ -10,24 +10,15 @@ use lib.ListN.{length}
 use lib.Ieee.{Float, binary64}
 use Rattle.ieee.specs.Units.{limit, nearestFloat}
 use Rattle.lists.specs.Bitset.{has}
-use Rattle.kinds.specs.Heard.{Place, nowhere, at, tells}
 use Rattle.kinds.specs.Limits.{Width, blocksOf}
 use Rattle.kinds.specs.declared.State.{State}
 use Rattle.kinds.specs.declared.Verdict.{Verdict}
 use Rattle.kinds.specs.declared.Verdict.the-variants.{Good, Refused}
 use Rattle.kinds.specs.declared.Nearest.{Nearest}
 use Rattle.kinds.specs.declared.Nearest.the-variants as nearests
-use Rattle.judge.specs.Table.{GivenWhen}
+use Rattle.judge.specs.Table.{ListWhen}
 use Rattle.words.specs.Words.{wordCount, wholeOf}
 use Rattle.demands.specs.SoundState.{SoundState}
-
--- the column "Tells": the place for 2 and 3, and nothing more for any other number
-abbrev pub told : ℕ → ℕ → Place
-told k i = cond (tells k) (at i) nowhere
-
--- a row for the number k, heard with what it tells
-abbrev pub Row : (ℕ → ℕ → Type 0) → ℕ → Place → Type 0
-Row When k p = (i : ℕ) × When k i × (p ≡ told k i)
 
 -- "On a block step: 4, 8, 6, 7.", each where none before it holds. None tells a place.
 pub data StepWhen (W : Width) (s : State) (b : ℕ) (work : List Float) : Verdict → Type 0 where
@@ -43,7 +34,7 @@ pub data StepWhen (W : Width) (s : State) (b : ℕ) (work : List Float) : Verdic
 
 -- opening and the undivided call: a list with a work area, and no parts slice
 abbrev pub WalkWhen : Width → List ℕ → List Float → Verdict → Type 0
-WalkWhen W ps work = GivenWhen W (eqb (length work) (length ps)) true ps
+WalkWhen W ps work = ListWhen W (eqb (length work) (length ps)) true ps
 
 -- "On rounding a register: 4, 10." "refusal 10 is given when its magnitude is 2^2098 - 2^2044 units or more"
 pub data RoundWhen (ws : List ℕ) : Nearest → Type 0 where

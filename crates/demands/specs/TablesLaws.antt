@@ -1,5 +1,5 @@
 -- The gate of a block step gives each verdict exactly when its row of document 01's table says, and so does rounding a register. Assumes nothing.
-use mathlib.Core.Path.{_≡_, refl, sym, subst, _∙_}
+use mathlib.Core.Path.{_≡_, refl}
 use mathlib.Core.Logic.{_↔_, inl, inr}
 use mathlib.Core.Bool.{Bool, true, false}
 use mathlib.Core.List.{List}
@@ -12,6 +12,7 @@ use lib.Ieee.{Float, binary64}
 use Rattle.units.specs.Powers.{le-or-lt}
 use Rattle.ieee.specs.Units.{limit}
 use Rattle.lists.specs.Bitset.{has}
+use Rattle.kinds.specs.Hearing.{exactly}
 use Rattle.kinds.specs.Limits.{Width, blocksOf}
 use Rattle.kinds.specs.declared.State.{State}
 use Rattle.kinds.specs.declared.Verdict.{Verdict}
@@ -25,10 +26,6 @@ use Rattle.sound.specs.GateLaws.{gated-4, gated-8, gated-6, gated-7, gated-good
 use Rattle.demands.specs.SoundState.{SoundState}
 use Rattle.demands.specs.SoundStateLaws.{sound-state}
 use Rattle.demands.specs.Tables.{StepWhen, wrong-length, not-sound, no-block, taken-before, accepted, RoundWhen, wrong-words, beyond, nearest}
-
--- a table with a row for what is given, of which each row gives one thing, is read both ways
-exactly : {A : Type 0} (a : A) (When : A → Type 0) → ((b : A) → When b → a ≡ b) → (b : A) × When b → (b : A) → (a ≡ b) ↔ When b
-exactly a When row some b = (λ e. subst When (sym (row (some .0) (some .1)) ∙ e) (some .1), row b)
 
 -- ---- a block step, where the largest magnitude is 2^top units
 module _ (W : Width) (top : ℕ) (is : unitsAt W (W .magnitude) ≡ 2 ^ top) (s : State) (b : ℕ) (work : List Float) where

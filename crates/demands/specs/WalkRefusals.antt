@@ -19,7 +19,7 @@ use Rattle.kinds.specs.declared.Step.the-variants.{More, Done, Refused}
 use Rattle.kinds.specs.declared.Verdict.{Verdict}
 use Rattle.kinds.specs.declared.Verdict.the-variants as verdicts
 use Rattle.judge.specs.Judge.{judged, floats, zeroSign}
-use Rattle.judge.specs.JudgeLaws.{given-when}
+use Rattle.judge.specs.JudgeLaws.{list-when}
 use Rattle.sound.specs.Sound.{unitsAt, gated}
 use Rattle.rounds.specs.Fitting.{Fitting}
 use Rattle.walk.specs.NoRefusal.{verdictOf, fresh-accepted, taken-accepted}
@@ -35,7 +35,7 @@ use Rattle.demands.specs.TablesLaws.{step-when}
 -- a call gave the verdict v first
 record After (v : Verdict) (work : List Float) (w : Walked) : Type 0 where
   from : verdictOf (w .answer) ≡ v
-  kept : (k i : ℕ) → v ≡ verdicts.Refused k i → w .work ≡ work
+  kept : (k i : ℕ) → v ≡ verdicts.Refused k i → w .area ≡ work
 
 back : (a : Step) (k i : ℕ) → (a ≡ Refused k i) ↔ (verdictOf a ≡ verdicts.Refused k i)
 back (More s) k i = (λ e. apart (cc), λ e. apart (cc))
@@ -49,7 +49,7 @@ module _ {v : Verdict} {work : List Float} {w : Walked} (A : After v work w) whe
     λ h. back (w .answer) k i .1 (A .from ∙ when (verdicts.Refused k i) .1 h),
   )
 
-  leaves : (k i : ℕ) → w .answer ≡ Refused k i → w .work ≡ work
+  leaves : (k i : ℕ) → w .answer ≡ Refused k i → w .area ≡ work
   leaves k i e = A .kept k i (sym (A .from) ∙ back (w .answer) k i .0 e)
 
   -- what the verdict accepts is answered by no refusal
@@ -77,7 +77,7 @@ module _ (W : Width) (s : State) (b : ℕ) (work : List Float) where
     pub step-accepted : StepWhen W s b work verdicts.Good → stepped W s b work .answer ≡ Refused k i → ⊥
     step-accepted h = accepts (step-after (gated W s b work)) (step-when W top is s b work verdicts.Good .1 h) k i
 
-  pub step-leaves : (k i : ℕ) → stepped W s b work .answer ≡ Refused k i → stepped W s b work .work ≡ work
+  pub step-leaves : (k i : ℕ) → stepped W s b work .answer ≡ Refused k i → stepped W s b work .area ≡ work
   step-leaves = leaves (step-after (gated W s b work))
 
 -- ---- opening, and the undivided call: "Order on a list: 1, 4, .. then the lowest bad place with its own fault (2 or 3)."
@@ -88,7 +88,7 @@ module _ (W : Width) (ps : List ℕ) (work : List Float) where
 
   rows : (v : Verdict) → (verdict ≡ v) ↔ WalkWhen W ps work v
   unfolding verdict
-  rows = given-when W (eqb (length work) (length ps)) true ps
+  rows = list-when W (eqb (length work) (length ps)) true ps
 
   open-after : (v : Verdict) → After v work (openedAfter W v ps work)
   unfolding openedAfter
@@ -102,7 +102,7 @@ module _ (W : Width) (ps : List ℕ) (work : List Float) where
   unfolding verdict
   open-refused = refusals (open-after verdict) (WalkWhen W ps work) rows
 
-  pub open-leaves : (k i : ℕ) → opened W ps work .answer ≡ Refused k i → opened W ps work .work ≡ work
+  pub open-leaves : (k i : ℕ) → opened W ps work .answer ≡ Refused k i → opened W ps work .area ≡ work
   unfolding verdict
   open-leaves = leaves (open-after verdict)
 
@@ -121,5 +121,5 @@ module _ (W : Width) (ps : List ℕ) (work : List Float) where
     pub faithful-refused : (k i : ℕ) → (faithfulOf W ps work .answer ≡ Refused k i) ↔ WalkWhen W ps work (verdicts.Refused k i)
     faithful-refused = refusals (faithful-after verdict refl) (WalkWhen W ps work) rows
 
-    pub faithful-leaves : (k i : ℕ) → faithfulOf W ps work .answer ≡ Refused k i → faithfulOf W ps work .work ≡ work
+    pub faithful-leaves : (k i : ℕ) → faithfulOf W ps work .answer ≡ Refused k i → faithfulOf W ps work .area ≡ work
     faithful-leaves = leaves (faithful-after verdict refl)

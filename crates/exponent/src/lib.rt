@@ -1,5 +1,7 @@
 // Powers of two: the least one at or above a number, and the float of one. All is read off patterns, and no double is scaled: "Scaling mu by 2^53 in
 // doubles .. overflows near 2^1000."
+use kinds::DIGITS;
+use kinds::LEAST_NORMAL;
 ghost use mathlib.Core.Path.{_≡_};
 ghost use mathlib.Core.Bool.{false};
 ghost use Prim.Native.Nat.{_*_, _<_};
@@ -9,12 +11,6 @@ ghost use lib.Ieee.Scale.{finite};
 ghost use Rattle.units.specs.Rounding.{ceil};
 ghost use Rattle.ieee.specs.Units.{magnitude, negative, patternUnits};
 ghost use Rattle.exponent.specs.Power.{powers, powerOf};
-
-// How many digits of a significand a pattern stores; its field stands above them.
-const DIGITS: u32 = 52;
-
-// The pattern of 2^-1022, the least normal number: a field of 1 over no digit. So it is the weight of a field, too.
-pub const LEAST_NORMAL: u64 = 1 << DIGITS;
 
 // The float that is 2^k units, 2^(k - 1074). From 2^2098 units on there is none.
 pub fn power(k: u32) -> f64

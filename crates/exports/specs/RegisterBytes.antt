@@ -1,5 +1,5 @@
--- A register in bytes: a call that returns 0 changes the whole number by exactly the number's units, what was added and is withdrawn leaves the same 264
--- bytes, and the code of every row of the table. Assumes nothing.
+-- A register in bytes: a call that returns 0 changes the whole number by exactly the number's units, what was added and is withdrawn leaves the same
+-- 264 bytes, and the code of every row of the table. Assumes nothing.
 use mathlib.Core.Path.{_≡_, refl, sym, ap, _∙_}
 use mathlib.Core.List.{List, []}
 use Prim.Native.Nat.{ℕ, zero, suc, _+_, _*_}
@@ -10,19 +10,19 @@ use lib.ListN.{length, take, drop, length-drop}
 use lib.Seq.{length-take-le}
 use Rattle.lists.specs.Digits.{Digits}
 use Rattle.lists.specs.DigitLaws.{digits-more, digits-take, digits-drop, number-lt}
+use Rattle.kinds.specs.Outcome.{outcome}
 use Rattle.kinds.specs.Heard.{entryHeard}
 use Rattle.kinds.specs.declared.Entry.{Entry}
 use Rattle.kinds.specs.declared.Entry.the-variants as entries
 use Rattle.octets.specs.Octets.{littleEndian, little, packed, unpacked, eights}
 use Rattle.octets.specs.OctetsLaws.{little-length, little-back, little-bytes-back}
 use Rattle.octets.specs.EightsLaws.{eights-length, eights-joined, joined-eights, joined-length}
-use Rattle.words.specs.Words.{wholeOf}
-use Rattle.register.specs.Register.{Entered, enter, added, withdrawn}
-use Rattle.finite.specs.Finite.{unitsOf, Held}
-use Rattle.register.specs.Steps.{outcome}
+use Rattle.words.specs.Words.{wordCount, wholeOf}
+use Rattle.register.specs.Register.{Changed, enter, added, withdrawn}
+use Rattle.addend.specs.Addend.{unitsOf, Held}
 use Rattle.register.specs.Entries.{EntryWhen, entered, wrong-length, bad-number, out-of-range}
 use Rattle.register.specs.RegisterLaws.{entry-when, whole-after, held-after, withdraw-undoes, add-undoes}
-use Rattle.calls.specs.Calls.{Called, called, answered, registerCall, addCall, withdrawCall}
+use Rattle.calls.specs.Calls.{Called, answered, registerCall, addCall, withdrawCall, registerBytes, wordsIn}
 use Rattle.calls.specs.CallsLaws.{register-refused, register-registered, answered-accepted}
 
 -- ---- words from bytes, and back
@@ -34,11 +34,11 @@ eights-below (suc n) bs B l =
     digits-more 64 (rw t at (number-lt 8 (take 8 bs) (digits-take 8 8 bs B)))
     (eights-below n (drop 8 bs) (digits-drop 8 8 bs B) (rw (length-drop 8 bs) (omega arith)))
 
-words-back : (ws : List ℕ) → Held ws → unpacked 33 (packed ws) ≡ ws
+words-back : (ws : List ℕ) → Held ws → wordsIn (packed ws) ≡ ws
 words-back ws W = ap (λ (n : ℕ). unpacked n (packed ws)) (sym (W .long)) ∙ eights-joined (littleEndian 8) (little-length 8) little (little-back 8) ws (W .below)
 
 -- ---- an entry that returns 0 was entered
-enters : (ws : List ℕ) (p : ℕ) (z : ℤ) (register words : List ℕ) (a : Entry) → EntryWhen ws p z a → answered (entryHeard a) register words .code ≡ 0
+enters : (ws : List ℕ) (p : ℕ) (z : ℤ) (register words : List ℕ) (a : Entry) → EntryWhen ws p z a → answered (entryHeard a) register words .answer ≡ 0
     → a ≡ entries.Entered
 unfolding answered
 enters ws p z register words a (entered l f s) e = refl
@@ -47,92 +47,92 @@ enters ws p z register words a (bad-number l f) e = absurd (f (omega arith))
 enters ws p z register words a (out-of-range l f s) e = absurd (omega arith)
 
 -- ---- one call, and the one that undoes it
-module _ (register : List ℕ) (B : Digits 8 register) (l : length register ≡ 264) (p : ℕ) (z : List ℕ → ℤ) (undone : List ℕ → Entered)
-    (undoes : (ws : List ℕ) → Held ws → enter ws p (z ws) .answer ≡ entries.Entered → undone (enter ws p (z ws) .words) ≡ outcome entries.Entered ws) where
+module _ (register : List ℕ) (B : Digits 8 register) (l : length register ≡ registerBytes) (p : ℕ) (z : List ℕ → ℤ) (undone : List ℕ → Changed)
+    (undoes : (ws : List ℕ) → Held ws → enter ws p (z ws) .answer ≡ entries.Entered → undone (enter ws p (z ws) .area) ≡ outcome entries.Entered ws) where
   abbrev ws : List ℕ
-  ws = unpacked 33 register
+  ws = wordsIn register
 
-  abbrev e : Entered
+  abbrev e : Changed
   e = enter ws p (z ws)
 
-  abbrev doing : List ℕ → Entered
+  abbrev doing : List ℕ → Changed
   doing vs = enter vs p (z vs)
 
   held : Held ws
-  held = record { long = eights-length little 33 register; below = eights-below 33 register B l }
+  held = record { long = eights-length little wordCount register; below = eights-below wordCount register B l }
 
-  is-entered : registerCall doing register .code ≡ 0 → e .answer ≡ entries.Entered
+  is-entered : registerCall doing register .answer ≡ 0 → e .answer ≡ entries.Entered
   is-entered c =
-      enters ws p (z ws) register (e .words) (e .answer) (entry-when ws p (z ws) (e .answer) .0 refl)
-      (ap (λ (x : Called). x .code) (sym (register-registered doing register l)) ∙ c)
+      enters ws p (z ws) register (e .area) (e .answer) (entry-when ws p (z ws) (e .answer) .0 refl)
+      (ap (λ (x : Called). x .answer) (sym (register-registered doing register l)) ∙ c)
 
-  is-words : registerCall doing register .code ≡ 0 → registerCall doing register ≡ called 0 (packed (e .words))
+  is-words : registerCall doing register .answer ≡ 0 → registerCall doing register ≡ outcome 0 (packed (e .area))
   is-words c =
       register-registered doing register l
-      ∙ ap (λ (x : Entry). answered (entryHeard x) register (e .words)) (is-entered c)
-      ∙ answered-accepted register (e .words)
+      ∙ ap (λ (x : Entry). answered (entryHeard x) register (e .area)) (is-entered c)
+      ∙ answered-accepted register (e .area)
 
   -- the whole number afterwards
-  whole : registerCall doing register .code ≡ 0 → wholeOf (unpacked 33 (registerCall doing register .bytes)) ≡ z ws
+  whole : registerCall doing register .answer ≡ 0 → wholeOf (wordsIn (registerCall doing register .area)) ≡ z ws
   whole c =
-      ap (λ (x : Called). wholeOf (unpacked 33 (x .bytes))) (is-words c)
-      ∙ ap wholeOf (words-back (e .words) (held-after ws p (z ws) held))
+      ap (λ (x : Called). wholeOf (wordsIn (x .area))) (is-words c)
+      ∙ ap wholeOf (words-back (e .area) (held-after ws p (z ws) held))
       ∙ whole-after ws p (z ws) (is-entered c)
 
-  back : registerCall doing register .code ≡ 0 → registerCall undone (registerCall doing register .bytes) ≡ called 0 register
+  back : registerCall doing register .answer ≡ 0 → registerCall undone (registerCall doing register .area) ≡ outcome 0 register
   back c =
-      let h : Held (e .words) = held-after ws p (z ws) held in
-      let s : length (packed (e .words)) ≡ 264 = joined-length (littleEndian 8) (little-length 8) (e .words) ∙ ap (λ (n : ℕ). 8 * n) (h .long) in
-      let u : undone (unpacked 33 (packed (e .words))) ≡ outcome entries.Entered ws =
-      ap undone (words-back (e .words) h) ∙ undoes ws held (is-entered c) in
+      let h : Held (e .area) = held-after ws p (z ws) held in
+      let s : length (packed (e .area)) ≡ registerBytes = joined-length (littleEndian 8) (little-length 8) (e .area) ∙ ap (λ (n : ℕ). 8 * n) (h .long) in
+      let u : undone (wordsIn (packed (e .area))) ≡ outcome entries.Entered ws =
+      ap undone (words-back (e .area) h) ∙ undoes ws held (is-entered c) in
       let w : packed ws ≡ register = joined-eights (littleEndian 8) little (λ bs D k. rw k at (little-bytes-back bs D)) 33 register B l in
-      ap (λ (x : Called). registerCall undone (x .bytes)) (is-words c)
-      ∙ register-registered undone (packed (e .words)) s
-      ∙ ap (λ (x : Entered). answered (entryHeard (x .answer)) (packed (e .words)) (x .words)) u
-      ∙ answered-accepted (packed (e .words)) ws
-      ∙ ap (called 0) w
+      ap (λ (x : Called). registerCall undone (x .area)) (is-words c)
+      ∙ register-registered undone (packed (e .area)) s
+      ∙ ap (λ (x : Changed). answered (entryHeard (x .answer)) (packed (e .area)) (x .area)) u
+      ∙ answered-accepted (packed (e .area)) ws
+      ∙ ap (outcome 0) w
 
-module _ (register : List ℕ) (B : Digits 8 register) (l : length register ≡ 264) (p : ℕ) where
-  pub add-call-undone : addCall register p .code ≡ 0 → withdrawCall (addCall register p .bytes) p ≡ called 0 register
+module _ (register : List ℕ) (B : Digits 8 register) (l : length register ≡ registerBytes) (p : ℕ) where
+  pub add-call-undone : addCall register p .answer ≡ 0 → withdrawCall (addCall register p .area) p ≡ outcome 0 register
   add-call-undone = back register B l p (λ ws. wholeOf ws +ℤ unitsOf p) (λ ws. withdrawn ws p) (λ ws W. withdraw-undoes W p)
 
-  pub withdraw-call-undone : withdrawCall register p .code ≡ 0 → addCall (withdrawCall register p .bytes) p ≡ called 0 register
+  pub withdraw-call-undone : withdrawCall register p .answer ≡ 0 → addCall (withdrawCall register p .area) p ≡ outcome 0 register
   withdraw-call-undone = back register B l p (λ ws. wholeOf ws -ℤ unitsOf p) (λ ws. added ws p) (λ ws W. add-undoes W p)
 
   -- "addition and withdrawal of one allowed number change the whole number by exactly its units"
-  pub add-call-whole : addCall register p .code ≡ 0 → wholeOf (unpacked 33 (addCall register p .bytes)) ≡ wholeOf (unpacked 33 register) +ℤ unitsOf p
+  pub add-call-whole : addCall register p .answer ≡ 0 → wholeOf (wordsIn (addCall register p .area)) ≡ wholeOf (wordsIn register) +ℤ unitsOf p
   add-call-whole = whole register B l p (λ ws. wholeOf ws +ℤ unitsOf p) (λ ws. withdrawn ws p) (λ ws W. withdraw-undoes W p)
 
-  pub withdraw-call-whole : withdrawCall register p .code ≡ 0
-      → wholeOf (unpacked 33 (withdrawCall register p .bytes)) ≡ wholeOf (unpacked 33 register) -ℤ unitsOf p
+  pub withdraw-call-whole : withdrawCall register p .answer ≡ 0
+      → wholeOf (wordsIn (withdrawCall register p .area)) ≡ wholeOf (wordsIn register) -ℤ unitsOf p
   withdraw-call-whole = whole register B l p (λ ws. wholeOf ws -ℤ unitsOf p) (λ ws. added ws p) (λ ws W. add-undoes W p)
 
--- ---- what each row of the table returns: 4 for another length than 264 bytes, and by the words' rows for 264
+-- ---- what each row of the table returns: 4 for another length than registerBytes bytes, and by the words' rows for registerBytes
 module _ (register : List ℕ) (p : ℕ) where
-  rows : (z : List ℕ → ℤ) → length register ≡ 264 → (a : Entry) → EntryWhen (unpacked 33 register) p (z (unpacked 33 register)) a
-      → registerCall (λ ws. enter ws p (z ws)) register .code ≡ answered (entryHeard a) register [] .code
+  rows : (z : List ℕ → ℤ) → length register ≡ registerBytes → (a : Entry) → EntryWhen (wordsIn register) p (z (wordsIn register)) a
+      → registerCall (λ ws. enter ws p (z ws)) register .answer ≡ answered (entryHeard a) register [] .answer
   unfolding answered
   rows z l a R =
-      let ws = unpacked 33 register in
+      let ws = wordsIn register in
       let e : enter ws p (z ws) .answer ≡ a = entry-when ws p (z ws) a .1 R in
-      ap (λ (x : Called). x .code) (register-registered (λ ws. enter ws p (z ws)) register l)
-      ∙ ap (λ (x : Entry). answered (entryHeard x) register (enter ws p (z ws) .words) .code) e
-      ∙ same a (enter ws p (z ws) .words)
+      ap (λ (x : Called). x .answer) (register-registered (λ ws. enter ws p (z ws)) register l)
+      ∙ ap (λ (x : Entry). answered (entryHeard x) register (enter ws p (z ws) .area) .answer) e
+      ∙ same a (enter ws p (z ws) .area)
     where
-      same : (a : Entry) (words : List ℕ) → answered (entryHeard a) register words .code ≡ answered (entryHeard a) register [] .code
+      same : (a : Entry) (words : List ℕ) → answered (entryHeard a) register words .answer ≡ answered (entryHeard a) register [] .answer
       same entries.Entered words = refl
       same (entries.Refused k i) words = refl
 
-  pub add-call-when : length register ≡ 264 → (a : Entry) → EntryWhen (unpacked 33 register) p (wholeOf (unpacked 33 register) +ℤ unitsOf p) a
-      → addCall register p .code ≡ answered (entryHeard a) register [] .code
+  pub add-call-when : length register ≡ registerBytes → (a : Entry) → EntryWhen (wordsIn register) p (wholeOf (wordsIn register) +ℤ unitsOf p) a
+      → addCall register p .answer ≡ answered (entryHeard a) register [] .answer
   add-call-when = rows (λ ws. wholeOf ws +ℤ unitsOf p)
 
-  pub withdraw-call-when : length register ≡ 264 → (a : Entry) → EntryWhen (unpacked 33 register) p (wholeOf (unpacked 33 register) -ℤ unitsOf p) a
-      → withdrawCall register p .code ≡ answered (entryHeard a) register [] .code
+  pub withdraw-call-when : length register ≡ registerBytes → (a : Entry) → EntryWhen (wordsIn register) p (wholeOf (wordsIn register) -ℤ unitsOf p) a
+      → withdrawCall register p .answer ≡ answered (entryHeard a) register [] .answer
   withdraw-call-when = rows (λ ws. wholeOf ws -ℤ unitsOf p)
 
-  pub add-call-length : (length register ≡ 264 → ⊥) → addCall register p ≡ called 4 register
+  pub add-call-length : (length register ≡ registerBytes → ⊥) → addCall register p ≡ outcome 4 register
   add-call-length = register-refused (λ ws. added ws p) register
 
-  pub withdraw-call-length : (length register ≡ 264 → ⊥) → withdrawCall register p ≡ called 4 register
+  pub withdraw-call-length : (length register ≡ registerBytes → ⊥) → withdrawCall register p ≡ outcome 4 register
   withdraw-call-length = register-refused (λ ws. withdrawn ws p) register

@@ -1,34 +1,35 @@
 -- What document 01 says of the bytes of a C sum. Definitions only.
 use mathlib.Core.Path.{_≡_}
 use mathlib.Core.List.{List, [], _∷_}
-use Prim.Native.Nat.{ℕ, _%_, _≤_}
+use Prim.Native.Nat.{ℕ, suc, _%_, _≤_}
 use lib.Ieee.{Float}
 use lib.ListN.{length}
 use Rattle.ieee.specs.Accuracy.{FaithfulTo, NearestTo}
 use Rattle.kinds.specs.Limits.{doubles}
+use Rattle.kinds.specs.Outcome.{outcome}
 use Rattle.kinds.specs.Heard.{pattern}
 use Rattle.judge.specs.Table.{Allowed}
 use Rattle.octets.specs.Octets.{packed}
 use Rattle.sums.specs.Sums.{sumOf}
-use Rattle.calls.specs.Calls.{Called, called, patternsIn}
+use Rattle.calls.specs.Calls.{Called, patternsIn, listBytes, sumBytes}
 
 -- "An accepted sum writes 16 bytes: the pattern, then the rounds", of a faithful sum
 pub record FaithfulBytes (list : List ℕ) (c : Called) : Type 0 where
   pub sum : Float
   pub rounds : ℕ
-  pub is : c ≡ called 0 (packed (pattern sum ∷ rounds ∷ []))
+  pub is : c ≡ outcome 0 (packed (pattern sum ∷ rounds ∷ []))
   pub faithful : FaithfulTo (doubles .format) (sumOf (doubles .format) (patternsIn list)) sum
-  pub most : rounds ≤ 51
+  pub most : rounds ≤ suc (doubles .rounds)
 
 -- and of the nearest sum, "(0 for nearest)"
 pub record NearestBytes (list : List ℕ) (c : Called) : Type 0 where
   pub sum : Float
-  pub is : c ≡ called 0 (packed (pattern sum ∷ 0 ∷ []))
+  pub is : c ≡ outcome 0 (packed (pattern sum ∷ 0 ∷ []))
   pub nearest : NearestTo (doubles .format) (sumOf (doubles .format) (patternsIn list)) sum
 
 -- what is accepted: no length is refused, and every number is allowed
 pub record Accepted (list out : List ℕ) : Type 0 where
-  pub bytes : length list ≤ 32752
+  pub bytes : length list ≤ listBytes
   pub whole : length list % 8 ≡ 0
-  pub sixteen : length out ≡ 16
+  pub sixteen : length out ≡ sumBytes
   pub allowed : Allowed doubles (patternsIn list)

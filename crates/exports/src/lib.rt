@@ -1,51 +1,36 @@
 // The calls for a host program: "exported with the C calling convention, on numbers and byte slices".
-mod entries;
-
 ghost use mathlib.Core.Path.{_≡_};
-ghost use Rattle.calls.specs.Calls.{called, faithfulCall, nearestCall, addCall, withdrawCall};
+ghost use Rattle.kinds.specs.Outcome.{outcome};
+ghost use Rattle.calls.specs.Calls.{faithfulCall, nearestCall, addCall, withdrawCall};
 
 // The faithful sum, as `walk::faithful` has it. "The exported faithful sum is lent no work area and keeps its own."
 #[no_mangle]
 pub extern "C" fn kewohiata_faithful(list: &[u8], out: &mut [u8]) -> u32
-    ensures { λ r. ⌜ called r (now (out .exit)) ≡ faithfulCall (now (list .entry)) (now (out .entry)) ⌝ }
+    ensures { λ r. ⌜ outcome r (now (out .exit)) ≡ faithfulCall (now (list .entry)) (now (out .entry)) ⌝ }
 {
-    let fault = calls::lengths(list, out);
-    if fault != 0 {
-        return fault;
-    }
-    faithful_bytes::sum(list, out)
+    byte_calls::faithful::faithful(list, out)
 }
 
 // The nearest sum, as `sums::nearest` has it.
 #[no_mangle]
 pub extern "C" fn kewohiata_nearest(list: &[u8], out: &mut [u8]) -> u32
-    ensures { λ r. ⌜ called r (now (out .exit)) ≡ nearestCall (now (list .entry)) (now (out .entry)) ⌝ }
+    ensures { λ r. ⌜ outcome r (now (out .exit)) ≡ nearestCall (now (list .entry)) (now (out .entry)) ⌝ }
 {
-    let fault = calls::lengths(list, out);
-    if fault != 0 {
-        return fault;
-    }
-    nearest_bytes::sum(list, out)
+    byte_calls::nearest::nearest(list, out)
 }
 
 // Adds one number to a register, as `register::add` does.
 #[no_mangle]
 pub extern "C" fn kewohiata_register_add(register: &mut [u8], pattern: u64) -> u32
-    ensures { λ r. ⌜ called r (now (register .exit)) ≡ addCall (now (register .entry)) pattern ⌝ }
+    ensures { λ r. ⌜ outcome r (now (register .exit)) ≡ addCall (now (register .entry)) pattern ⌝ }
 {
-    if register.len() != entries::BYTES {
-        return 4;
-    }
-    entries::add(register, pattern)
+    byte_calls::entries::add(register, pattern)
 }
 
 // Takes one number out of a register, as `register::withdraw` does.
 #[no_mangle]
 pub extern "C" fn kewohiata_register_withdraw(register: &mut [u8], pattern: u64) -> u32
-    ensures { λ r. ⌜ called r (now (register .exit)) ≡ withdrawCall (now (register .entry)) pattern ⌝ }
+    ensures { λ r. ⌜ outcome r (now (register .exit)) ≡ withdrawCall (now (register .entry)) pattern ⌝ }
 {
-    if register.len() != entries::BYTES {
-        return 4;
-    }
-    entries::withdraw(register, pattern)
+    byte_calls::entries::withdraw(register, pattern)
 }

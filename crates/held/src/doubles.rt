@@ -1,6 +1,6 @@
 // Doubles in bytes, by their patterns.
 use crate::numbers;
-use judge::INFINITY;
+use kinds::INFINITY;
 use kinds::SIGN;
 
 const NAN: u64 = 0x7FF8_0000_0000_0000;

@@ -1,5 +1,5 @@
 -- The fault of one pattern, and what a list is refused for, in document 01's order. Definitions only.
-use mathlib.Core.Bool.{Bool, true, false, cond, not, _&&_}
+use mathlib.Core.Bool.{Bool, false, cond, not}
 use mathlib.Core.List.{List, [], _∷_, map}
 use Prim.Native.Nat.{ℕ, _+_}
 use lib.Dec.{leb, ltb, eqb}
@@ -17,11 +17,6 @@ faultOf W p =
     cond (finite (ofBits (W .format) p))
     (cond (leb (magnitude (W .format) (ofBits (W .format) p)) (magnitude (W .format) (ofBits (W .format) (W .magnitude)))) 0 3)
     2
-
--- no number has a fault
-unfoldable pub faultless : Width → List ℕ → Bool
-faultless W [] = true
-faultless W (p ∷ ps) = eqb (faultOf W p) 0 && faultless W ps
 
 -- the lowest bad place with its own fault, places counted from k
 unfoldable pub firstFault : Width → List ℕ → ℕ → Verdict

@@ -1,26 +1,23 @@
 -- What a list is refused for, case by case, and that each verdict is given exactly when document 01's table says. Assumes nothing.
-use mathlib.Core.Path.{_≡_, refl, subst, _∙_}
+use mathlib.Core.Path.{_≡_, refl, _∙_}
 use mathlib.Core.Logic.{_⊎_, inl, inr, _↔_}
-use mathlib.Core.Bool.{Bool, true, false, cond, not}
+use mathlib.Core.Bool.{Bool, true, false, not}
 use mathlib.Core.List.{List}
 use Prim.Native.Nat.{ℕ, _≤_, _<_}
 use borrow.Author.Tests.{lt-ltb, le-ltb}
-use lib.Dec.{T, eqb, eqb→eq}
+use native.Mathlib.Omega.{arith}
+use lib.Dec.{T, lit<}
 use lib.ListN.{length}
 use lib.Ieee.Bits.{is-true, is-false}
 use Rattle.units.specs.Powers.{le-or-lt}
 use Rattle.kinds.specs.Limits.{Width}
-use Rattle.kinds.specs.Heard.{tells}
+use Rattle.kinds.specs.Heard.{Refusal}
+use Rattle.kinds.specs.Hearing.{exactly, placed}
 use Rattle.kinds.specs.declared.Verdict.{Verdict}
 use Rattle.kinds.specs.declared.Verdict.the-variants.{Good, Refused}
 use Rattle.judge.specs.Judge.{firstFault, judged}
-use Rattle.judge.specs.Table.{First, Passed, GivenWhen}
+use Rattle.judge.specs.Table.{First, Passed, Allowed, ListWhen, too-many, wrong-area, wrong-parts, bad-number, allowed}
 use Rattle.judge.specs.FirstFaultLaws.{found, first-good, first-refused, first-number}
-
--- a row of the table, or those below it
-row : (b : Bool) {A B X : Type 0} → cond b A B → (T b → A → X) → (B → X) → X
-row true G f g = f tt G
-row false G f g = g G
 
 -- ---- case by case
 module _ (W : Width) (area parts : Bool) (ps : List ℕ) where
@@ -41,34 +38,52 @@ module _ (W : Width) (area parts : Bool) (ps : List ℕ) where
   judged-passed P = rw (le-ltb (W .length) (length ps) (P .few), is-true area (P .right-area), is-true parts (P .right-parts))
 
 -- ---- exactly when
-module _ (W : Width) (ps : List ℕ) where
-  place-given : (area parts : Bool) {k i : ℕ} → Passed W area parts ps → First W ps k i → GivenWhen W area parts ps (Refused k i)
-  place-given area parts {k} {i} P F = elim (first-number W ps F) [ inl e ↦ rw e (P, rw e at F) | inr e ↦ rw e (P, rw e at F) ]
+module _ (W : Width) (area parts : Bool) (ps : List ℕ) where
+  row : {v : Verdict} → ListWhen W area parts ps v → judged W area parts ps ≡ v
+  row (too-many h) = judged-1 W area parts ps h
+  row (wrong-area h a) = judged-4 W area parts ps h a
+  row (wrong-parts h a b) = judged-5 W area parts ps h a b
+  row (bad-number P k i F) = judged-passed W area parts ps P ∙ first-refused W ps k i .1 F
+  row (allowed P A) = judged-passed W area parts ps P ∙ first-good W ps .1 A
 
-  verdict-given : (length ps ≤ W .length) ⊎ (W .length < length ps) → (area parts : Bool) → GivenWhen W area parts ps (judged W area parts ps)
-  verdict-given (inr h) area parts = rw (judged-1 W area parts ps h) (refl, h)
-  verdict-given (inl h) false parts = rw (judged-4 W false parts ps h tt) (refl, h, tt)
-  verdict-given (inl h) true false = rw (judged-5 W true false ps h tt tt) (refl, h, tt, tt)
-  verdict-given (inl h) true true =
-      let P : Passed W true true ps = record { few = h; right-area = tt; right-parts = tt } in
-      elim (found W ps) [
-        | inl C ↦ rw (judged-passed W true true ps P, first-good W ps .1 C) (P, C)
-        | inr F ↦ rw (judged-passed W true true ps P, first-refused W ps (F .0) (F .1) .1 (F .2)) (place-given true true P (F .2))
+  some-row : (v : Verdict) × ListWhen W area parts ps v
+  some-row = elim (le-or-lt (length ps) (W .length)) [
+    | inr h ↦ (_, too-many h)
+    | inl h ↦ by-area h area refl
+  ]
+    where
+      passed : Passed W area parts ps → (v : Verdict) × ListWhen W area parts ps v
+      passed P = elim (found W ps) [
+        | inl A ↦ (_, allowed P A)
+        | inr F ↦ (_, bad-number P (F .0) (F .1) (F .2))
       ]
 
-  given-verdict : (area parts : Bool) (v : Verdict) → GivenWhen W area parts ps v → judged W area parts ps ≡ v
-  given-verdict area parts Good G = judged-passed W area parts ps (G .0) ∙ first-good W ps .1 (G .1)
-  given-verdict area parts (Refused k i) G =
-      row (eqb k 1) G (λ t A. judged-1 W area parts ps (A .1) ∙ told t (A .0))
-      (λ G. row (eqb k 4) G (λ t A. judged-4 W area parts ps (A .1) (A .2) ∙ told t (A .0))
-      (λ G. row (eqb k 5) G (λ t A. judged-5 W area parts ps (A .1) (A .2) (A .3) ∙ told t (A .0))
-      (λ G. row (tells k) G (λ t A. judged-passed W area parts ps (A .0) ∙ first-refused W ps k i .1 (A .1)) absurd)))
-    where
-      told : {l : ℕ} → T (eqb k l) → i ≡ 0 → Refused l 0 ≡ Refused k i
-      told {l} t e = rw (eqb→eq k l t, e)
+      by-parts : length ps ≤ W .length → T area → (b : Bool) → parts ≡ b → (v : Verdict) × ListWhen W area parts ps v
+      by-parts h a true e = passed (record { few = h; right-area = a; right-parts = rw e tt })
+      by-parts h a false e = (_, wrong-parts h a (rw e tt))
 
-pub given-when : (W : Width) (area parts : Bool) (ps : List ℕ) (v : Verdict) → (judged W area parts ps ≡ v) ↔ GivenWhen W area parts ps v
-given-when W area parts ps v = (
-  λ e. subst (GivenWhen W area parts ps) e (verdict-given W ps (le-or-lt (length ps) (W .length)) area parts),
-  given-verdict W ps area parts v,
-)
+      by-area : length ps ≤ W .length → (a : Bool) → area ≡ a → (v : Verdict) × ListWhen W area parts ps v
+      by-area h true e = by-parts h (rw e tt) parts refl
+      by-area h false e = (_, wrong-area h (rw e tt))
+
+  pub list-when : (v : Verdict) → (judged W area parts ps ≡ v) ↔ ListWhen W area parts ps v
+  list-when = exactly (judged W area parts ps) (ListWhen W area parts ps) (λ v. row) some-row
+
+-- ---- what a verdict says
+module _ {W : Width} {area parts : Bool} {ps : List ℕ} where
+  pub list-passed : ListWhen W area parts ps Good → Passed W area parts ps
+  list-passed (allowed P A) = P
+
+  pub list-allowed : ListWhen W area parts ps Good → Allowed W ps
+  list-allowed (allowed P A) = A
+
+  -- a refusal's number is of the table, its place is one of a list, and is told as the table says
+  pub list-refusal : {k i : ℕ} → ListWhen W area parts ps (Refused k i) → Refusal (W .length) k i
+  list-refusal (too-many h) = record { number = lit< tt; place = omega arith; as-told = refl }
+  list-refusal (wrong-area h a) = record { number = lit< tt; place = omega arith; as-told = refl }
+  list-refusal (wrong-parts h a b) = record { number = lit< tt; place = omega arith; as-told = refl }
+  list-refusal (bad-number P k i F) = go (first-number W ps F)
+    where
+      go : (k ≡ 2) ⊎ (k ≡ 3) → Refusal (W .length) k i
+      go (inl e) = record { number = rw e (lit< tt); place = omega (arith, P .few, F .inside); as-told = placed k i (inr (rw e tt)) }
+      go (inr e) = record { number = rw e (lit< tt); place = omega (arith, P .few, F .inside); as-told = placed k i (inr (rw e tt)) }

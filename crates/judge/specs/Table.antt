@@ -1,13 +1,12 @@
 -- Document 01's table of refusals for a list: what a verdict is given exactly for. Definitions only.
 use mathlib.Core.Path.{_≡_}
-use mathlib.Core.Bool.{Bool, cond, not}
+use mathlib.Core.Bool.{Bool, not}
 use mathlib.Core.List.{List}
 use Prim.Native.Nat.{ℕ, _≤_, _<_}
-use lib.Dec.{T, eqb}
+use lib.Dec.{T}
 use lib.ListN.{length, getD}
 use lib.Ieee.{Float, ofBits}
 use Rattle.ieee.specs.Units.{magnitude}
-use Rattle.kinds.specs.Heard.{tells}
 use Rattle.kinds.specs.Limits.{Width}
 use Rattle.kinds.specs.declared.Verdict.{Verdict}
 use Rattle.kinds.specs.declared.Verdict.the-variants.{Good, Refused}
@@ -46,12 +45,14 @@ pub record Passed (W : Width) (area parts : Bool) (ps : List ℕ) : Type 0 where
   pub right-area : T area
   pub right-parts : T parts
 
--- the table, 1, 4 and 5 without a place; no other number is given for a list
-abbrev pub GivenWhen : Width → Bool → Bool → List ℕ → Verdict → Type 0
-GivenWhen W area parts ps Good = Passed W area parts ps × Allowed W ps
-GivenWhen W area parts ps (Refused k i) =
-    cond (eqb k 1) ((i ≡ 0) × (W .length < length ps))
-    (cond (eqb k 4) ((i ≡ 0) × (length ps ≤ W .length) × T (not area))
-    (cond (eqb k 5) ((i ≡ 0) × (length ps ≤ W .length) × T area × T (not parts))
-    (cond (tells k) (Passed W area parts ps × First W ps k i)
-    ⊥)))
+-- the table, a row for each verdict; no other number is given for a list
+pub data ListWhen (W : Width) (area parts : Bool) (ps : List ℕ) : Verdict → Type 0 where
+  -- "more than 4,094 numbers"
+  too-many : W .length < length ps → ListWhen W area parts ps (Refused 1 0)
+  -- "a lent area other than the parts slice has the wrong length"
+  wrong-area : length ps ≤ W .length → T (not area) → ListWhen W area parts ps (Refused 4 0)
+  -- "parts slice of length 0 or above 8"
+  wrong-parts : length ps ≤ W .length → T area → T (not parts) → ListWhen W area parts ps (Refused 5 0)
+  -- "the lowest bad place with its own fault (2 or 3)"
+  bad-number : Passed W area parts ps → (k i : ℕ) → First W ps k i → ListWhen W area parts ps (Refused k i)
+  allowed : Passed W area parts ps → Allowed W ps → ListWhen W area parts ps Good

@@ -1,5 +1,6 @@
 // Which lists are allowed: the fault of one pattern, the first refusal of a list, and the copy of an allowed list as floats.
 use kinds::Doubles;
+use kinds::INFINITY;
 use kinds::SIGN;
 use kinds::Verdict;
 ghost use mathlib.Core.Path.{_≡_};
@@ -7,10 +8,8 @@ ghost use Prim.Native.Nat.{_≤_};
 ghost use lib.ListN.{length};
 ghost use Rattle.kinds.specs.Limits.{doubles};
 ghost use Rattle.kinds.specs.declared.Verdict.the-variants.{Good};
-ghost use Rattle.judge.specs.Judge.{faultOf, faultless, firstFault, judged, floats, zeroSign};
-
-// The pattern of the infinity. From it on, a pattern without its sign stands for no number.
-pub const INFINITY: u64 = 0x7FF0_0000_0000_0000;
+ghost use Rattle.judge.specs.FaultlessLaws.{faultless};
+ghost use Rattle.judge.specs.Judge.{faultOf, firstFault, judged, floats, zeroSign};
 
 // The number of a pattern's fault, 0 for none: 2 "a NaN or infinity", 3 "a finite number of magnitude above 2^1000".
 pub fn fault(p: u64) -> u32
@@ -27,7 +26,7 @@ pub fn fault(p: u64) -> u32
 }
 
 // Whether no pattern has a fault. Either fault is a pattern above the limit's, the sign taken off: a NaN's and an infinity's are above every number's. The loop
-// isn't left early, so that several patterns can be looked at at once.
+// isn't left early, so that several patterns are looked at together.
 fn faultless(list: &[u64]) -> bool
     ensures { λ r. ⌜ r ≡ faultless doubles (now (list .entry)) ⌝ }
 {

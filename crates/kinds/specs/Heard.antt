@@ -1,6 +1,7 @@
 -- What a caller hears: for each case of each answer, document 01's number and the place or that none is told, or the values. Definitions only.
+use mathlib.Core.Path.{_≡_}
 use mathlib.Core.Bool.{Bool, cond, _||_}
-use Prim.Native.Nat.{ℕ, zero, suc}
+use Prim.Native.Nat.{ℕ, zero, suc, _≤_, _<_}
 use lib.Dec.{eqb}
 use lib.Ieee.{Float, binary64, toBits}
 use Rattle.kinds.specs.declared.Verdict.{Verdict}
@@ -39,6 +40,20 @@ tells k = eqb k 2 || eqb k 3
 abbrev pub placeOf : ℕ → ℕ → Place
 placeOf k zero = cond (tells k) (at 0) nowhere
 placeOf k (suc p) = at (suc p)
+
+-- the table's column "Tells": the place for 2 and 3, and nothing more for any other number
+abbrev pub told : ℕ → ℕ → Place
+told k i = cond (tells k) (at i) nowhere
+
+-- a row for the number k, heard with what it tells
+abbrev pub Row : (ℕ → ℕ → Type 0) → ℕ → Place → Type 0
+Row When k p = (i : ℕ) × When k i × (p ≡ told k i)
+
+-- a refusal of the table: its number, its place among so many, and that the place is told as the table says
+pub record Refusal (places k i : ℕ) : Type 0 where
+  pub number : k < 32
+  pub place : i ≤ places
+  pub as-told : placeOf k i ≡ told k i
 
 abbrev pub pattern : Float → ℕ
 pattern x = toBits binary64 x

@@ -1,5 +1,4 @@
--- What one width of float fixes, and document 01's limits on lists and sound states at binary64, written here alone (calls/Calls has its 32,752 bytes,
--- words/Words its 33 words). Definitions only.
+-- What one width of float fixes, and document 01's limits on lists and sound states at binary64. Definitions only.
 use mathlib.Core.Path.{_≡_}
 use Prim.Native.Nat.{ℕ, _+_}
 use lib.Ieee.{Format, binary64}
@@ -34,3 +33,5 @@ pub record Tied (W : Width) (r : Limits) : Type 0 where
   pub magnitude : r .magnitude ≡ W .magnitude
   pub block : r .block ≡ W .block
   pub parts : r .parts ≡ W .parts
+  pub carried : r .carried ≡ W .carried
+  pub rounds : r .rounds ≡ W .rounds

@@ -8,7 +8,17 @@ ghost use Rattle.kinds.specs.Heard.{tells};
 // What the sign adds to a pattern. Patterns without it are in the order of their magnitudes.
 pub const SIGN: u64 = 0x8000_0000_0000_0000;
 
-// A list of binary64 patterns, by its length. Document 01's limits on lists are constants of this type, and stand in no other function.
+// The pattern of the infinity. From it on, a pattern without its sign stands for no number.
+pub const INFINITY: u64 = 0x7FF0_0000_0000_0000;
+
+// How many digits of a significand a pattern stores; its field stands above them.
+pub const DIGITS: u32 = 52;
+
+// The pattern of 2^-1022, the least normal number: a field of 1 over no digit. So it is the weight of a field, and of the leading digit that a pattern does
+// not store.
+pub const LEAST_NORMAL: u64 = 1 << DIGITS;
+
+// A list of binary64 patterns, by its length. Document 01's limits on lists and on sound states are constants of this type.
 pub struct Doubles {
     pub n: usize,
 }
@@ -19,6 +29,8 @@ pub struct Limits {
     pub magnitude: u64,
     pub block: usize,
     pub parts: usize,
+    pub carried: u64,
+    pub rounds: u32,
 }
 
 impl Doubles {
@@ -34,6 +46,12 @@ impl Doubles {
     // "Parts: 1 to 8"
     pub const PARTS: usize = 8;
 
+    // "t and tau are finite, of magnitude at most 2^1012"
+    pub const CARRIED: u64 = 0x7F30_0000_0000_0000;
+
+    // "rounds closed 0 to 50"
+    pub const ROUNDS: u32 = 50;
+
     // Ties the constants to the definitions: where one of either moves, this is refused.
     pub fn limits() -> Limits
         ensures { λ r. ⌜ Tied doubles r ⌝ }
@@ -43,6 +61,8 @@ impl Doubles {
             magnitude: Self::MAGNITUDE,
             block: Self::BLOCK,
             parts: Self::PARTS,
+            carried: Self::CARRIED,
+            rounds: Self::ROUNDS,
         }
     }
 

@@ -89,7 +89,7 @@ unfoldable pub linesAfter : Sheet → List ℕ → List Float → List ℕ → P
 linesAfter (sheets.Refused k p) numbers work text = printing (refusedLine k (placeOf k p)) numbers work text
 linesAfter (sheets.Read n) numbers work text =
     let ps = take n numbers in
-    printing (listLines ps (take n work)) numbers (faithfulOf doubles ps (take n work) .work ++ drop n work) text
+    printing (listLines ps (take n work)) numbers (faithfulOf doubles ps (take n work) .area ++ drop n work) text
 
 -- from a sheet's bytes
 abbrev pub linesOf : List ℕ → List ℕ → List Float → List ℕ → Printed

@@ -7,12 +7,13 @@ use lib.ListN.{length, take, drop, length-append}
 use lib.Seq.{take-at}
 use lib.Ieee.{Float}
 use Rattle.kinds.specs.Limits.{doubles}
+use Rattle.kinds.specs.Outcome.{outcome}
 use Rattle.kinds.specs.Heard.{placeOf}
 use Rattle.kinds.specs.declared.Sheet.{Sheet}
 use Rattle.kinds.specs.declared.Sheet.the-variants.{Read, Refused}
 use Rattle.octets.specs.Octets.{big}
 use Rattle.octets.specs.EightsLaws.{eights-length}
-use Rattle.sheet.specs.Sheet.{countOf, patternsOf, Reading, reading, readOf}
+use Rattle.sheet.specs.Sheet.{Reading, countOf, patternsOf, readOf}
 use Rattle.sheet.specs.SheetLaws.{Accepted, accepted, accepted-read}
 use Rattle.walk.specs.Walk.{faithfulOf}
 use Rattle.numerals.specs.Text.{Placed}
@@ -20,7 +21,7 @@ use Rattle.numerals.specs.TextLaws.{first-end, first-text}
 use Rattle.lines.specs.Lines.{refusedLine, listLines, Printed, printed, linesAfter, linesOf}
 
 module _ (sheet numbers : List ℕ) (work : List Float) (text : List ℕ) {answer : Sheet} {area : List ℕ}
-    (e : reading answer area ≡ readOf doubles sheet numbers) where
+    (e : outcome answer area ≡ readOf doubles sheet numbers) where
   lines-read : linesAfter answer area work text ≡ linesOf sheet numbers work text
   lines-read = ap (λ (r : Reading). linesAfter (r .answer) (r .area) work text) e
 
@@ -33,7 +34,7 @@ module _ (sheet numbers : List ℕ) (work : List Float) (text : List ℕ) {answe
 
   module _ (n : ℕ) (s : answer ≡ Read n) where
     -- a list that was read, with what its walk leaves
-    pub sheet-read : {r : ℕ} {after : List ℕ} {left : List Float} → left ≡ faithfulOf doubles (take n area) (take n work) .work
+    pub sheet-read : {r : ℕ} {after : List ℕ} {left : List Float} → left ≡ faithfulOf doubles (take n area) (take n work) .area
         → Placed (listLines (take n area) (take n work)) 0 text r after
         → printed r area (left ++ drop n work) after ≡ linesOf sheet numbers work text
     unfolding linesAfter
@@ -42,13 +43,13 @@ module _ (sheet numbers : List ℕ) (work : List Float) (text : List ℕ) {answe
 
     count : countOf sheet ≡ n
     count =
-        let r : readOf doubles sheet numbers ≡ reading (Read n) area = sym e ∙ ap (λ (a : Sheet). reading a area) s in
+        let r : readOf doubles sheet numbers ≡ outcome (Read n) area = sym e ∙ ap (λ (a : Sheet). outcome a area) s in
         let c : Read (countOf sheet) ≡ Read n =
         ap (λ (x : Reading). x .answer) (sym (accepted-read doubles sheet numbers (accepted doubles sheet numbers r)) ∙ r) in
         cc
 
     allowed : Accepted doubles sheet numbers
-    allowed = accepted doubles sheet numbers (sym e ∙ ap (λ (a : Sheet). reading a area) s)
+    allowed = accepted doubles sheet numbers (sym e ∙ ap (λ (a : Sheet). outcome a area) s)
 
     -- what was read
     pub read-list : take n area ≡ patternsOf n (drop 5 sheet)

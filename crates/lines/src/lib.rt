@@ -16,7 +16,7 @@ ghost use Rattle.lines.specs.Lines.{listLines, printed, linesOf, longest
 // Of a list: its three lines, or the line of its refusal. The undivided call answers no state.
 fn summed(list: &[u64], work: &mut [f64], text: &mut [u8]) -> usize
     requires { ⌜ (length (now list) ≤ doubles .length) × (longest ≤ length (now text)) ⌝ }
-    ensures left { λ _. ⌜ now (work .exit) ≡ faithfulOf doubles (now (list .entry)) (now (work .entry)) .work ⌝ }
+    ensures left { λ _. ⌜ now (work .exit) ≡ faithfulOf doubles (now (list .entry)) (now (work .entry)) .area ⌝ }
     ensures lines { λ r. ⌜ Placed (listLines (now (list .entry)) (now (work .entry))) 0 (now (text .entry)) r (now (text .exit)) ⌝ }
 {
     match walk::faithful(list, work) {

@@ -5,6 +5,7 @@ pub mod Bitset
 pub mod Apart
 pub mod Front
 pub mod Each
+pub mod Every
 pub mod BitsetLaws
 pub mod LeadingZeros
 pub mod WordShifts

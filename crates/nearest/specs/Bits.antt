@@ -5,7 +5,7 @@ use lib.IntN.{ℤ, natAbs}
 use lib.Ieee.{binary64, prec, hid}
 use Rattle.units.specs.Rounding.{dropped}
 use Rattle.ieee.specs.Units.{signOf, roundedBits}
-use Rattle.leading.specs.declared.head.Head.{Head}
+use Rattle.nearest.specs.declared.head.Head.{Head}
 use Rattle.nearest.specs.Sticky.{closestOver}
 use Rattle.nearest.specs.declared.bits.Bits.{Bits}
 

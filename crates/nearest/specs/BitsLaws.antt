@@ -22,7 +22,7 @@ use Rattle.lists.specs.DigitLaws.{number-lt}
 use Rattle.lists.specs.TwosComplement.{signed-low, signed-high}
 use Rattle.lists.specs.Magnitude.{magnitude-negative, top-digit}
 use Rattle.words.specs.Words.{wordBits, wordCount, registerBits, wholeOf}
-use Rattle.leading.specs.Head.{headOf}
+use Rattle.nearest.specs.Head.{headOf}
 use Rattle.nearest.specs.Sticky.{closestOver, dropped-head, rounds-as-head}
 use Rattle.nearest.specs.Bits.{bitsOf, headBits}
 

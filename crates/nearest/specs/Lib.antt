@@ -1,5 +1,7 @@
--- The bits of the double nearest to a whole number of words. Definitions first, then laws.
+-- The leading digits of a number of words, and the bits of the double nearest to it. Definitions first, then laws.
+pub mod Head
 pub mod Bits
+pub mod HeadLaws
 pub mod Sticky
 pub mod NearestBits
 pub mod BitsLaws

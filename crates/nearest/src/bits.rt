@@ -1,7 +1,8 @@
 // The bits of the double nearest to a register.
+use crate::head::leading;
+use crate::magnitude::negate;
 use crate::pattern::pattern;
-use leading::head::leading;
-use leading::magnitude::negate;
+use words::TOP;
 use words::WORDS;
 ghost use mathlib.Core.Path.{_≡_};
 ghost use mathlib.Core.Bool.{cond};
@@ -10,9 +11,6 @@ ghost use lib.ListN.{length};
 ghost use lib.Ieee.{binary64, hid, ones, top, ofBits};
 ghost use Rattle.words.specs.Words.{wordCount, wholeOf};
 ghost use Rattle.nearest.specs.Bits.{bitsOf};
-
-// The sign of a word in two's complement.
-const SIGN: u64 = 0x8000_0000_0000_0000;
 
 // A double's sign, and its pattern without the sign.
 pub struct Bits {
@@ -26,7 +24,7 @@ pub fn nearest_bits(register: &[u64], zero: bool) -> Bits
     requires { ⌜ length (now register) ≡ wordCount ⌝ }
     ensures { λ r. ⌜ r ≡ bitsOf zero (wholeOf (now (register .entry))) ⌝ }
 {
-    if register[WORDS - 1] < SIGN {
+    if register[WORDS - 1] < TOP {
         let p = pattern(leading(register));
         return Bits {
             negative: zero & (p == 0),

@@ -3,7 +3,9 @@ use crate::bits::double;
 use crate::bits::nearest_bits;
 
 pub mod bits;
-mod pattern;
+pub mod head;
+mod magnitude;
+pub mod pattern;
 
 ghost use mathlib.Core.Path.{_≡_};
 ghost use Prim.Native.Nat.{_<_};

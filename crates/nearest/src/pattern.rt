@@ -1,6 +1,6 @@
 // The pattern of the double nearest to a number of units, by its leading digits.
-use leading::head::Head;
-use leading::head::size;
+use crate::head::Head;
+use crate::head::size;
 ghost use mathlib.Core.Path.{_≡_};
 ghost use Prim.Native.Nat.{_*_, _^_, _<_, _≤_};
 ghost use lib.Ieee.{binary64, prec};

@@ -13,15 +13,15 @@ use lib.ListN.{length}
 use Rattle.units.specs.Powers.{le-or-lt}
 use Rattle.lists.specs.Digits.{inside}
 use Rattle.kinds.specs.Limits.{doubles}
+use Rattle.kinds.specs.Outcome.{outcome}
 use Rattle.kinds.specs.declared.Entry.the-variants.{Refused, Entered}
 use Rattle.judge.specs.Judge.{faultOf}
 use Rattle.judge.specs.FaultLaws.{fault-0, pattern-0, pattern-2, pattern-3, proper-doubles}
 use Rattle.words.specs.Words.{wordCount, registerBits, wholeOf, wordsOf}
-use Rattle.finite.specs.Finite.{unitsOf}
-use Rattle.finite.specs.OppositePattern.{opposite, opposite-mod}
-use Rattle.finite.specs.RegisterWords.{opposite-units}
+use Rattle.addend.specs.Addend.{unitsOf}
+use Rattle.addend.specs.OppositePattern.{opposite, opposite-mod}
+use Rattle.addend.specs.RegisterWords.{opposite-units}
 use Rattle.register.specs.Register.{enter, added, withdrawn}
-use Rattle.register.specs.Steps.{outcome}
 
 module _ (ws : List ℕ) (p : ℕ) (z : ℤ) where
   pub enter-long : (length ws ≡ wordCount → ⊥) → enter ws p z ≡ outcome (Refused 4 0) ws

@@ -10,10 +10,9 @@ use Rattle.kinds.specs.Limits.{doubles}
 use Rattle.kinds.specs.declared.Entry.{Entry}
 use Rattle.kinds.specs.declared.Entry.the-variants.{Entered, Refused}
 use Rattle.judge.specs.Judge.{faultOf}
-use Rattle.register.specs.Register as R
 use Rattle.words.specs.Words.{wordCount, registerBits, wholeOf, wordsOf}
-use Rattle.finite.specs.Finite.{unitsOf}
-use Rattle.register.specs.Register.{enter}
+use Rattle.addend.specs.Addend.{unitsOf}
+use Rattle.register.specs.Register.{Changed, enter}
 
 -- the table, a row for each answer, 4 and 9 without a place, 2 and 3 at place 0. z is the whole number that would be there afterwards.
 pub data EntryWhen (ws : List ℕ) (p : ℕ) (z : ℤ) : Entry → Type 0 where
@@ -42,18 +41,18 @@ changeOf (add p) = unitsOf p
 changeOf (withdraw p) = negℤ (unitsOf p)
 
 -- one call: `added` or `withdrawn`, of its pattern
-abbrev pub changed : List ℕ → Change → R.Entered
+abbrev pub changed : List ℕ → Change → Changed
 changed ws c = enter ws (patternOf c) (wholeOf ws +ℤ changeOf c)
 
 -- the words after all calls
 unfoldable pub run : List ℕ → List Change → List ℕ
 run ws [] = ws
-run ws (c ∷ cs) = run (changed ws c .words) cs
+run ws (c ∷ cs) = run (changed ws c .area) cs
 
 -- none of the calls refuses
 unfoldable pub AllEntered : List ℕ → List Change → Type 0
 AllEntered ws [] = Unit {0}
-AllEntered ws (c ∷ cs) = (changed ws c .answer ≡ Entered) × AllEntered (changed ws c .words) cs
+AllEntered ws (c ∷ cs) = (changed ws c .answer ≡ Entered) × AllEntered (changed ws c .area) cs
 
 abbrev pub zeros : List ℕ
 zeros = replicate wordCount 0

@@ -8,7 +8,7 @@ use lib.IntN.{ℤ, negℤ, _+ℤ_, _-ℤ_, +ℤ-assoc, +ℤ-comm, -ℤ-+ℤ-canc
 use Rattle.units.specs.Whole.{exactSum}
 use Rattle.lists.specs.SignedDigits.{cut-whole}
 use Rattle.words.specs.Words.{wordBits, wordCount, wholeOf, wordsOf}
-use Rattle.finite.specs.Finite.{unitsOf, Held}
+use Rattle.addend.specs.Addend.{unitsOf, Held}
 use Rattle.register.specs.Entries.{Change, add, withdraw, patternOf, changeOf, changed, run, AllEntered}
 use Rattle.register.specs.RegisterLaws.{held-after}
 use Rattle.register.specs.RunLaws.{run-whole}
@@ -16,7 +16,7 @@ use Rattle.register.specs.RunLaws.{run-whole}
 pub run-held : (ws : List ℕ) (cs : List Change) → Held ws → Held (run ws cs)
 unfolding run
 run-held ws [] H = H
-run-held ws (c ∷ cs) H = run-held (changed ws c .words) cs (held-after ws (patternOf c) (wholeOf ws +ℤ changeOf c) H)
+run-held ws (c ∷ cs) H = run-held (changed ws c .area) cs (held-after ws (patternOf c) (wholeOf ws +ℤ changeOf c) H)
 
 module _ (ws : List ℕ) (H : Held ws) where
   run-words : (cs : List Change) → AllEntered ws cs → run ws cs ≡ wordsOf (wholeOf ws +ℤ exactSum (map changeOf cs))

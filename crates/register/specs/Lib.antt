@@ -1,6 +1,6 @@
 -- The exact register. Definitions first, then laws.
 pub mod Register
-pub mod Steps
+pub mod Signs
 pub mod Entries
 pub mod EnterLaws
 pub mod Range

@@ -10,30 +10,30 @@ use Rattle.lists.specs.Digits.{inside}
 use Rattle.words.specs.Words.{wordCount, registerBits, wholeOf, wordsOf}
 use Rattle.ieee.specs.Units.{nearestFloat}
 use Rattle.kinds.specs.Limits.{doubles}
+use Rattle.kinds.specs.Outcome.{Outcome, outcome}
 use Rattle.kinds.specs.declared.Entry.{Entry}
 use Rattle.kinds.specs.declared.Entry.the-variants as entries
 use Rattle.kinds.specs.declared.Nearest.{Nearest}
 use Rattle.kinds.specs.declared.Nearest.the-variants as nearests
 use Rattle.judge.specs.Judge.{faultOf}
-use Rattle.finite.specs.Finite.{unitsOf}
+use Rattle.addend.specs.Addend.{unitsOf}
 
 -- the answer, and the words afterwards
-pub record Entered : Type 0 where
-  pub answer : Entry
-  pub words : List ℕ
+abbrev pub Changed : Type 0
+Changed = Outcome Entry ℕ
 
 -- "On a register addition or withdrawal: 4, then 2 or 3 at place 0, then 9." Words ws, pattern p, and the whole number z that would be there afterwards.
-unfoldable pub enter : List ℕ → ℕ → ℤ → Entered
+unfoldable pub enter : List ℕ → ℕ → ℤ → Changed
 enter ws p z =
-    cond (not (eqb (length ws) wordCount)) (record { answer = entries.Refused 4 0; words = ws })
-    (cond (not (eqb (faultOf doubles p) 0)) (record { answer = entries.Refused (faultOf doubles p) 0; words = ws })
-    (cond (not (inside registerBits z)) (record { answer = entries.Refused 9 0; words = ws })
-    (record { answer = entries.Entered; words = wordsOf z })))
+    cond (not (eqb (length ws) wordCount)) (outcome (entries.Refused 4 0) ws)
+    (cond (not (eqb (faultOf doubles p) 0)) (outcome (entries.Refused (faultOf doubles p) 0) ws)
+    (cond (not (inside registerBits z)) (outcome (entries.Refused 9 0) ws)
+    (outcome entries.Entered (wordsOf z))))
 
-abbrev pub added : List ℕ → ℕ → Entered
+abbrev pub added : List ℕ → ℕ → Changed
 added ws p = enter ws p (wholeOf ws +ℤ unitsOf p)
 
-abbrev pub withdrawn : List ℕ → ℕ → Entered
+abbrev pub withdrawn : List ℕ → ℕ → Changed
 withdrawn ws p = enter ws p (wholeOf ws -ℤ unitsOf p)
 
 -- "On rounding a register: 4, 10." The register doesn't know signs of zero.

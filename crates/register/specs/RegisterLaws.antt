@@ -11,19 +11,19 @@ use lib.Dec.{lit<}
 use lib.IntN.{ℤ, pos, negℤ, _+ℤ_, +ℤ-idr, +ℤ-negℤ-cancel, -ℤ-+ℤ-cancel}
 use lib.Ieee.{top}
 use lib.ListN.{length}
-use Rattle.finite.specs.PatternFields.{zero-value}
+use Rattle.addend.specs.PatternFields.{zero-value}
 use Rattle.lists.specs.Digits.{inside}
 use Rattle.lists.specs.SignedDigits.{cut-words, cut-whole, whole-cut, whole-inside}
+use Rattle.kinds.specs.Hearing.{exactly}
 use Rattle.kinds.specs.Limits.{doubles}
+use Rattle.kinds.specs.Outcome.{outcome}
 use Rattle.kinds.specs.declared.Entry.{Entry}
 use Rattle.kinds.specs.declared.Entry.the-variants.{Refused, Entered}
 use Rattle.judge.specs.Judge.{faultOf}
 use Rattle.judge.specs.FaultLaws.{pattern-0, proper-doubles}
-use Rattle.register.specs.Register as R
 use Rattle.words.specs.Words.{wordBits, wordCount, registerBits, wholeOf}
-use Rattle.finite.specs.Finite.{unitsOf, Held}
-use Rattle.register.specs.Register.{enter, added, withdrawn}
-use Rattle.register.specs.Steps.{outcome}
+use Rattle.addend.specs.Addend.{unitsOf, Held}
+use Rattle.register.specs.Register.{Changed, enter, added, withdrawn}
 use Rattle.register.specs.EnterLaws.{enter-long, enter-bad, enter-out, enter-in}
 use Rattle.register.specs.Entries.{EntryWhen, entered, wrong-length, bad-number, out-of-range, afterwards}
 use Rattle.register.specs.Entries.{Change, add, withdraw, patternOf, changed}
@@ -49,15 +49,15 @@ module _ (ws : List ℕ) (p : ℕ) (z : ℤ) where
       by-range l e false h = (Refused 9 0, out-of-range l e h)
 
   answered : {a : Entry} → EntryWhen ws p z a → enter ws p z .answer ≡ a
-  answered r = ap (λ (o : R.Entered). o .answer) (row r)
+  answered r = ap (λ (o : Changed). o .answer) (row r)
 
   -- each answer is given exactly when the table says
   pub entry-when : (a : Entry) → (enter ws p z .answer ≡ a) ↔ EntryWhen ws p z a
-  entry-when a = (λ e. subst (EntryWhen ws p z) (sym (answered (some-row .1)) ∙ e) (some-row .1), answered)
+  entry-when = exactly (enter ws p z .answer) (EntryWhen ws p z) (λ a. answered) some-row
 
   -- and the words are left as it says
-  pub entry-leaves : {a : Entry} → enter ws p z .answer ≡ a → enter ws p z .words ≡ afterwards ws z a
-  entry-leaves {a} e = ap (λ (o : R.Entered). o .words) (row (entry-when a .0 e))
+  pub entry-leaves : {a : Entry} → enter ws p z .answer ≡ a → enter ws p z .area ≡ afterwards ws z a
+  entry-leaves {a} e = ap (λ (o : Changed). o .area) (row (entry-when a .0 e))
 
   -- ---- the whole number afterwards
 
@@ -67,13 +67,13 @@ module _ (ws : List ℕ) (p : ℕ) (z : ℤ) where
       fault : EntryWhen ws p z Entered → faultOf doubles p ≡ 0
       fault (entered l e h) = e
 
-  pub whole-after : enter ws p z .answer ≡ Entered → wholeOf (enter ws p z .words) ≡ z
+  pub whole-after : enter ws p z .answer ≡ Entered → wholeOf (enter ws p z .area) ≡ z
   whole-after a = ap wholeOf (entry-leaves a) ∙ whole-cut wordBits wordCount (lit< tt) z (range (entry-when Entered .0 a))
     where
       range : EntryWhen ws p z Entered → inside registerBits z ≡ true
       range (entered l e h) = h
 
-  pub held-after : Held ws → Held (enter ws p z .words)
+  pub held-after : Held ws → Held (enter ws p z .area)
   held-after W = subst Held (sym (entry-leaves refl)) (kept (enter ws p z .answer))
     where
       kept : (a : Entry) → Held (afterwards ws z a)
@@ -89,18 +89,18 @@ module _ {ws : List ℕ} (W : Held ws) where
       ∙ ap (outcome Entered) (cut-whole wordBits wordCount (lit< tt) W)
 
   undo : (p : ℕ) (u v : ℤ) → wholeOf ws +ℤ u +ℤ v ≡ wholeOf ws → enter ws p (wholeOf ws +ℤ u) .answer ≡ Entered
-      → enter (enter ws p (wholeOf ws +ℤ u) .words) p (wholeOf (enter ws p (wholeOf ws +ℤ u) .words) +ℤ v) ≡ outcome Entered ws
+      → enter (enter ws p (wholeOf ws +ℤ u) .area) p (wholeOf (enter ws p (wholeOf ws +ℤ u) .area) +ℤ v) ≡ outcome Entered ws
   undo p u v c a =
-      back (enter ws p (wholeOf ws +ℤ u) .words) p (wholeOf (enter ws p (wholeOf ws +ℤ u) .words) +ℤ v)
+      back (enter ws p (wholeOf ws +ℤ u) .area) p (wholeOf (enter ws p (wholeOf ws +ℤ u) .area) +ℤ v)
       (held-after ws p (wholeOf ws +ℤ u) W .long)
       (no-fault ws p (wholeOf ws +ℤ u) a)
       (ap (λ (y : ℤ). y +ℤ v) (whole-after ws p (wholeOf ws +ℤ u) a) ∙ c)
 
   -- a withdrawal undoes an addition of the same number, and the other way round
-  pub withdraw-undoes : (p : ℕ) → added ws p .answer ≡ Entered → withdrawn (added ws p .words) p ≡ outcome Entered ws
+  pub withdraw-undoes : (p : ℕ) → added ws p .answer ≡ Entered → withdrawn (added ws p .area) p ≡ outcome Entered ws
   withdraw-undoes p a = undo p (unitsOf p) (negℤ (unitsOf p)) (+ℤ-negℤ-cancel (wholeOf ws) (unitsOf p)) a
 
-  pub add-undoes : (p : ℕ) → withdrawn ws p .answer ≡ Entered → added (withdrawn ws p .words) p ≡ outcome Entered ws
+  pub add-undoes : (p : ℕ) → withdrawn ws p .answer ≡ Entered → added (withdrawn ws p .area) p ≡ outcome Entered ws
   add-undoes p a = undo p (negℤ (unitsOf p)) (unitsOf p) (-ℤ-+ℤ-cancel (wholeOf ws) (unitsOf p)) a
 
   still : (p : ℕ) (u : ℤ) → p % top (doubles .format) ≡ 0 → u ≡ pos 0 → enter ws p (wholeOf ws +ℤ u) ≡ outcome Entered ws

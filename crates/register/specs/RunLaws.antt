@@ -26,7 +26,7 @@ use Rattle.judge.specs.Judge.{faultOf}
 use Rattle.judge.specs.Table.{floatOf, sizeOf, most, Allowed}
 use Rattle.judge.specs.FaultLaws.{fault-0, fault-number, most-doubles}
 use Rattle.words.specs.Words.{wordBits, wordCount, registerBits, wholeOf, wordsOf}
-use Rattle.finite.specs.Finite.{unitsOf, Held}
+use Rattle.addend.specs.Addend.{unitsOf, Held}
 use Rattle.register.specs.Register.{added, withdrawn}
 use Rattle.register.specs.Entries.{EntryWhen, entered, wrong-length, bad-number, out-of-range}
 use Rattle.register.specs.Entries.{Change, add, withdraw, patternOf, changeOf, changed, run, AllEntered, zeros}
@@ -40,14 +40,14 @@ pub changed-withdraw : (ws : List ℕ) (p : ℕ) → changed ws (withdraw p) ≡
 changed-withdraw ws p = refl
 
 -- ---- "addition and withdrawal of one allowed number change the whole number by exactly its units"
-pub change-whole : (ws : List ℕ) (c : Change) → changed ws c .answer ≡ Entered → wholeOf (changed ws c .words) ≡ wholeOf ws +ℤ changeOf c
+pub change-whole : (ws : List ℕ) (c : Change) → changed ws c .answer ≡ Entered → wholeOf (changed ws c .area) ≡ wholeOf ws +ℤ changeOf c
 change-whole ws c a = whole-after ws (patternOf c) (wholeOf ws +ℤ changeOf c) a
 
 pub run-whole : (ws : List ℕ) (cs : List Change) → AllEntered ws cs → wholeOf (run ws cs) ≡ wholeOf ws +ℤ exactSum (map changeOf cs)
 unfolding run AllEntered
 run-whole ws [] A = sym (+ℤ-idr (wholeOf ws))
 run-whole ws (c ∷ cs) A =
-    run-whole (changed ws c .words) cs (A .1)
+    run-whole (changed ws c .area) cs (A .1)
     ∙ ap (λ (y : ℤ). y +ℤ exactSum (map changeOf cs)) (change-whole ws c (A .0))
     ∙ +ℤ-assoc (wholeOf ws) (changeOf c) (exactSum (map changeOf cs))
 
@@ -71,17 +71,17 @@ module _ (ws : List ℕ) (c : Change) where
   next-bound : faultOf doubles (patternOf c) ≡ 0 → natAbs (wholeOf ws +ℤ changeOf c) ≤ natAbs (wholeOf ws) + most doubles
   next-bound e = omega (arith, abs-plus (wholeOf ws) (changeOf c), change-small c e)
 
-  change-bound : natAbs (wholeOf (changed ws c .words)) ≤ natAbs (wholeOf ws) + most doubles
+  change-bound : natAbs (wholeOf (changed ws c .area)) ≤ natAbs (wholeOf ws) + most doubles
   change-bound = by (changed ws c .answer) refl
     where
-      by : (a : Entry) → changed ws c .answer ≡ a → natAbs (wholeOf (changed ws c .words)) ≤ natAbs (wholeOf ws) + most doubles
+      by : (a : Entry) → changed ws c .answer ≡ a → natAbs (wholeOf (changed ws c .area)) ≤ natAbs (wholeOf ws) + most doubles
       by Entered a = rw (change-whole ws c a) (next-bound (no-fault ws (patternOf c) (wholeOf ws +ℤ changeOf c) a))
       by (Refused k i) a = rw (entry-leaves ws (patternOf c) (wholeOf ws +ℤ changeOf c) a) (le-add-right (natAbs (wholeOf ws)) (most doubles))
 
 pub run-bound : (ws : List ℕ) (cs : List Change) → natAbs (wholeOf (run ws cs)) ≤ natAbs (wholeOf ws) + length cs * most doubles
 unfolding run
 run-bound ws [] = omega arith
-run-bound ws (c ∷ cs) = omega (arith, run-bound (changed ws c .words) cs, change-bound ws c)
+run-bound ws (c ∷ cs) = omega (arith, run-bound (changed ws c .area) cs, change-bound ws c)
 
 -- ---- the range, H its bound on magnitudes
 module _ (H : ℕ) (I : (z : ℤ) → natAbs z < H → inside registerBits z ≡ true) (ws : List ℕ) (c : Change) (h : natAbs (wholeOf ws) + most doubles < H) where
@@ -101,7 +101,7 @@ module _ (H : ℕ) (I : (z : ℤ) → natAbs z < H → inside registerBits z ≡
       → Allowed doubles (map patternOf cs) → AllEntered ws cs
   unfolding AllEntered
   enters ws [] l h A = tt
-  enters ws (c ∷ cs) l h A = (head, enters (changed ws c .words) cs long (omega (arith, change-bound ws c)) rest)
+  enters ws (c ∷ cs) l h A = (head, enters (changed ws c .area) cs long (omega (arith, change-bound ws c)) rest)
     where
       rest : Allowed doubles (map patternOf cs)
       rest = record { none = λ j g. A .none (suc j) (omega arith) }
@@ -112,7 +112,7 @@ module _ (H : ℕ) (I : (z : ℤ) → natAbs z < H → inside registerBits z ≡
       head : changed ws c .answer ≡ Entered
       head = entry-when ws (patternOf c) (wholeOf ws +ℤ changeOf c) Entered .1 (entered l first (stays H I ws c (omega arith) first))
 
-      long : length (changed ws c .words) ≡ wordCount
+      long : length (changed ws c .area) ≡ wordCount
       long =
           ap length (entry-leaves ws (patternOf c) (wholeOf ws +ℤ changeOf c) head)
           ∙ cut-words wordBits wordCount (wholeOf ws +ℤ changeOf c) .long

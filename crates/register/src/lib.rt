@@ -1,14 +1,14 @@
 // The exact register: 33 lent words that count units in two's complement.
-use judge::INFINITY;
 use kinds::Entry;
+use kinds::INFINITY;
 use kinds::Nearest;
 use words::WORDS;
 
 mod range;
 
 ghost use mathlib.Core.Path.{_≡_};
+ghost use Rattle.kinds.specs.Outcome.{outcome};
 ghost use Rattle.register.specs.Register.{added, withdrawn, rounded};
-ghost use Rattle.register.specs.Steps.{outcome};
 
 // Adds one allowed number. "On a register addition or withdrawal: 4, then 2 or 3 at place 0, then 9."
 pub fn add(register: &mut [u64], p: u64) -> Entry
@@ -23,9 +23,9 @@ pub fn add(register: &mut [u64], p: u64) -> Entry
         return Entry::Refused(fault, 0);
     }
     let before = range::sign(register);
-    finite::add(register, p);
+    addend::add(register, p);
     if range::left(p, before, range::sign(register)) {
-        finite::withdraw(register, p);
+        addend::withdraw(register, p);
         return Entry::Refused(9, 0);
     }
     Entry::Entered
@@ -35,7 +35,7 @@ pub fn add(register: &mut [u64], p: u64) -> Entry
 pub fn withdraw(register: &mut [u64], p: u64) -> Entry
     ensures { λ r. ⌜ outcome r (now (register .exit)) ≡ withdrawn (now (register .entry)) p ⌝ }
 {
-    add(register, finite::opposite(p))
+    add(register, addend::opposite(p))
 }
 
 // "Rounding a register follows the nearest rule; refusal 10 is given when its magnitude is 2^2098 - 2^2044 units or more."

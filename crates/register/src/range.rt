@@ -3,7 +3,7 @@ ghost use mathlib.Core.Path.{_≡_};
 ghost use Prim.Native.Nat.{_-_, _<_};
 ghost use lib.ListN.{length};
 ghost use Rattle.words.specs.Words.{wordCount};
-ghost use Rattle.register.specs.Steps.{signBit, leaves};
+ghost use Rattle.register.specs.Signs.{signBit, leaves};
 use kinds::SIGN;
 use words::WORDS;
 

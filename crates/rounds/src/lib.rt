@@ -1,1 +1,4 @@
-// One round of the faithful walk: definitions and theorems in specs/, no code. `blocks` and `closes` have the code.
+// One round of the faithful walk: how it opens, taking its blocks, and its close. Which block may be taken is no matter here.
+pub mod close;
+pub mod fresh;
+pub mod round;

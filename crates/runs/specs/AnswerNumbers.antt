@@ -16,7 +16,7 @@ use Rattle.kinds.specs.declared.Step.the-variants.{More, Done, Refused}
 use Rattle.kinds.specs.declared.Verdict.{Verdict}
 use Rattle.kinds.specs.declared.Verdict.the-variants as verdicts
 use Rattle.judge.specs.Judge.{judged}
-use Rattle.judge.specs.JudgeLaws.{given-when}
+use Rattle.judge.specs.JudgeLaws.{list-when}
 use Rattle.rounds.specs.Fitting.{Fitting}
 use Rattle.rounds.specs.Instances.{doubles-fit}
 use Rattle.walk.specs.Walk.{Walked, faithfulOf}
@@ -35,7 +35,7 @@ faithful-ended {W} F ps work = by (judged W (eqb (length work) (length ps)) true
   where
     by : (v : Verdict) → judged W (eqb (length work) (length ps)) true ps ≡ v → Ended W (faithfulOf W ps work .answer)
     by verdicts.Good g =
-        let S = faithful-promised F ps work (given-when W (eqb (length work) (length ps)) true ps verdicts.Good .0 g) in
+        let S = faithful-promised F ps work (list-when W (eqb (length work) (length ps)) true ps verdicts.Good .0 g) in
         subst (Ended W) (sym (S .answer)) (S .faithful .number, S .most)
     by (verdicts.Refused k p) g =
         let w = faithful-refused F ps work (Refused k p) work (opened-refused W _ k p ps work g) k p refl in

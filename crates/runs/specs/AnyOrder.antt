@@ -15,18 +15,19 @@ use Rattle.lists.specs.Apart.{apart}
 use Rattle.lists.specs.Bitset.{has, without, full}
 use Rattle.lists.specs.BitsetLaws.{has-full}
 use Rattle.kinds.specs.Limits.{Width, blocksOf}
+use Rattle.kinds.specs.Outcome.{outcome}
 use Rattle.kinds.specs.States.{stateOf}
 use Rattle.kinds.specs.declared.State.{State}
 use Rattle.kinds.specs.declared.Step.{Step}
 use Rattle.kinds.specs.declared.Step.the-variants.{More, Done, Refused}
 use Rattle.kinds.specs.declared.Verdict.the-variants.{Good}
 use Rattle.judge.specs.Judge.{floats}
-use Rattle.judge.specs.Table.{GivenWhen}
+use Rattle.judge.specs.Table.{ListWhen}
 use Rattle.extract.specs.Extract.{plusZero, remainders, gathered}
 use Rattle.rounds.specs.Round.{allZero, blockOf, roundOf, closed}
 use Rattle.rounds.specs.Fitting.{Fitting}
 use Rattle.rounds.specs.Begun.{Begun}
-use Rattle.walk.specs.Walk.{Walked, walked, opened, onward, rising, roundsFrom, faithfulOf}
+use Rattle.walk.specs.Walk.{Walked, opened, onward, rising, roundsFrom, faithfulOf}
 use Rattle.walk.specs.Run.{Running, allTaken, allLeft, all-taken, still, run-round, run-running, run-accepted, run-done}
 use Rattle.runs.specs.Taken.{pendingAt, mixed}
 use Rattle.runs.specs.TakenLaws.{mixed-nothing}
@@ -40,11 +41,11 @@ use Rattle.runs.specs.OpenedSum.{opened-zero, opened-round, opened-summi
 module _ {W : Width} {F : Fitting W} {e n : ℕ} {sigma t : Float} {rounds : ℕ} {xs : List Float} (B : Begun W F e n sigma t rounds xs) where
   -- the close, and the state and the area in the middle
   end : Walked
-  end = walked (closed W (stateOf n sigma t (gathered (W .format) sigma (plusZero (W .format)) xs) 0 rounds) (remainders (W .format) sigma xs))
+  end = outcome (closed W (stateOf n sigma t (gathered (W .format) sigma (plusZero (W .format)) xs) 0 rounds) (remainders (W .format) sigma xs))
       (remainders (W .format) sigma xs)
 
   at : ℕ → Float → Walked
-  at P tau = walked (More (stateOf n sigma t tau P rounds)) (mixed (W .format) sigma (pendingAt W P) 0 xs)
+  at P tau = outcome (More (stateOf n sigma t tau P rounds)) (mixed (W .format) sigma (pendingAt W P) 0 xs)
 
   -- after the last block nothing is left to take
   ended : (bs : List ℕ) (P : ℕ) → P ≡ 0 → T (once P bs) → foldl (onward W) end bs ≡ end
@@ -76,33 +77,33 @@ module _ {W : Width} {F : Fitting W} {e n : ℕ} {sigma t : Float} {rounds : ℕ
           let n = eqb-false (without P b) 0 z in
           ap (λ (w : Walked). foldl (onward W) w bs) (mid-goes B M b h n) ∙ k (omega (arith, n)) rest
 
-  pub round-any-order : (bs : List ℕ) → T (once (full (blocksOf W n)) bs) → foldl (onward W) (walked (More (roundOf W n sigma t rounds)) xs) bs
-      ≡ walked (closed W (stateOf n sigma t (gathered (W .format) sigma (plusZero (W .format)) xs) 0 rounds) (remainders (W .format) sigma xs))
+  pub round-any-order : (bs : List ℕ) → T (once (full (blocksOf W n)) bs) → foldl (onward W) (outcome (More (roundOf W n sigma t rounds)) xs) bs
+      ≡ outcome (closed W (stateOf n sigma t (gathered (W .format) sigma (plusZero (W .format)) xs) 0 rounds) (remainders (W .format) sigma xs))
       (remainders (W .format) sigma xs)
   unfolding roundOf at end
   round-any-order bs o =
       let P = full (blocksOf W n) in
       let blocks : 0 < blocksOf W n = let h = block-below B 0 (B .some) in omega arith in
       let whole = mixed-nothing (pendingAt W P) (W .format) sigma 0 xs (λ j l h. has-full (block-below B j (omega (arith, B .count)))) in
-      ap (λ (l : List Float). foldl (onward W) (walked (More (roundOf W n sigma t rounds)) l) bs) (sym whole)
+      ap (λ (l : List Float). foldl (onward W) (outcome (More (roundOf W n sigma t rounds)) l) bs) (sym whole)
       ∙ from bs P (plusZero (W .format)) (mid-begins B) (has-positive P 0 (has-full blocks)) o
 
 -- ---- rounds, each in an order of its own
-ordered-done : (W : Width) (π : ℕ → List ℕ) (k i : ℕ) (x : Float) (r : ℕ) (ys : List Float) → ordered W π k i (walked (Done x r) ys) ≡ walked (Done x r) ys
+ordered-done : (W : Width) (π : ℕ → List ℕ) (k i : ℕ) (x : Float) (r : ℕ) (ys : List Float) → ordered W π k i (outcome (Done x r) ys) ≡ outcome (Done x r) ys
 unfolding ordered
 ordered-done W π zero i x r ys = refl
 ordered-done W π (suc k) i x r ys = ap (ordered W π k (suc i)) (still W 0 x r ys (π i)) ∙ ordered-done W π k (suc i) x r ys
 
 module _ (W : Width) (F : Fitting W) (n : ℕ) (π : ℕ → List ℕ) (each : (i : ℕ) → T (once (full (blocksOf W n)) (π i))) where
   closing : {s : State} {xs : List Float} → Running W F n s xs → (i : ℕ)
-      → foldl (onward W) (walked (More s) xs) (π i) ≡ walked (closed W (allTaken W s xs) (allLeft W s xs)) (allLeft W s xs)
+      → foldl (onward W) (outcome (More s) xs) (π i) ≡ outcome (closed W (allTaken W s xs) (allLeft W s xs)) (allLeft W s xs)
   closing {s} {xs} R i =
-      (λ j. foldl (onward W) (walked (More (R .state j)) xs) (π i))
+      (λ j. foldl (onward W) (outcome (More (R .state j)) xs) (π i))
       ∙ round-any-order (R .begun) (π i) (each i)
-      ∙ ap (λ (q : State). walked (closed W q (allLeft W s xs)) (allLeft W s xs)) (all-taken R)
+      ∙ ap (λ (q : State). outcome (closed W q (allLeft W s xs)) (allLeft W s xs)) (all-taken R)
 
   ordered-run : (k i : ℕ) {s : State} {xs : List Float} → Running W F n s xs
-      → ordered W π k i (walked (More s) xs) ≡ roundsFrom W (blocksOf W n) k (walked (More s) xs)
+      → ordered W π k i (outcome (More s) xs) ≡ roundsFrom W (blocksOf W n) k (outcome (More s) xs)
   unfolding ordered roundsFrom
   ordered-run zero i R = refl
   ordered-run (suc k) i {s} {xs} R =
@@ -112,14 +113,14 @@ module _ (W : Width) (F : Fitting W) (n : ℕ) (π : ℕ → List ℕ) (each : (
     where
       agree : (q : Step) → closed W (allTaken W s xs) (allLeft W s xs) ≡ q
           → ((s' : State) → closed W (allTaken W s xs) (allLeft W s xs) ≡ More s'
-          → ordered W π k (suc i) (walked (More s') (allLeft W s xs)) ≡ roundsFrom W (blocksOf W n) k (walked (More s') (allLeft W s xs)))
-          → ordered W π k (suc i) (walked q (allLeft W s xs)) ≡ roundsFrom W (blocksOf W n) k (walked q (allLeft W s xs))
+          → ordered W π k (suc i) (outcome (More s') (allLeft W s xs)) ≡ roundsFrom W (blocksOf W n) k (outcome (More s') (allLeft W s xs)))
+          → ordered W π k (suc i) (outcome q (allLeft W s xs)) ≡ roundsFrom W (blocksOf W n) k (outcome q (allLeft W s xs))
       agree (Done x r) e h = ordered-done W π k (suc i) x r (allLeft W s xs) ∙ sym (run-done W (blocksOf W n) k x r (allLeft W s xs))
       agree (Refused j p) e h = absurd (run-accepted R j p e)
       agree (More s') e h = h s' e
 
 -- ---- with any order of blocks in each round, from the opening of an accepted list
-module _ {W : Width} (F : Fitting W) (ps : List ℕ) (work : List Float) (G : GivenWhen W (eqb (length work) (length ps)) true ps Good) where
+module _ {W : Width} (F : Fitting W) (ps : List ℕ) (work : List Float) (G : ListWhen W (eqb (length work) (length ps)) true ps Good) where
   pub any-order : (π : ℕ → List ℕ) → ((i : ℕ) → Perm (π i) (rising (blocksOf W (length ps))))
       → ordered W π (suc (W .rounds)) 0 (opened W ps work) ≡ faithfulOf W ps work
   unfolding roundOf

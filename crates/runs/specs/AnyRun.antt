@@ -8,39 +8,40 @@ use lib.Dec.{eqb}
 use lib.ListN.{length}
 use lib.Ieee.{Float}
 use Rattle.kinds.specs.Limits.{Width, blocksOf}
+use Rattle.kinds.specs.Outcome.{outcome}
 use Rattle.kinds.specs.declared.State.{State}
 use Rattle.kinds.specs.declared.Step.{Step}
 use Rattle.kinds.specs.declared.Step.the-variants.{More, Done, Refused}
 use Rattle.kinds.specs.declared.Verdict.the-variants.{Good}
-use Rattle.judge.specs.Table.{GivenWhen}
+use Rattle.judge.specs.Table.{ListWhen}
 use Rattle.rounds.specs.Fitting.{Fitting}
-use Rattle.walk.specs.Walk.{Walked, walked, opened, onward, rising, stepped, faithfulOf}
+use Rattle.walk.specs.Walk.{Walked, opened, onward, rising, stepped, faithfulOf}
 use Rattle.runs.specs.Runs.{heeded, tried, runOf, ordered, joined}
 use Rattle.runs.specs.Faithful.{faithful-promised}
 use Rattle.runs.specs.AnyOrder.{any-order}
 
 module _ (W : Width) where
-  ended : (x : Float) (k : ℕ) (ys : List Float) (m : ℕ) (bs : List ℕ) → foldl (tried W) (record { walk = walked (Done x k) ys; steps = m }) bs .walk
-      ≡ foldl (onward W) (walked (Done x k) ys) bs
+  ended : (x : Float) (k : ℕ) (ys : List Float) (m : ℕ) (bs : List ℕ) → foldl (tried W) (record { walk = outcome (Done x k) ys; steps = m }) bs .walk
+      ≡ foldl (onward W) (outcome (Done x k) ys) bs
   ended x k ys m [] = refl
   ended x k ys m (b ∷ bs) = ended x k ys m bs
 
-  stuck : (k p : ℕ) (ys : List Float) (bs : List ℕ) → foldl (onward W) (walked (Refused k p) ys) bs .answer ≡ Refused k p
+  stuck : (k p : ℕ) (ys : List Float) (bs : List ℕ) → foldl (onward W) (outcome (Refused k p) ys) bs .answer ≡ Refused k p
   stuck k p ys [] = refl
   stuck k p ys (b ∷ bs) = stuck k p ys bs
 
-  along : (bs : List ℕ) (a : Step) (ys : List Float) (m : ℕ) → ((k p : ℕ) → foldl (onward W) (walked a ys) bs .answer ≡ Refused k p → ⊥)
-      → foldl (tried W) (record { walk = walked a ys; steps = m }) bs .walk ≡ foldl (onward W) (walked a ys) bs
+  along : (bs : List ℕ) (a : Step) (ys : List Float) (m : ℕ) → ((k p : ℕ) → foldl (onward W) (outcome a ys) bs .answer ≡ Refused k p → ⊥)
+      → foldl (tried W) (record { walk = outcome a ys; steps = m }) bs .walk ≡ foldl (onward W) (outcome a ys) bs
   along [] a ys m h = refl
   along (b ∷ bs) (Done x k) ys m h = ended x k ys m (b ∷ bs)
   along (b ∷ bs) (Refused k p) ys m h = absurd (h k p (stuck k p ys (b ∷ bs)))
-  along (b ∷ bs) (More s) ys m h = after (stepped W s b ys .answer) (stepped W s b ys .work) (λ s' zs. along bs (More s') zs (m + 1)) h
+  along (b ∷ bs) (More s) ys m h = after (stepped W s b ys .answer) (stepped W s b ys .area) (λ s' zs. along bs (More s') zs (m + 1)) h
     where
       after : (q : Step) (zs : List Float)
-          → ((s' : State) (zs : List Float) → ((k p : ℕ) → foldl (onward W) (walked (More s') zs) bs .answer ≡ Refused k p → ⊥)
-          → foldl (tried W) (record { walk = walked (More s') zs; steps = m + 1 }) bs .walk ≡ foldl (onward W) (walked (More s') zs) bs)
-          → ((k p : ℕ) → foldl (onward W) (walked q zs) bs .answer ≡ Refused k p → ⊥)
-          → foldl (tried W) (heeded (record { walk = walked (More s) ys; steps = m }) (walked q zs)) bs .walk ≡ foldl (onward W) (walked q zs) bs
+          → ((s' : State) (zs : List Float) → ((k p : ℕ) → foldl (onward W) (outcome (More s') zs) bs .answer ≡ Refused k p → ⊥)
+          → foldl (tried W) (record { walk = outcome (More s') zs; steps = m + 1 }) bs .walk ≡ foldl (onward W) (outcome (More s') zs) bs)
+          → ((k p : ℕ) → foldl (onward W) (outcome q zs) bs .answer ≡ Refused k p → ⊥)
+          → foldl (tried W) (heeded (record { walk = outcome (More s) ys; steps = m }) (outcome q zs)) bs .walk ≡ foldl (onward W) (outcome q zs) bs
       after (More s') zs i h = i s' zs h
       after (Done x k) zs i h = ended x k zs (m + 1) bs
       after (Refused k p) zs i h = absurd (h k p (stuck k p zs bs))
@@ -51,14 +52,14 @@ module _ (W : Width) where
   chained π (suc k) i w = chained π k (suc i) (foldl (onward W) w (π i)) ∙ sym (foldl-append (onward W) w (π i) (joined π k (suc i)))
 
 -- "for every sequence of permutations of the blocks, one per round, that run exists and finishes"
-module _ {W : Width} (F : Fitting W) (ps : List ℕ) (work : List Float) (G : GivenWhen W (eqb (length work) (length ps)) true ps Good) where
+module _ {W : Width} (F : Fitting W) (ps : List ℕ) (work : List Float) (G : ListWhen W (eqb (length work) (length ps)) true ps Good) where
   pub any-run : (π : ℕ → List ℕ) → ((i : ℕ) → Perm (π i) (rising (blocksOf W (length ps))))
       → runOf W ps work (joined π (suc (W .rounds)) 0) .walk ≡ faithfulOf W ps work
   any-run π each =
       let w = opened W ps work in
       let e : foldl (onward W) w (joined π (suc (W .rounds)) 0) ≡ faithfulOf W ps work =
       sym (chained W π (suc (W .rounds)) 0 w) ∙ any-order F ps work G π each in
-      along W (joined π (suc (W .rounds)) 0) (w .answer) (w .work) 0 (λ k p h. never k p (sym (ap (λ (q : Walked). q .answer) e) ∙ h)) ∙ e
+      along W (joined π (suc (W .rounds)) 0) (w .answer) (w .area) 0 (λ k p h. never k p (sym (ap (λ (q : Walked). q .answer) e) ∙ h)) ∙ e
     where
       never : (k p : ℕ) → faithfulOf W ps work .answer ≡ Refused k p → ⊥
       never k p h =

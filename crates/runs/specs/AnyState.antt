@@ -40,4 +40,4 @@ Answered W (Refused k p) = ⊥
 
 pub record Stepped (W : Width) (w : Walked) : Type 0 where
   pub answer : Answered W (w .answer)
-  pub work : Each (Number (W .format)) (w .work)
+  pub work : Each (Number (W .format)) (w .area)

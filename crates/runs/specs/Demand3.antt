@@ -36,21 +36,21 @@ pub record Closing (W : Width) (ps : List ℕ) (t tau : Float) (left : List Floa
 pub record Going (W : Width) (ps : List ℕ) (r : Ran) (s : State) : Type 0 where
   pub count : s .n ≡ length ps
   -- "Every state of a run is sound."
-  pub sound : sound W s (r .walk .work) ≡ true
+  pub sound : sound W s (r .walk .area) ≡ true
   -- "A pending block is never refused; any other block number is refused with 6 or 7 .., and a refusal changes nothing."
-  pub accepts : (b : ℕ) → has (s .pending) b ≡ true → gated W s b (r .walk .work) ≡ Good
-  pub refuses : (b : ℕ) → has (s .pending) b ≡ false → gated W s b (r .walk .work) ≡ Refused (cond (leb (blocksOf W (s .n)) b) 6 7) 0
+  pub accepts : (b : ℕ) → has (s .pending) b ≡ true → gated W s b (r .walk .area) ≡ Good
+  pub refuses : (b : ℕ) → has (s .pending) b ≡ false → gated W s b (r .walk .area) ≡ Refused (cond (leb (blocksOf W (s .n)) b) 6 7) 0
   pub unchanged : (b : ℕ) → has (s .pending) b ≡ false → tried W r b ≡ r
   -- "An accepted step turns exactly its own block's numbers into their remainders": `Places` says it of each place
-  pub turns : (b : ℕ) → has (s .pending) b ≡ true → tried W r b .walk .work ≡ turned W (s .sigma) b (r .walk .work)
+  pub turns : (b : ℕ) → has (s .pending) b ≡ true → tried W r b .walk .area ≡ turned W (s .sigma) b (r .walk .area)
   -- "For each place both subtractions are exact", and document 01: "the additions to tau are exact and tau is never -0"
-  pub exact : Each (Exact (W .format) (s .sigma)) (r .walk .work)
-  pub gathers : (b : ℕ) → has (s .pending) b ≡ true → ExactSums (W .format) (s .sigma) (s .tau) (blockOf W b (r .walk .work))
+  pub exact : Each (Exact (W .format) (s .sigma)) (r .walk .area)
+  pub gathers : (b : ℕ) → has (s .pending) b ≡ true → ExactSums (W .format) (s .sigma) (s .tau) (blockOf W b (r .walk .area))
   pub plus : magnitude (W .format) (s .tau) ≡ 0 → negative (s .tau) ≡ false
   -- document 01: "t plus tau plus all work numbers is S exactly"
-  pub conserves : value (W .format) (s .t) +ℤ value (W .format) (s .tau) +ℤ exactSum (map (value (W .format)) (r .walk .work)) ≡ sumOf (W .format) ps
+  pub conserves : value (W .format) (s .t) +ℤ value (W .format) (s .tau) +ℤ exactSum (map (value (W .format)) (r .walk .area)) ≡ sumOf (W .format) ps
   pub closes : (b : ℕ) → has (s .pending) b ≡ true → without (s .pending) b ≡ 0
-      → Closing W ps (s .t) (gathered (W .format) (s .sigma) (s .tau) (blockOf W b (r .walk .work))) (tried W r b .walk .work)
+      → Closing W ps (s .t) (gathered (W .format) (s .sigma) (s .tau) (blockOf W b (r .walk .area))) (tried W r b .walk .area)
   -- the accepted steps are those of the rounds closed, and the blocks taken since
   pub steps : r .steps + members (s .pending) (blocksOf W (s .n)) ≡ s .rounds * blocksOf W (s .n) + blocksOf W (s .n)
   pub rounds : s .rounds ≤ W .rounds

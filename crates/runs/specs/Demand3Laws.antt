@@ -15,7 +15,8 @@ use Rattle.kinds.specs.Limits.{Width, exponentOf, blocksOf}
 use Rattle.kinds.specs.declared.State.{State}
 use Rattle.kinds.specs.declared.Step.the-variants.{More, Done}
 use Rattle.kinds.specs.declared.Verdict.the-variants.{Good}
-use Rattle.judge.specs.Table.{GivenWhen}
+use Rattle.judge.specs.Table.{ListWhen}
+use Rattle.judge.specs.JudgeLaws.{list-passed}
 use Rattle.judge.specs.Judge.{floats}
 use Rattle.rounds.specs.Round.{allZero}
 use Rattle.rounds.specs.Fitting.{Fitting}
@@ -29,7 +30,7 @@ use Rattle.runs.specs.GoingLaws.{goes-on, bounded}
 
 module _ {W : Width} (F : Fitting W) (ps : List ℕ) (work : List Float) where
   -- ---- a run that has finished
-  module _ (r : Ran) (O : Over W F ps work r) (G : GivenWhen W (eqb (length work) (length ps)) true ps Good) where
+  module _ (r : Ran) (O : Over W F ps work r) (G : ListWhen W (eqb (length work) (length ps)) true ps Good) where
     finishes : (x : Float) (k : ℕ) → r .walk .answer ≡ Done x k → Finished W (F .top) ps work r x k
     finishes x k h = record {
       undivided = O .undivided;
@@ -63,13 +64,13 @@ module _ {W : Width} (F : Fitting W) (ps : List ℕ) (work : List Float) where
         few (suc j) e =
             let p = prec (W .format) in
             let M = exponentOf (length ps) in
-            let apart : M < p = omega (arith, F .most-is (length ps) (G .0 .few), F .half) in
+            let apart : M < p = omega (arith, F .most-is (length ps) (list-passed G .few), F .half) in
             let l : j * (p - M) ≤ F .top + 1 - p + M + (p - M - 1) = omega (arith, O .lowered j e) in
             let d = le-div-iff-mul-le {k = p - M} {x = j} {y = F .top + 1 - p + M + (p - M - 1)} (omega arith) .1 l in
             omega arith
 
   -- ---- every run over an accepted list
-  module _ (G : GivenWhen W (eqb (length work) (length ps)) true ps Good) (bs : List ℕ) where
+  module _ (G : ListWhen W (eqb (length work) (length ps)) true ps Good) (bs : List ℕ) where
     reached : Reached W F ps work (runOf W ps work bs)
     reached = reached-run W F ps work bs _ (reached-opens W F ps work G)
 
@@ -117,7 +118,7 @@ module _ {W : Width} (F : Fitting W) (ps : List ℕ) (work : List Float) where
         stays [] = refl
         stays (b ∷ bs) = ap (λ (r : Ran). foldl (tried W) r bs) (still b) ∙ stays bs
 
-module _ {W : Width} (F : Fitting W) (ps : List ℕ) (work : List Float) (G : GivenWhen W (eqb (length work) (length ps)) true ps Good) (bs : List ℕ) where
+module _ {W : Width} (F : Fitting W) (ps : List ℕ) (work : List Float) (G : ListWhen W (eqb (length work) (length ps)) true ps Good) (bs : List ℕ) where
   -- "from each state of a run the steps left are bounded": those of the rounds that it may still open, and of its pending blocks
   pub run-left : (s : State) → runOf W ps work bs .walk .answer ≡ More s → (cs : List ℕ)
       → runOf W ps work (bs ++ cs) .steps

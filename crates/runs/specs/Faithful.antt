@@ -17,7 +17,7 @@ use Rattle.kinds.specs.Limits.{Width, blocksOf}
 use Rattle.kinds.specs.declared.Step.the-variants.{Done}
 use Rattle.kinds.specs.declared.Verdict.the-variants.{Good}
 use Rattle.judge.specs.Judge.{floats, zeroSign}
-use Rattle.judge.specs.Table.{GivenWhen}
+use Rattle.judge.specs.Table.{ListWhen}
 use Rattle.sums.specs.Sums.{sumOf}
 use Rattle.rounds.specs.Round.{allZero, roundOf}
 use Rattle.rounds.specs.Fitting.{Fitting}
@@ -34,7 +34,7 @@ pub record FaithfulSum (W : Width) (ps : List ℕ) (w : Walked) : Type 0 where
   pub faithful : FaithfulTo (W .format) (sumOf (W .format) ps) sum
   pub most : rounds ≤ suc (W .rounds)
 
-module _ {W : Width} (F : Fitting W) (ps : List ℕ) (work : List Float) (G : GivenWhen W (eqb (length work) (length ps)) true ps Good) where
+module _ {W : Width} (F : Fitting W) (ps : List ℕ) (work : List Float) (G : ListWhen W (eqb (length work) (length ps)) true ps Good) where
   zeros : allZero (W .format) (floats W ps) ≡ true → FaithfulSum W ps (faithfulOf W ps work)
   zeros a = record {
     sum = zeroOf W ps;

@@ -19,6 +19,7 @@ use Rattle.lists.specs.Bitset.{has, without}
 use Rattle.lists.specs.BitsetLaws.{has-below}
 use Rattle.lists.specs.Each.{Each, each-weaker, each-take, each-drop}
 use Rattle.kinds.specs.Limits.{Width, blocksOf}
+use Rattle.kinds.specs.Outcome.{outcome}
 use Rattle.kinds.specs.States.{stateOf}
 use Rattle.kinds.specs.declared.State.{State}
 use Rattle.kinds.specs.declared.Step.{Step}
@@ -33,7 +34,7 @@ use Rattle.rounds.specs.Fitting.{Fitting}
 use Rattle.rounds.specs.InUnits.{Small, wholes, taken-exact, gathers-exact}
 use Rattle.rounds.specs.Exactness.{Exact, ExactSums}
 use Rattle.rounds.specs.Begun.{begun-rounds}
-use Rattle.walk.specs.Walk.{Walked, walked, taken}
+use Rattle.walk.specs.Walk.{Walked, taken}
 use Rattle.walk.specs.StepLaws.{stepped-good}
 use Rattle.walk.specs.NoRefusal.{verdictOf, taken-accepted}
 use Rattle.walk.specs.Stepping.{stepping-sound}
@@ -69,16 +70,16 @@ sums-to f x y xs S h =
     ∙ int-difference S
 
 -- a step that the gate lets pass turns its block
-accepted-turns : (W : Width) (r : Ran) (s : State) (xs : List Float) (b : ℕ) → r .walk ≡ walked (More s) xs → gated W s b xs ≡ Good
-    → tried W r b .walk .work ≡ turned W (s .sigma) b xs
+accepted-turns : (W : Width) (r : Ran) (s : State) (xs : List Float) (b : ℕ) → r .walk ≡ outcome (More s) xs → gated W s b xs ≡ Good
+    → tried W r b .walk .area ≡ turned W (s .sigma) b xs
 unfolding taken
-accepted-turns W r s xs b e g = ap (λ (q : Ran). q .walk .work) (tried-more W r b s xs e ∙ ap (heeded r) (sym (stepped-good W s b xs (gated W s b xs) g)))
+accepted-turns W r s xs b e g = ap (λ (q : Ran). q .walk .area) (tried-more W r b s xs e ∙ ap (heeded r) (sym (stepped-good W s b xs (gated W s b xs) g)))
     ∙ kept (taken W s b xs) refl (taken-accepted W s b xs .good)
   where
-    kept : (w : Walked) → w .work ≡ turned W (s .sigma) b xs → verdictOf (w .answer) ≡ Good → heeded r w .walk .work ≡ turned W (s .sigma) b xs
+    kept : (w : Walked) → w .area ≡ turned W (s .sigma) b xs → verdictOf (w .answer) ≡ Good → heeded r w .walk .area ≡ turned W (s .sigma) b xs
     kept w h v = go (w .answer) refl v
       where
-        go : (a : Step) → w .answer ≡ a → verdictOf a ≡ Good → heeded r w .walk .work ≡ turned W (s .sigma) b xs
+        go : (a : Step) → w .answer ≡ a → verdictOf a ≡ Good → heeded r w .walk .area ≡ turned W (s .sigma) b xs
         go (More q) i v = rw i h
         go (Done x k) i v = rw i h
         go (Refused k p) i v = apart (cc)
@@ -149,7 +150,7 @@ module _ {W : Width} (F : Fitting W) (ps : List ℕ) (work : List Float) where
         ∙ ap (λ (P : ℕ). mixed (W .format) (D .sigma) (pendingAt W P) 0 (D .xs)) z
         ∙ all-left (D .summing .begun)
 
-    during : Going W ps (record { walk = walked (More at) area; steps = r .steps }) at
+    during : Going W ps (record { walk = outcome (More at) area; steps = r .steps }) at
     unfolding at area
     during = record {
       count = refl;
@@ -187,7 +188,7 @@ module _ {W : Width} (F : Fitting W) (ps : List ℕ) (work : List Float) where
     goes-on s h =
         let m : More at ≡ More s = sym (ap (λ (w : Walked). w .answer) (D .walk)) ∙ h in
         let e : at ≡ s = cc in
-        let whole : record { walk = walked (More at) area; steps = r .steps } ≡ r = λ i. record { walk = sym (D .walk) i; steps = r .steps } in
+        let whole : record { walk = outcome (More at) area; steps = r .steps } ≡ r = λ i. record { walk = sym (D .walk) i; steps = r .steps } in
         subst (λ (q : State). Going W ps r q) e (subst (λ (q : Ran). Going W ps q at) whole during)
 
     pub bounded : r .steps ≤ suc (W .rounds) * blocksOf W (length ps)

@@ -11,7 +11,7 @@ use Rattle.kinds.specs.Limits.{Width, doubles, blocksOf}
 use Rattle.kinds.specs.declared.State.{State}
 use Rattle.kinds.specs.declared.Step.the-variants.{More, Done}
 use Rattle.kinds.specs.declared.Verdict.the-variants.{Good}
-use Rattle.judge.specs.Table.{GivenWhen}
+use Rattle.judge.specs.Table.{ListWhen}
 use Rattle.rounds.specs.Instances.{doubles-fit, singles, singles-fit}
 use Rattle.sound.specs.Sound.{gated}
 use Rattle.walk.specs.Walk.{opened, rising, stepped, faithfulOf}
@@ -25,7 +25,7 @@ use Rattle.runs.specs.Demand3Laws.{run-goes, run-finishes, run-bounded, 
 
 -- an accepted list of either width
 abbrev pub Accepted : Width → List ℕ → List Float → Type 0
-Accepted W ps work = GivenWhen W (eqb (length work) (length ps)) true ps Good
+Accepted W ps work = ListWhen W (eqb (length work) (length ps)) true ps Good
 
 -- ---- a step over any sound state
 pub any-state-64 : (s : State) (b : ℕ) (xs : List Float) → Floats doubles s xs → gated doubles s b xs ≡ Good → Stepped doubles (stepped doubles s b xs)

@@ -22,6 +22,7 @@ use Rattle.lists.specs.Apart.{apart}
 use Rattle.lists.specs.Bitset.{has, without}
 use Rattle.lists.specs.BitsetLaws.{has-below}
 use Rattle.kinds.specs.Limits.{Width, exponentOf, blocksOf}
+use Rattle.kinds.specs.Outcome.{outcome}
 use Rattle.kinds.specs.States.{stateOf}
 use Rattle.kinds.specs.declared.Step.the-variants.{More}
 use Rattle.kinds.specs.declared.Verdict.the-variants.{Good, Refused}
@@ -31,7 +32,7 @@ use Rattle.rounds.specs.Round.{blockOf, takenState, closed}
 use Rattle.rounds.specs.Fitting.{Fitting}
 use Rattle.rounds.specs.InUnits.{Tau, wholes, all-ready, gathers}
 use Rattle.rounds.specs.Begun.{Begun, first-tau}
-use Rattle.walk.specs.Walk.{walked, stepped}
+use Rattle.walk.specs.Walk.{stepped}
 use Rattle.walk.specs.StepLaws.{stepped-good, taken-closes, taken-goes}
 use Rattle.walk.specs.Stepping.{stepping-sound, stepping-accepted}
 use Rattle.runs.specs.CloseUnits.{zero-whole}
@@ -96,7 +97,7 @@ module _ {W : Width} {F : Fitting W} {e n : ℕ} {sigma t : Float} {rounds : ℕ
   -- it isn't the last
   pub mid-goes : {P : ℕ} {tau : Float} → Mid B P tau → (b : ℕ) → has P b ≡ true → (without P b ≡ 0 → ⊥)
       → stepped W (stateOf n sigma t tau P rounds) b (mixed (W .format) sigma (pendingAt W P) 0 xs)
-      ≡ walked (More (stateOf n sigma t (gathered (W .format) sigma tau (blockOf W b xs)) (without P b) rounds))
+      ≡ outcome (More (stateOf n sigma t (gathered (W .format) sigma tau (blockOf W b xs)) (without P b) rounds))
       (mixed (W .format) sigma (pendingAt W (without P b)) 0 xs)
   mid-goes {P} {tau} T b h z =
       let s = stateOf n sigma t tau P rounds in
@@ -108,7 +109,7 @@ module _ {W : Width} {F : Fitting W} {e n : ℕ} {sigma t : Float} {rounds : ℕ
   -- it is
   pub mid-closes : {P : ℕ} {tau : Float} → Mid B P tau → (b : ℕ) → has P b ≡ true → without P b ≡ 0
       → stepped W (stateOf n sigma t tau P rounds) b (mixed (W .format) sigma (pendingAt W P) 0 xs)
-      ≡ walked (closed W (stateOf n sigma t (gathered (W .format) sigma (plusZero (W .format)) xs) 0 rounds) (remainders (W .format) sigma xs))
+      ≡ outcome (closed W (stateOf n sigma t (gathered (W .format) sigma (plusZero (W .format)) xs) 0 rounds) (remainders (W .format) sigma xs))
       (remainders (W .format) sigma xs)
   mid-closes {P} {tau} T b h z =
       let s = stateOf n sigma t tau P rounds in
@@ -118,7 +119,7 @@ module _ {W : Width} {F : Fitting W} {e n : ℕ} {sigma t : Float} {rounds : ℕ
       let area = ap (λ (Q : ℕ). mixed (W .format) sigma (pendingAt W Q) 0 xs) z ∙ all-left in
       sym (stepped-good W s b work (gated W s b work) (mid-accepted T b h))
       ∙ sym (taken-closes W s b work next _ (sym (step-state T b h)) (sym (own-block W (F .block) xs b (there T b h) P h sigma)) _ z refl)
-      ∙ (λ i. walked (closed W (stateOf n sigma t (last i) (z i) rounds) (area i)) (area i))
+      ∙ (λ i. outcome (closed W (stateOf n sigma t (last i) (z i) rounds) (area i)) (area i))
 
   -- a block that isn't pending is refused with 6 or 7
   pub mid-refused : {P : ℕ} {tau : Float} → Mid B P tau → 0 < P → (b : ℕ) → has P b ≡ false

@@ -18,13 +18,14 @@ use Rattle.units.specs.Turns as turns
 use Rattle.ieee.specs.Units.{whole, nearestFloat}
 use Rattle.ieee.specs.Sum.{value-int}
 use Rattle.kinds.specs.Limits.{Width, exponentOf}
+use Rattle.kinds.specs.Outcome.{outcome}
 use Rattle.kinds.specs.declared.Step.{Step}
 use Rattle.kinds.specs.declared.Step.the-variants.{More, Done}
 use Rattle.kinds.specs.declared.Verdict.{Verdict}
 use Rattle.kinds.specs.declared.Verdict.the-variants.{Good}
 use Rattle.judge.specs.Judge.{floats, zeroSign}
-use Rattle.judge.specs.Table.{GivenWhen}
-use Rattle.judge.specs.JudgeLaws.{given-when}
+use Rattle.judge.specs.Table.{ListWhen}
+use Rattle.judge.specs.JudgeLaws.{list-when, list-passed, list-allowed}
 use Rattle.sums.specs.Sums.{sumOf}
 use Rattle.extract.specs.Extract.{plusZero, largest}
 use Rattle.rounds.specs.Round.{allZero, sigmaOf, roundOf, fresh}
@@ -32,7 +33,7 @@ use Rattle.rounds.specs.ClosedLaws.{fresh-zero, fresh-round}
 use Rattle.rounds.specs.Fitting.{Fitting}
 use Rattle.rounds.specs.InUnits.{wholes, all-ready}
 use Rattle.rounds.specs.Begun.{Begun}
-use Rattle.walk.specs.Walk.{walked, openedAfter, opened}
+use Rattle.walk.specs.Walk.{openedAfter, opened}
 use Rattle.walk.specs.OpeningLaws.{opened-good}
 use Rattle.walk.specs.Opening.{opens}
 use Rattle.runs.specs.CloseUnits.{zero-whole}
@@ -53,15 +54,15 @@ sum-wholes W ps = int-back _ _ (sym (sum-total (wholes f (floats W ps))) ∙ sam
 abbrev pub zeroOf : Width → List ℕ → Float
 zeroOf W ps = nearestFloat (W .format) (zeroSign ps) (pos 0)
 
-module _ {W : Width} (F : Fitting W) (ps : List ℕ) (work : List Float) (G : GivenWhen W (eqb (length work) (length ps)) true ps Good) where
-  opened-is : opened W ps work ≡ walked (fresh W (zeroOf W ps) (length ps) (floats W ps) 0) (floats W ps)
+module _ {W : Width} (F : Fitting W) (ps : List ℕ) (work : List Float) (G : ListWhen W (eqb (length work) (length ps)) true ps Good) where
+  opened-is : opened W ps work ≡ outcome (fresh W (zeroOf W ps) (length ps) (floats W ps) 0) (floats W ps)
   opened-is =
-      ap (λ (v : Verdict). openedAfter W v ps work) (given-when W (eqb (length work) (length ps)) true ps Good .1 G)
+      ap (λ (v : Verdict). openedAfter W v ps work) (list-when W (eqb (length work) (length ps)) true ps Good .1 G)
       ∙ sym (opened-good W ps work (floats W ps) (zeroOf W ps) _ refl refl refl)
 
   -- ---- every number is zero
-  pub opened-zero : allZero (W .format) (floats W ps) ≡ true → opened W ps work ≡ walked (Done (zeroOf W ps) 0) (floats W ps)
-  opened-zero a = opened-is ∙ ap (λ (q : Step). walked q (floats W ps)) (fresh-zero W (zeroOf W ps) (length ps) (floats W ps) 0 a)
+  pub opened-zero : allZero (W .format) (floats W ps) ≡ true → opened W ps work ≡ outcome (Done (zeroOf W ps) 0) (floats W ps)
+  opened-zero a = opened-is ∙ ap (λ (q : Step). outcome q (floats W ps)) (fresh-zero W (zeroOf W ps) (length ps) (floats W ps) 0 a)
 
   pub zero-sum : allZero (W .format) (floats W ps) ≡ true → sumOf (W .format) ps ≡ pos 0
   zero-sum a =
@@ -72,8 +73,8 @@ module _ {W : Width} (F : Fitting W) (ps : List ℕ) (work : List Float) (G : Gi
 
   -- ---- the first round opens
   pub opened-round : allZero (W .format) (floats W ps) ≡ false
-      → opened W ps work ≡ walked (More (roundOf W (length ps) (sigmaOf (W .format) (length ps) (floats W ps)) (plusZero (W .format)) 0)) (floats W ps)
-  opened-round a = opened-is ∙ ap (λ (q : Step). walked q (floats W ps)) (fresh-round W (zeroOf W ps) (length ps) (floats W ps) 0 a)
+      → opened W ps work ≡ outcome (More (roundOf W (length ps) (sigmaOf (W .format) (length ps) (floats W ps)) (plusZero (W .format)) 0)) (floats W ps)
+  opened-round a = opened-is ∙ ap (λ (q : Step). outcome q (floats W ps)) (fresh-round W (zeroOf W ps) (length ps) (floats W ps) 0 a)
 
   pub opened-summing : allZero (W .format) (floats W ps) ≡ false
       → Summing W F (difference (sumOf (W .format) ps)) (ceil (largest (W .format) (floats W ps))) (length ps)
@@ -81,7 +82,7 @@ module _ {W : Width} (F : Fitting W) (ps : List ℕ) (work : List Float) (G : Gi
   opened-summing a =
       let f = W .format in
       let xs = floats W ps in
-      let B : Begun W F (ceil (largest f xs)) (length ps) (sigmaOf f (length ps) xs) (plusZero f) 0 xs = opens (G .1) F (G .0 .few) a in
+      let B : Begun W F (ceil (largest f xs)) (length ps) (sigmaOf f (length ps) xs) (plusZero f) 0 xs = opens (list-allowed G) F (list-passed G .few) a in
       let O : units.Opened (prec f) (exponentOf (length ps)) (length (wholes f xs)) (ceil (largest f xs)) (total (wholes f xs)) (nat 0) (wholes f xs) =
       turns.opens (all-ready (B .scale) xs (B .work)) in
       record {

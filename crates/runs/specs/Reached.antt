@@ -16,19 +16,20 @@ use Rattle.units.specs.Whole.{difference}
 use Rattle.lists.specs.Bitset.{has, without, full}
 use Rattle.lists.specs.BitsetLaws.{has-below, has-full}
 use Rattle.kinds.specs.Limits.{Width, exponentOf, blocksOf}
+use Rattle.kinds.specs.Outcome.{outcome}
 use Rattle.kinds.specs.States.{stateOf}
 use Rattle.kinds.specs.declared.State.{State}
 use Rattle.kinds.specs.declared.Step.{Step}
 use Rattle.kinds.specs.declared.Step.the-variants.{More, Done, Refused}
 use Rattle.kinds.specs.declared.Verdict.the-variants.{Good}
 use Rattle.judge.specs.Judge.{floats}
-use Rattle.judge.specs.Table.{GivenWhen}
+use Rattle.judge.specs.Table.{ListWhen}
 use Rattle.sums.specs.Sums.{sumOf}
 use Rattle.extract.specs.Extract.{plusZero, remainders, gathered}
 use Rattle.rounds.specs.Round.{allZero, blockOf, roundOf, closed}
 use Rattle.rounds.specs.Fitting.{Fitting}
 use Rattle.rounds.specs.Begun.{begun-rounds}
-use Rattle.walk.specs.Walk.{Walked, walked, opened, roundsFrom, stepped, faithfulOf}
+use Rattle.walk.specs.Walk.{Walked, opened, roundsFrom, stepped, faithfulOf}
 use Rattle.walk.specs.Undivided.{faithful-done}
 use Rattle.sound.specs.Sound.{gated}
 use Rattle.walk.specs.StepLaws.{stepped-refused}
@@ -44,7 +45,7 @@ use Rattle.runs.specs.Runs.{Ran, heeded, tried}
 use Rattle.runs.specs.MembersLaws.{members-none, members-full, members-without}
 use Rattle.runs.specs.Runs.{members}
 
-pub tried-more : (W : Width) (r : Ran) (b : ℕ) (s : State) (xs : List Float) → r .walk ≡ walked (More s) xs → tried W r b ≡ heeded r (stepped W s b xs)
+pub tried-more : (W : Width) (r : Ran) (b : ℕ) (s : State) (xs : List Float) → r .walk ≡ outcome (More s) xs → tried W r b ≡ heeded r (stepped W s b xs)
 tried-more W r b s xs e = rw e
 
 module _ (W : Width) (F : Fitting W) (ps : List ℕ) (work : List Float) where
@@ -60,9 +61,9 @@ module _ (W : Width) (F : Fitting W) (ps : List ℕ) (work : List Float) where
     pub tau : Float
     pub mid : Mid (summing .begun) pending tau
     pub some : 0 < pending
-    pub walk : r .walk ≡ walked (More (stateOf (length ps) sigma t tau pending rounds)) (mixed (W .format) sigma (pendingAt W pending) 0 xs)
+    pub walk : r .walk ≡ outcome (More (stateOf (length ps) sigma t tau pending rounds)) (mixed (W .format) sigma (pendingAt W pending) 0 xs)
     pub steps : r .steps + members pending (blocksOf W (length ps)) ≡ rounds * blocksOf W (length ps) + blocksOf W (length ps)
-    pub rest : roundsFrom W (blocksOf W (length ps)) (suc (W .rounds) - rounds) (walked (More (roundOf W (length ps) sigma t rounds)) xs)
+    pub rest : roundsFrom W (blocksOf W (length ps)) (suc (W .rounds) - rounds) (outcome (More (roundOf W (length ps) sigma t rounds)) xs)
         ≡ faithfulOf W ps work
 
   -- ended, as the undivided call does
@@ -79,8 +80,8 @@ module _ (W : Width) (F : Fitting W) (ps : List ℕ) (work : List Float) where
 
   -- ---- as a round opens
   opening : {e : ℕ} {sigma t : Float} {rounds : ℕ} {xs : List Float} (A : Summing W F (difference (sumOf (W .format) ps)) e (length ps) sigma t rounds xs)
-      (r : Ran) → r .walk ≡ walked (More (roundOf W (length ps) sigma t rounds)) xs → r .steps ≡ rounds * blocksOf W (length ps)
-      → roundsFrom W (blocksOf W (length ps)) (suc (W .rounds) - rounds) (walked (More (roundOf W (length ps) sigma t rounds)) xs) ≡ faithfulOf W ps work
+      (r : Ran) → r .walk ≡ outcome (More (roundOf W (length ps) sigma t rounds)) xs → r .steps ≡ rounds * blocksOf W (length ps)
+      → roundsFrom W (blocksOf W (length ps)) (suc (W .rounds) - rounds) (outcome (More (roundOf W (length ps) sigma t rounds)) xs) ≡ faithfulOf W ps work
       → During r
   unfolding roundOf
   opening {e} {sigma} {t} {rounds} {xs} A r w s h = record {
@@ -94,7 +95,7 @@ module _ (W : Width) (F : Fitting W) (ps : List ℕ) (work : List Float) where
     tau = plusZero (W .format);
     mid = mid-begins (A .begun);
     some = has-positive (full B) 0 (has-full blocks);
-    walk = w ∙ ap (λ (l : List Float). walked (More (roundOf W (length ps) sigma t rounds)) l) (sym whole);
+    walk = w ∙ ap (λ (l : List Float). outcome (More (roundOf W (length ps) sigma t rounds)) l) (sym whole);
     steps = rw (members-full B) (omega (arith, s));
     rest = h;
   }
@@ -177,16 +178,16 @@ module _ (W : Width) (F : Fitting W) (ps : List ℕ) (work : List Float) where
         q : Step
         q = closed W (stateOf (length ps) (D .sigma) (D .t) (gathered (W .format) (D .sigma) (plusZero (W .format)) (D .xs)) 0 (D .rounds)) left
 
-        again : roundsFrom W (blocksOf W (length ps)) (suc k) (walked (More first) (D .xs))
-            ≡ roundsFrom W (blocksOf W (length ps)) (suc (W .rounds) - D .rounds) (walked (More first) (D .xs))
-        again = ap (λ (j : ℕ). roundsFrom W (blocksOf W (length ps)) j (walked (More first) (D .xs))) (sym fuel)
+        again : roundsFrom W (blocksOf W (length ps)) (suc k) (outcome (More first) (D .xs))
+            ≡ roundsFrom W (blocksOf W (length ps)) (suc (W .rounds) - D .rounds) (outcome (More first) (D .xs))
+        again = ap (λ (j : ℕ). roundsFrom W (blocksOf W (length ps)) j (outcome (More first) (D .xs))) (sym fuel)
 
         count : r .steps + 1 ≡ (D .rounds + 1) * blocksOf W (length ps)
         count =
             let m : members (D .pending) (blocksOf W (length ps)) ≡ 1 = omega (arith, fewer, rw z at fewer, members-none (blocksOf W (length ps))) in
             rw (add-one (D .rounds), suc-mul (D .rounds) (blocksOf W (length ps))) (omega (arith, D .steps))
 
-        go : {a : Step} → Closed W F (difference (sumOf (W .format) ps)) (length ps) (D .rounds) left a → q ≡ a → Reached (heeded r (walked a left))
+        go : {a : Step} → Closed W F (difference (sumOf (W .format) ps)) (length ps) (D .rounds) left a → q ≡ a → Reached (heeded r (outcome a left))
         go (ends x N G) e = inr (record {
           sum = x;
           rounds = D .rounds + 1;
@@ -199,7 +200,7 @@ module _ (W : Width) (F : Fitting W) (ps : List ℕ) (work : List Float) where
             let next = roundOf W (length ps) sigma' t' (D .rounds + 1) in
             let j : suc (W .rounds) - (D .rounds + 1) ≡ k = omega arith in
             inl (opening A _ refl count
-            (ap (λ (j : ℕ). roundsFrom W (blocksOf W (length ps)) j (walked (More next) left)) j
+            (ap (λ (j : ℕ). roundsFrom W (blocksOf W (length ps)) j (outcome (More next) left)) j
             ∙ sym (run-goes running k next e)
             ∙ again
             ∙ D .rest))
@@ -216,10 +217,10 @@ module _ (W : Width) (F : Fitting W) (ps : List ℕ) (work : List Float) where
   reached-refuses r D b h =
       let s = stateOf (length ps) (D .sigma) (D .t) (D .tau) (D .pending) (D .rounds) in
       let area = mixed (W .format) (D .sigma) (pendingAt W (D .pending)) 0 (D .xs) in
-      let e : stepped W s b area ≡ walked (Refused (cond (leb (blocksOf W (length ps)) b) 6 7) 0) area =
+      let e : stepped W s b area ≡ outcome (Refused (cond (leb (blocksOf W (length ps)) b) 6 7) 0) area =
       sym (stepped-refused W s b area (gated W s b area) _ _ (mid-refused (D .summing .begun) (D .mid) (D .some) b h)) in
-      let same : area ≡ r .walk .work = sym (ap (λ (w : Walked). w .work) (D .walk)) in
-      tried-more W r b s area (D .walk) ∙ ap (heeded r) e ∙ (λ i. record { walk = walked (r .walk .answer) (same i); steps = r .steps })
+      let same : area ≡ r .walk .area = sym (ap (λ (w : Walked). w .area) (D .walk)) in
+      tried-more W r b s area (D .walk) ∙ ap (heeded r) e ∙ (λ i. record { walk = outcome (r .walk .answer) (same i); steps = r .steps })
 
   pub reached-step : (r : Ran) → Reached r → (b : ℕ) → Reached (tried W r b)
   reached-step r (inl D) b = go (has (D .pending) b) refl
@@ -237,7 +238,7 @@ module _ (W : Width) (F : Fitting W) (ps : List ℕ) (work : List Float) where
   reached-run (b ∷ bs) r h = reached-run bs (tried W r b) (reached-step r h b)
 
   -- ---- from the opening of an accepted list
-  pub reached-opens : GivenWhen W (eqb (length work) (length ps)) true ps Good → Reached (record { walk = opened W ps work; steps = 0 })
+  pub reached-opens : ListWhen W (eqb (length work) (length ps)) true ps Good → Reached (record { walk = opened W ps work; steps = 0 })
   reached-opens G = go (allZero (W .format) (floats W ps)) refl
     where
       start : Ran

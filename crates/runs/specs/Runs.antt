@@ -6,9 +6,10 @@ use Prim.Native.Nat.{ℕ, zero, suc, _+_}
 use lib.Ieee.{Float}
 use Rattle.lists.specs.Bitset.{has}
 use Rattle.kinds.specs.Limits.{Width}
+use Rattle.kinds.specs.Outcome.{outcome}
 use Rattle.kinds.specs.declared.Step.{Step}
 use Rattle.kinds.specs.declared.Step.the-variants.{More, Done, Refused}
-use Rattle.walk.specs.Walk.{Walked, walked, opened, stepped, onward}
+use Rattle.walk.specs.Walk.{Walked, opened, stepped, onward}
 
 -- what the opening or the last accepted step left, and how many steps were accepted
 pub record Ran : Type 0 where
@@ -22,13 +23,13 @@ heeded r w = by (w .answer)
     by : Step → Ran
     by (More s) = record { walk = w; steps = r .steps + 1 }
     by (Done x k) = record { walk = w; steps = r .steps + 1 }
-    by (Refused k p) = record { walk = walked (r .walk .answer) (w .work); steps = r .steps }
+    by (Refused k p) = record { walk = outcome (r .walk .answer) (w .area); steps = r .steps }
 
 abbrev pub tried : Width → Ran → ℕ → Ran
 tried W r b = by (r .walk .answer)
   where
     by : Step → Ran
-    by (More s) = heeded r (stepped W s b (r .walk .work))
+    by (More s) = heeded r (stepped W s b (r .walk .area))
     by (Done x k) = r
     by (Refused k p) = r
 

@@ -11,6 +11,7 @@ use Rattle.units.specs.FaithfulLaws.{faithful-same, zero-faithful}
 use Rattle.ieee.specs.Units.{Number, whole}
 use Rattle.lists.specs.Apart.{apart}
 use Rattle.kinds.specs.Limits.{Width, exponentOf, blocksOf}
+use Rattle.kinds.specs.Outcome.{outcome}
 use Rattle.kinds.specs.States.{stateOf}
 use Rattle.kinds.specs.declared.State.{State}
 use Rattle.kinds.specs.declared.Step.{Step}
@@ -21,7 +22,7 @@ use Rattle.rounds.specs.Round.{allZero, sigmaOf, leastNormal, scaled, finished,
 use Rattle.rounds.specs.Fitting.{Fitting}
 use Rattle.rounds.specs.Closes.{carried}
 use Rattle.rounds.specs.Begun.{begun-rounds}
-use Rattle.walk.specs.Walk.{Walked, walked, roundsFrom}
+use Rattle.walk.specs.Walk.{Walked, roundsFrom}
 use Rattle.walk.specs.Run.{Running, allTaken, allLeft, all-taken, run-ends, run-goes, run-accepted, run-counted}
 use Rattle.runs.specs.CloseUnits.{zero-whole}
 use Rattle.runs.specs.Summing.{Summing, finished-units, sums-nothing, sums-restart, sums-finish, sums-further}
@@ -101,14 +102,14 @@ module _ {W : Width} {F : Fitting W} {S : Whole} {n : ℕ} where
             subst (λ (q : State). SumRunning W F S n q (allLeft W s xs) × (q .rounds ≡ s .rounds + 1)) z (r, refl)
 
     sum-ends : (k : ℕ) (x : Float) (r : ℕ) → closed W (allTaken W s xs) (allLeft W s xs) ≡ Done x r
-        → Faithfully W S (roundsFrom W (blocksOf W n) (suc k) (walked (More s) xs))
+        → Faithfully W S (roundsFrom W (blocksOf W n) (suc k) (outcome (More s) xs))
     sum-ends k x r h = go follows h
       where
         R : Running W F n s xs
         R = sum-running A
 
         go : {q : Step} → Closed W F S n (s .rounds) (allLeft W s xs) q → q ≡ Done x r
-            → Faithfully W S (roundsFrom W (blocksOf W n) (suc k) (walked (More s) xs))
+            → Faithfully W S (roundsFrom W (blocksOf W n) (suc k) (outcome (More s) xs))
         go (ends y N G) e =
             let v : y ≡ x = cc in
             record {
@@ -122,16 +123,16 @@ module _ {W : Width} {F : Fitting W} {S : Whole} {n : ℕ} where
         go (goes e sigma t B) h = apart (cc)
 
     closing : (k : ℕ) → ((s' : State) → closed W (allTaken W s xs) (allLeft W s xs) ≡ More s'
-        → Faithfully W S (roundsFrom W (blocksOf W n) k (walked (More s') (allLeft W s xs))))
-        → Faithfully W S (roundsFrom W (blocksOf W n) (suc k) (walked (More s) xs))
+        → Faithfully W S (roundsFrom W (blocksOf W n) k (outcome (More s') (allLeft W s xs))))
+        → Faithfully W S (roundsFrom W (blocksOf W n) (suc k) (outcome (More s) xs))
     closing k h = go (closed W (allTaken W s xs) (allLeft W s xs)) refl
       where
-        go : (q : Step) → closed W (allTaken W s xs) (allLeft W s xs) ≡ q → Faithfully W S (roundsFrom W (blocksOf W n) (suc k) (walked (More s) xs))
+        go : (q : Step) → closed W (allTaken W s xs) (allLeft W s xs) ≡ q → Faithfully W S (roundsFrom W (blocksOf W n) (suc k) (outcome (More s) xs))
         go (Done x r) e = sum-ends k x r e
         go (Refused j p) e = absurd (run-accepted (sum-running A) j p e)
         go (More s') e = rw (run-goes (sum-running A) k s' e) (h s' e)
 
   pub run-faithful : {s : State} {xs : List Float} (k : ℕ) → SumRunning W F S n s xs → s .rounds + k ≡ W .rounds
-      → Faithfully W S (roundsFrom W (blocksOf W n) (suc k) (walked (More s) xs))
+      → Faithfully W S (roundsFrom W (blocksOf W n) (suc k) (outcome (More s) xs))
   run-faithful zero A h = closing A 0 (λ s' e. let N = sum-goes A s' e in absurd (omega (arith, N .1, begun-rounds (N .0 .summing .begun))))
   run-faithful (suc k) A h = closing A (suc k) (λ s' e. let N = sum-goes A s' e in run-faithful k (N .0) (omega (arith, N .1)))

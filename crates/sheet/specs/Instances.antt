@@ -8,12 +8,13 @@ use lib.ListN.{length, drop}
 use Rattle.lists.specs.Digits.{Digits, number, digits}
 use Rattle.octets.specs.Octets.{joined, eights}
 use Rattle.kinds.specs.Limits.{doubles}
+use Rattle.kinds.specs.Outcome.{outcome}
 use Rattle.kinds.specs.declared.Sheet.the-variants.{Read, Refused}
-use Rattle.sheet.specs.Sheet.{sheetOf, reading, readOf}
+use Rattle.sheet.specs.Sheet.{sheetOf, readOf}
 use Rattle.sheet.specs.SheetLaws.{sheet-read}
 
 pub doubles-read : (ps area : List ℕ) → length ps ≤ 4094 → Digits 64 ps → length ps ≤ length area
-    → readOf doubles (sheetOf ps) area ≡ reading (Read (length ps)) (ps ++ drop (length ps) area)
+    → readOf doubles (sheetOf ps) area ≡ outcome (Read (length ps)) (ps ++ drop (length ps) area)
 doubles-read ps area = sheet-read doubles ps area (lit≤ tt)
 
 -- `01 00000003 4630000000000000 3FF0000000000000 C630000000000000`
@@ -28,35 +29,35 @@ pub printed-is : sheetOf three ≡ printed
 unfolding sheetOf joined digits
 printed-is = refl
 
-pub printed-read : readOf doubles printed (7 ∷ 7 ∷ 7 ∷ 7 ∷ []) ≡ reading (Read 3) (three ++ (7 ∷ []))
+pub printed-read : readOf doubles printed (7 ∷ 7 ∷ 7 ∷ 7 ∷ []) ≡ outcome (Read 3) (three ++ (7 ∷ []))
 unfolding readOf eights number
 printed-read = refl
 
 -- the first of several refusals that hold is told
-pub one-byte : readOf doubles (2 ∷ []) [] ≡ reading (Refused 11 0) []
+pub one-byte : readOf doubles (2 ∷ []) [] ≡ outcome (Refused 11 0) []
 unfolding readOf eights number
 one-byte = refl
 
-pub four-bytes : readOf doubles (2 ∷ 0 ∷ 0 ∷ 0 ∷ []) [] ≡ reading (Refused 11 0) []
+pub four-bytes : readOf doubles (2 ∷ 0 ∷ 0 ∷ 0 ∷ []) [] ≡ outcome (Refused 11 0) []
 unfolding readOf eights number
 four-bytes = refl
 
-pub five-bytes : readOf doubles (1 ∷ 0 ∷ 0 ∷ 0 ∷ 0 ∷ []) (7 ∷ []) ≡ reading (Read 0) (7 ∷ [])
+pub five-bytes : readOf doubles (1 ∷ 0 ∷ 0 ∷ 0 ∷ 0 ∷ []) (7 ∷ []) ≡ outcome (Read 0) (7 ∷ [])
 unfolding readOf eights number
 five-bytes = refl
 
-pub six-bytes : readOf doubles (1 ∷ 0 ∷ 0 ∷ 0 ∷ 0 ∷ 0 ∷ []) [] ≡ reading (Refused 13 0) []
+pub six-bytes : readOf doubles (1 ∷ 0 ∷ 0 ∷ 0 ∷ 0 ∷ 0 ∷ []) [] ≡ outcome (Refused 13 0) []
 unfolding readOf eights number
 six-bytes = refl
 
-pub version-first : readOf doubles (2 ∷ 0xFF ∷ 0xFF ∷ 0xFF ∷ 0xFF ∷ []) [] ≡ reading (Refused 12 0) []
+pub version-first : readOf doubles (2 ∷ 0xFF ∷ 0xFF ∷ 0xFF ∷ 0xFF ∷ []) [] ≡ outcome (Refused 12 0) []
 unfolding readOf eights number
 version-first = refl
 
-pub limit-before-length : readOf doubles (1 ∷ 0 ∷ 0 ∷ 0x10 ∷ 0 ∷ []) [] ≡ reading (Refused 1 0) []
+pub limit-before-length : readOf doubles (1 ∷ 0 ∷ 0 ∷ 0x10 ∷ 0 ∷ []) [] ≡ outcome (Refused 1 0) []
 unfolding readOf eights number
 limit-before-length = refl
 
-pub count-before-area : readOf doubles (1 ∷ 0 ∷ 0 ∷ 0 ∷ 1 ∷ []) [] ≡ reading (Refused 11 0) []
+pub count-before-area : readOf doubles (1 ∷ 0 ∷ 0 ∷ 0 ∷ 1 ∷ []) [] ≡ outcome (Refused 11 0) []
 unfolding readOf eights number
 count-before-area = refl

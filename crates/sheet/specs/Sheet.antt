@@ -6,6 +6,7 @@ use lib.Dec.{ltb, eqb}
 use lib.ListN.{length, drop, getD}
 use Rattle.octets.specs.Octets.{bigEndian, big, bytesAt, joined, eights}
 use Rattle.kinds.specs.Limits.{Width}
+use Rattle.kinds.specs.Outcome.{Outcome, outcome}
 use Rattle.kinds.specs.declared.Sheet.{Sheet}
 use Rattle.kinds.specs.declared.Sheet.the-variants.{Read, Refused}
 
@@ -27,21 +28,17 @@ abbrev pub patternsOf : ℕ → List ℕ → List ℕ
 patternsOf n bytes = eights big n bytes
 
 -- the answer, and the area afterwards
-pub record Reading : Type 0 where
-  pub answer : Sheet
-  pub area : List ℕ
-
-abbrev pub reading : Sheet → List ℕ → Reading
-reading r area = record { answer = r; area = area }
+abbrev pub Reading : Type 0
+Reading = Outcome Sheet ℕ
 
 -- ---- "On a sheet: 11 for fewer than 5 bytes, 12, 1, 11, 13, 4." "the reader's output area at least n, the rest of it untouched"
 unfoldable pub readOf : Width → List ℕ → List ℕ → Reading
 readOf W bytes area =
     let n = countOf bytes in
-    cond (ltb (length bytes) 5) (reading (Refused 11 0) area)
-    (cond (not (eqb (versionOf bytes) 1)) (reading (Refused 12 0) area)
-    (cond (ltb (W .length) n) (reading (Refused 1 0) area)
-    (cond (ltb (length bytes) (5 + 8 * n)) (reading (Refused 11 0) area)
-    (cond (ltb (5 + 8 * n) (length bytes)) (reading (Refused 13 0) area)
-    (cond (ltb (length area) n) (reading (Refused 4 0) area)
-    (reading (Read n) (patternsOf n (drop 5 bytes) ++ drop n area)))))))
+    cond (ltb (length bytes) 5) (outcome (Refused 11 0) area)
+    (cond (not (eqb (versionOf bytes) 1)) (outcome (Refused 12 0) area)
+    (cond (ltb (W .length) n) (outcome (Refused 1 0) area)
+    (cond (ltb (length bytes) (5 + 8 * n)) (outcome (Refused 11 0) area)
+    (cond (ltb (5 + 8 * n) (length bytes)) (outcome (Refused 13 0) area)
+    (cond (ltb (length area) n) (outcome (Refused 4 0) area)
+    (outcome (Read n) (patternsOf n (drop 5 bytes) ++ drop n area)))))))

@@ -15,31 +15,32 @@ use Rattle.octets.specs.Octets.{bigEndian, big}
 use Rattle.octets.specs.OctetsLaws.{big-length, big-back, big-bytes-back}
 use Rattle.octets.specs.EightsLaws.{eights-length, joined-length, eights-joined, joined-eights}
 use Rattle.kinds.specs.Limits.{Width}
+use Rattle.kinds.specs.Outcome.{outcome}
 use Rattle.kinds.specs.declared.Sheet.the-variants.{Read, Refused}
-use Rattle.sheet.specs.Sheet.{body, sheetOf, versionOf, countOf, patternsOf, Reading, reading, readOf}
+use Rattle.sheet.specs.Sheet.{Reading, body, sheetOf, versionOf, countOf, patternsOf, readOf}
 
 -- ---- case by case
 module _ (W : Width) (bytes area : List ℕ) where
-  pub read-no-header : length bytes < 5 → readOf W bytes area ≡ reading (Refused 11 0) area
+  pub read-no-header : length bytes < 5 → readOf W bytes area ≡ outcome (Refused 11 0) area
   unfolding readOf
   read-no-header h = rw (lt-ltb (length bytes) 5 h)
 
-  pub read-version : 5 ≤ length bytes → (versionOf bytes ≡ 1 → ⊥) → readOf W bytes area ≡ reading (Refused 12 0) area
+  pub read-version : 5 ≤ length bytes → (versionOf bytes ≡ 1 → ⊥) → readOf W bytes area ≡ outcome (Refused 12 0) area
   unfolding readOf
   read-version h v = rw (le-ltb (length bytes) 5 h, ne-eqb (versionOf bytes) 1 v)
 
   module _ (h : 5 ≤ length bytes) (v : versionOf bytes ≡ 1) where
-    pub read-many : W .length < countOf bytes → readOf W bytes area ≡ reading (Refused 1 0) area
+    pub read-many : W .length < countOf bytes → readOf W bytes area ≡ outcome (Refused 1 0) area
     unfolding readOf
     read-many m = rw (le-ltb (length bytes) 5 h, eq-eqb (versionOf bytes) 1 v, lt-ltb (W .length) (countOf bytes) m)
 
     module _ (few : countOf bytes ≤ W .length) where
-      pub read-short : length bytes < 5 + 8 * countOf bytes → readOf W bytes area ≡ reading (Refused 11 0) area
+      pub read-short : length bytes < 5 + 8 * countOf bytes → readOf W bytes area ≡ outcome (Refused 11 0) area
       unfolding readOf
       read-short s =
           rw (le-ltb (length bytes) 5 h, eq-eqb (versionOf bytes) 1 v, le-ltb (W .length) (countOf bytes) few, lt-ltb (length bytes) (5 + 8 * countOf bytes) s)
 
-      pub read-long : 5 + 8 * countOf bytes < length bytes → readOf W bytes area ≡ reading (Refused 13 0) area
+      pub read-long : 5 + 8 * countOf bytes < length bytes → readOf W bytes area ≡ outcome (Refused 13 0) area
       unfolding readOf
       read-long s =
           let k : 5 + 8 * countOf bytes ≤ length bytes = omega arith in
@@ -52,7 +53,7 @@ module _ (W : Width) (bytes area : List ℕ) where
           )
 
       module _ (exact : length bytes ≡ 5 + 8 * countOf bytes) where
-        pub read-no-room : length area < countOf bytes → readOf W bytes area ≡ reading (Refused 4 0) area
+        pub read-no-room : length area < countOf bytes → readOf W bytes area ≡ outcome (Refused 4 0) area
         unfolding readOf
         read-no-room s =
             let k : 5 + 8 * countOf bytes ≤ length bytes = omega arith in
@@ -67,7 +68,7 @@ module _ (W : Width) (bytes area : List ℕ) where
             )
 
         pub read-all : countOf bytes ≤ length area
-            → readOf W bytes area ≡ reading (Read (countOf bytes)) (patternsOf (countOf bytes) (drop 5 bytes) ++ drop (countOf bytes) area)
+            → readOf W bytes area ≡ outcome (Read (countOf bytes)) (patternsOf (countOf bytes) (drop 5 bytes) ++ drop (countOf bytes) area)
         unfolding readOf
         read-all s =
             let k : 5 + 8 * countOf bytes ≤ length bytes = omega arith in
@@ -93,7 +94,7 @@ pub record Accepted (W : Width) (bytes area : List ℕ) : Type 0 where
 
 -- a test that refuses has not held
 passed : (area : List ℕ) (k : ℕ) (b : Bool) {n : ℕ} {after : List ℕ} {rest : Reading}
-    → cond b (reading (Refused k 0) area) rest ≡ reading (Read n) after → T (not b) × (rest ≡ reading (Read n) after)
+    → cond b (outcome (Refused k 0) area) rest ≡ outcome (Read n) after → T (not b) × (rest ≡ outcome (Read n) after)
 passed area k true {n} e =
     let r : Refused k 0 ≡ Read n = ap (λ (x : Reading). x .answer) e in
     apart (cc)
@@ -103,7 +104,7 @@ twice : (b : Bool) → T (not (not b)) → T b
 twice true t = tt
 twice false t = t
 
-pub accepted : (W : Width) (bytes area : List ℕ) {n : ℕ} {after : List ℕ} → readOf W bytes area ≡ reading (Read n) after → Accepted W bytes area
+pub accepted : (W : Width) (bytes area : List ℕ) {n : ℕ} {after : List ℕ} → readOf W bytes area ≡ outcome (Read n) after → Accepted W bytes area
 unfolding readOf
 accepted W bytes area e =
     let n = countOf bytes in
@@ -124,7 +125,7 @@ accepted W bytes area e =
     }
 
 pub accepted-read : (W : Width) (bytes area : List ℕ) → Accepted W bytes area
-    → readOf W bytes area ≡ reading (Read (countOf bytes)) (patternsOf (countOf bytes) (drop 5 bytes) ++ drop (countOf bytes) area)
+    → readOf W bytes area ≡ outcome (Read (countOf bytes)) (patternsOf (countOf bytes) (drop 5 bytes) ++ drop (countOf bytes) area)
 accepted-read W bytes area A = read-all W bytes area (A .header) (A .version) (A .few) (A .exact) (A .room)
 
 -- k bytes at the front, read and written again
@@ -145,12 +146,12 @@ header-back (b ∷ bs) B h v =
 
 -- "Version byte 1, then a count in 4 bytes, then that many 8-byte patterns": where n are read, the bytes are the sheet of the first n of the area afterwards
 pub read-is-sheet : (W : Width) (bytes area : List ℕ) {n : ℕ} {after : List ℕ}
-    → Digits 8 bytes → readOf W bytes area ≡ reading (Read n) after → (bytes ≡ sheetOf (take n after)) × (n ≡ length (take n after))
+    → Digits 8 bytes → readOf W bytes area ≡ outcome (Read n) after → (bytes ≡ sheetOf (take n after)) × (n ≡ length (take n after))
 unfolding sheetOf
 read-is-sheet W bytes area {n} {after} B e =
     let A : Accepted W bytes area = accepted W bytes area e in
     let ps = patternsOf (countOf bytes) (drop 5 bytes) in
-    let r : reading (Read (countOf bytes)) (ps ++ drop (countOf bytes) area) ≡ reading (Read n) after = sym (accepted-read W bytes area A) ∙ e in
+    let r : outcome (Read (countOf bytes)) (ps ++ drop (countOf bytes) area) ≡ outcome (Read n) after = sym (accepted-read W bytes area A) ∙ e in
     let a : Read (countOf bytes) ≡ Read n = ap (λ (x : Reading). x .answer) r in
     let c : countOf bytes ≡ n = cc in
     let l : ps ++ drop (countOf bytes) area ≡ after = ap (λ (x : Reading). x .area) r in
@@ -187,7 +188,7 @@ module _ (ps : List ℕ) where
 
 -- every list that fits, at a width whose limit is told in 4 bytes
 pub sheet-read : (W : Width) (ps area : List ℕ) → W .length < 2 ^ 32 → length ps ≤ W .length → Digits 64 ps → length ps ≤ length area
-    → readOf W (sheetOf ps) area ≡ reading (Read (length ps)) (ps ++ drop (length ps) area)
+    → readOf W (sheetOf ps) area ≡ outcome (Read (length ps)) (ps ++ drop (length ps) area)
 sheet-read W ps area w few D room =
     let c : countOf (sheetOf ps) ≡ length ps = sheet-count ps (omega arith) in
     let l : length (sheetOf ps) ≡ 5 + 8 * length ps = sheet-length ps in

@@ -1,6 +1,6 @@
 -- The reader gives each answer exactly when its row of document 01's table says, and so it is heard, with no place; a refusal leaves the area as it was; and
 -- two results that meet the reader's contract are equal. Assumes nothing.
-use mathlib.Core.Path.{_≡_, refl, sym, ap, subst, _∙_}
+use mathlib.Core.Path.{_≡_, refl, sym, ap, _∙_}
 use mathlib.Core.Logic.{_↔_, inl, inr}
 use mathlib.Core.List.{List}
 use Prim.Native.Nat.{ℕ, _+_, _*_, _≤_}
@@ -9,11 +9,14 @@ use native.Mathlib.Omega.{arith}
 use lib.ListN.{length}
 use Rattle.units.specs.Powers.{le-or-lt}
 use Rattle.lists.specs.Apart.{apart}
-use Rattle.kinds.specs.Heard.{Place, nowhere, refused, placeOf, sheetHeard}
+use Rattle.kinds.specs.Heard.{Place, refused, Row, sheetHeard}
+use Rattle.kinds.specs.Hearing.{exactly, placed, sheet-is, hears}
 use Rattle.kinds.specs.Limits.{Width}
+use Rattle.kinds.specs.Outcome.{outcome}
+use Rattle.kinds.specs.OutcomeLaws.{determined}
 use Rattle.kinds.specs.declared.Sheet.{Sheet}
 use Rattle.kinds.specs.declared.Sheet.the-variants.{Read, Refused}
-use Rattle.sheet.specs.Sheet.{versionOf, countOf, Reading, reading, readOf}
+use Rattle.sheet.specs.Sheet.{Reading, versionOf, countOf, readOf}
 use Rattle.sheet.specs.Table.{Begun, SheetWhen, no-header, other-version, too-many, too-short, too-long, no-room, all-read}
 use Rattle.sheet.specs.SheetLaws.{read-no-header, read-version, read-many, read-short, read-long, read-no-room, read-all}
 
@@ -57,7 +60,7 @@ module _ (W : Width) (bytes area : List ℕ) where
   ]
 
   pub sheet-when : (r : Sheet) → (readOf W bytes area .answer ≡ r) ↔ SheetWhen W bytes area r
-  sheet-when r = (λ e. subst (SheetWhen W bytes area) (sym (row (some-row .1)) ∙ e) (some-row .1), row)
+  sheet-when = exactly (readOf W bytes area .answer) (SheetWhen W bytes area) (λ r. row) some-row
 
   -- "Every refusal writes nothing to any lent area."
   left : {r : Sheet} {k i : ℕ} → SheetWhen W bytes area r → r ≡ Refused k i → readOf W bytes area .area ≡ area
@@ -72,21 +75,18 @@ module _ (W : Width) (bytes area : List ℕ) where
   pub read-leaves : {k i : ℕ} → readOf W bytes area .answer ≡ Refused k i → readOf W bytes area .area ≡ area
   read-leaves e = left (some-row .1) (sym (row (some-row .1)) ∙ e)
 
-  pub read-determined : {r q : Sheet} {xs ys : List ℕ} → reading r xs ≡ readOf W bytes area → reading q ys ≡ readOf W bytes area → (r ≡ q) × (xs ≡ ys)
-  read-determined p q = (ap answerOf (p ∙ sym q), ap (λ (x : Reading). x .area) (p ∙ sym q))
+  pub read-determined : {r q : Sheet} {xs ys : List ℕ} → outcome r xs ≡ readOf W bytes area → outcome q ys ≡ readOf W bytes area → (r ≡ q) × (xs ≡ ys)
+  read-determined = determined (readOf W bytes area)
 
   -- what is heard of a refusal: its number and no place
-  told : {r : Sheet} {k : ℕ} {p : Place} → SheetWhen W bytes area r → sheetHeard r ≡ refused k p → (p ≡ nowhere) × SheetWhen W bytes area (Refused k 0)
-  told {k = k} (no-header h) e = let n : 11 ≡ k = cc in (cc, rw (← n) (no-header h))
-  told {k = k} (other-version h v) e = let n : 12 ≡ k = cc in (cc, rw (← n) (other-version h v))
-  told {k = k} (too-many B m) e = let n : 1 ≡ k = cc in (cc, rw (← n) (too-many B m))
-  told {k = k} (too-short B f s) e = let n : 11 ≡ k = cc in (cc, rw (← n) (too-short B f s))
-  told {k = k} (too-long B f l) e = let n : 13 ≡ k = cc in (cc, rw (← n) (too-long B f l))
-  told {k = k} (no-room B f x s) e = let n : 4 ≡ k = cc in (cc, rw (← n) (no-room B f x s))
-  told (all-read B f x s) e = apart (cc)
+  zeros : {k i : ℕ} → SheetWhen W bytes area (Refused k i) → i ≡ 0
+  zeros (no-header h) = refl
+  zeros (other-version h v) = refl
+  zeros (too-many B m) = refl
+  zeros (too-short B f s) = refl
+  zeros (too-long B f l) = refl
+  zeros (no-room B f x s) = refl
 
-  pub sheet-told : (k : ℕ) (p : Place) → (sheetHeard (readOf W bytes area .answer) ≡ refused k p) ↔ ((p ≡ nowhere) × SheetWhen W bytes area (Refused k 0))
-  sheet-told k p = (
-    λ e. told (sheet-when (readOf W bytes area .answer) .0 refl) e,
-    λ G. ap sheetHeard (row (G .1)) ∙ ap (refused k) (told {k = k} {p = placeOf k 0} (G .1) refl .0 ∙ sym (G .0)),
-  )
+  pub sheet-heard : (k : ℕ) (p : Place) → (sheetHeard (readOf W bytes area .answer) ≡ refused k p) ↔ Row (λ k i. SheetWhen W bytes area (Refused k i)) k p
+  sheet-heard = hears sheetHeard Refused (λ k i. refl) (readOf W bytes area .answer) (sheet-is (readOf W bytes area .answer))
+      (λ k i. SheetWhen W bytes area (Refused k i)) (λ k i. sheet-when (Refused k i)) (λ k i h. placed k i (inl (zeros h)))

@@ -7,7 +7,8 @@ ghost use mathlib.Core.List.{_++_};
 ghost use Prim.Native.Nat.{_+_, _*_, _≤_};
 ghost use lib.ListN.{length, drop};
 ghost use Rattle.kinds.specs.Limits.{doubles};
-ghost use Rattle.sheet.specs.Sheet.{versionOf, countOf, patternsOf, reading, readOf};
+ghost use Rattle.kinds.specs.Outcome.{outcome};
+ghost use Rattle.sheet.specs.Sheet.{versionOf, countOf, patternsOf, readOf};
 
 // "Version byte 1"
 pub const VERSION: u8 = 1;
@@ -48,7 +49,7 @@ fn copy(sheet: &[u8], area: &mut [u64], n: usize)
 
 // "On a sheet: 11 for fewer than 5 bytes, 12, 1, 11, 13, 4." A count above the limit is refused before it is multiplied.
 pub fn read(sheet: &[u8], area: &mut [u64]) -> Sheet
-    ensures { λ r. ⌜ reading r (now (area .exit)) ≡ readOf doubles (now (sheet .entry)) (now (area .entry)) ⌝ }
+    ensures { λ r. ⌜ outcome r (now (area .exit)) ≡ readOf doubles (now (sheet .entry)) (now (area .entry)) ⌝ }
 {
     if sheet.len() < HEADER {
         return Sheet::Refused(11, 0);

@@ -1,7 +1,7 @@
--- The first number above a limit: what a loop over the places passes and ends with, and a look at every place; and that for the limit 2^-M sigma it is the
--- first place of a state that is not sound. Assumes nothing.
+-- The first number above a limit: what a loop over the places passes and ends with, and that there is none where each passes the test; and that for the limit
+-- 2^-M sigma it is the first place of a state that is not sound. Assumes nothing.
 use mathlib.Core.Path.{_≡_, refl, sym, ap, _∙_}
-use mathlib.Core.Bool.{Bool, true, false, _&&_, cond, and-true, and-assoc}
+use mathlib.Core.Bool.{Bool, true, false, _&&_, cond}
 use mathlib.Core.List.{List, [], _∷_}
 use Prim.Native.Nat.{ℕ, suc, _+_, _-_, _*_, _^_, _≤_, _<_}
 use native.Mathlib.Nat.{mul-le-mul-left, le-of-mul-le-mul-left}
@@ -17,6 +17,7 @@ use lib.Ieee.Scale.{finite}
 use Rattle.units.specs.Powers.{pow-split}
 use Rattle.ieee.specs.Units.{magnitude}
 use Rattle.ieee.specs.Fractions.{same-test, eqb-same}
+use Rattle.lists.specs.Every.{every}
 use Rattle.kinds.specs.Limits.{Width, exponentOf}
 use Rattle.kinds.specs.declared.State.{State}
 use Rattle.sound.specs.Sound.{atMost, badPlace}
@@ -48,30 +49,16 @@ module _ {W : Width} {most : ℕ} {xs : List Float} where
       let e : firstAbove W most (drop i xs) ≡ 0 = rw (drop-of-length-le xs {i = i} h) in
       omega (arith, P .rest)
 
--- ---- the places before i have been looked at, and good says whether each is at most the limit
-pub record Looked (W : Width) (most : ℕ) (xs : List Float) (good : Bool) (i : ℕ) : Type 0 where
-  pub rest : eqb (firstAbove W most xs) (length xs) ≡ (good && eqb (firstAbove W most (drop i xs)) (length (drop i xs)))
-
+-- ---- no place is above the limit
 counts : (t : Bool) (n m : ℕ) → eqb (cond t (n + 1) 0) (suc m) ≡ (t && eqb n m)
 counts true n m = eqb-same (n + 1) (suc m) n m (omega arith) (omega arith)
 counts false n m = ne-eqb 0 (suc m) (omega arith)
 
-module _ {W : Width} {most : ℕ} {xs : List Float} where
-  pub looked-none : Looked W most xs true 0
-  looked-none = record { rest = refl }
-
-  module _ {good : Bool} {i : ℕ} (L : Looked W most xs good i) where
-    pub looked-next : (d : Float) → i < length xs → Looked W most xs (good && atMost W most (getD xs i d)) (i + 1)
-    unfolding firstAbove
-    looked-next d l =
-        let t = atMost W most (getD xs i d) in
-        let n = firstAbove W most (drop (suc i) xs) in
-        let m = length (drop (suc i) xs) in
-        record { rest = L .rest ∙ rw (add-one, drop-cons xs i d) (ap (λ (b : Bool). good && b) (counts t n m) ∙ sym (and-assoc good t (eqb n m))) }
-
-    pub looked-all : length xs ≤ i → good ≡ eqb (firstAbove W most xs) (length xs)
-    unfolding firstAbove
-    looked-all h = sym (L .rest ∙ rw (drop-of-length-le xs {i = i} h) (and-true good))
+pub none-above : (W : Width) (most : ℕ) (xs : List Float) → every (atMost W most) xs ≡ eqb (firstAbove W most xs) (length xs)
+unfolding every firstAbove
+none-above W most [] = refl
+none-above W most (x ∷ xs) =
+    ap (λ (b : Bool). atMost W most x && b) (none-above W most xs) ∙ sym (counts (atMost W most x) (firstAbove W most xs) (length xs))
 
 -- ---- 2^-M sigma
 module _ (W : Width) (s : State) {k : ℕ} (sigma : magnitude (W .format) (s .sigma) ≡ 2 ^ k) (low : exponentOf (s .n) ≤ k) where

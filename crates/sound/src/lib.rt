@@ -1,1 +1,47 @@
-// Sound states and the gate of a block step: definitions and laws in specs/, no code. `numbers` and `gate` have the code.
+// Sound states, and the gate of a block step.
+use crate::numbers::numbers;
+use crate::numbers::pending;
+use crate::places::bad_place;
+use crate::places::limit;
+use kinds::Doubles;
+use kinds::State;
+use kinds::Verdict;
+
+pub mod numbers;
+pub mod places;
+
+ghost use mathlib.Core.Path.{_≡_};
+ghost use Rattle.kinds.specs.Limits.{doubles};
+ghost use Rattle.sound.specs.Sound.{sound, gated};
+
+// The whole work area is looked at, blocks already taken too.
+pub fn is_sound(s: State, work: &[f64]) -> bool
+    ensures { λ r. ⌜ r ≡ sound doubles s (now (work .entry)) ⌝ }
+{
+    if !numbers(s) {
+        return false;
+    }
+    if !pending(s) {
+        return false;
+    }
+    bad_place(work, limit(s)) == work.len()
+}
+
+// "On a block step: 4, 8, 6, 7." The block number is compared with B before any shift.
+pub fn gate(s: State, work: &[f64], block: usize) -> Verdict
+    ensures { λ r. ⌜ r ≡ gated doubles s block (now (work .entry)) ⌝ }
+{
+    if work.len() != s.n {
+        return Verdict::Refused(4, 0);
+    }
+    if !is_sound(s, work) {
+        return Verdict::Refused(8, 0);
+    }
+    if Doubles::of(s.n).blocks() <= block {
+        return Verdict::Refused(6, 0);
+    }
+    if !bitset::has(s.pending, block) {
+        return Verdict::Refused(7, 0);
+    }
+    Verdict::Good
+}

@@ -18,12 +18,13 @@ use Rattle.lists.specs.Digits.{number}
 use Rattle.lists.specs.TwosComplement.{signed-low, signed-high}
 use Rattle.words.specs.Words.{wordBits, registerBits, wholeOf}
 use Rattle.kinds.specs.Limits.{doubles}
+use Rattle.kinds.specs.Outcome.{outcome}
 use Rattle.kinds.specs.declared.Verdict.{Verdict}
 use Rattle.kinds.specs.declared.Verdict.the-variants as verdicts
 use Rattle.kinds.specs.declared.Nearest.the-variants as nearests
 use Rattle.kinds.specs.declared.Parted.the-variants as parteds
 use Rattle.judge.specs.Judge.{zeroSign}
-use Rattle.sums.specs.Sums.{sumOf, nearestAfter, parts, addUp, split, partsAfter}
+use Rattle.sums.specs.Sums.{sumOf, nearestAfter, parts, addUp, partsAfter}
 use Rattle.sums.specs.PartsLaws.{remaining, parts-left}
 
 module _ (ps : List ℕ) where
@@ -36,7 +37,7 @@ module _ (ps : List ℕ) where
   unfolding nearestAfter
   nearest-refused k p e = rw e
 
-  pub parts-refused : {v : Verdict} (area : List Float) (k p : ℕ) → v ≡ verdicts.Refused k p → split (parteds.Refused k p) area ≡ partsAfter v ps area
+  pub parts-refused : {v : Verdict} (area : List Float) (k p : ℕ) → v ≡ verdicts.Refused k p → outcome (parteds.Refused k p) area ≡ partsAfter v ps area
   unfolding partsAfter
   parts-refused area k p e = rw e
 
@@ -57,7 +58,7 @@ whole-zero ws = elim (le-or-lt (2 ^ (registerBits - 1)) u) [
 pub parts-answer : {v : Verdict} (ps ws : List ℕ) (area xs : List Float) (z b : Bool) → v ≡ verdicts.Good → z ≡ zeroSign ps
     → xs ≡ parts (doubles .format) (length area) z (sumOf (doubles .format) ps)
     → wholeOf ws ≡ remaining (doubles .format) (length area) z (sumOf (doubles .format) ps) → b ≡ eqb (number wordBits ws) 0
-    → split (parteds.Parts b) xs ≡ partsAfter v ps area
+    → outcome (parteds.Parts b) xs ≡ partsAfter v ps area
 unfolding partsAfter
 parts-answer ps ws area xs z b e zs x w n = rw (e, ← zs) (λ i. record { answer = parteds.Parts (adds i); area = x i })
   where

@@ -13,7 +13,7 @@ use Rattle.kinds.specs.declared.Verdict.{Verdict}
 use Rattle.kinds.specs.declared.Verdict.the-variants as verdicts
 use Rattle.kinds.specs.declared.Nearest.the-variants.{Sum, Refused}
 use Rattle.judge.specs.Judge.{judged, zeroSign}
-use Rattle.judge.specs.JudgeLaws.{given-when}
+use Rattle.judge.specs.JudgeLaws.{list-when}
 use Rattle.sums.specs.Sums.{sumOf, nearestOf}
 use Rattle.sums.specs.AnswerLaws.{nearest-good, nearest-refused}
 use Rattle.sums.specs.Promised.{nearest-promised}
@@ -26,7 +26,7 @@ module _ (ps : List ℕ) {x : Float} (e : nearestOf ps ≡ Sum x) where
       by verdicts.Good g =
           let s : Sum (nearestFloat (doubles .format) (zeroSign ps) (sumOf (doubles .format) ps)) ≡ Sum x = sym (nearest-good ps g) ∙ e in
           let y : nearestFloat (doubles .format) (zeroSign ps) (sumOf (doubles .format) ps) ≡ x = cc in
-          subst (Number (doubles .format)) y (nearest-promised ps (given-when doubles true true ps verdicts.Good .0 g) .1 .number)
+          subst (Number (doubles .format)) y (nearest-promised ps (list-when doubles true true ps verdicts.Good .0 g) .1 .number)
       by (verdicts.Refused k p) g =
           let s : Refused k p ≡ Sum x = sym (nearest-refused ps k p g) ∙ e in
           apart (cc)

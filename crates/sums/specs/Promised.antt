@@ -12,6 +12,7 @@ use Rattle.ieee.specs.Units.{value, nearestFloat, limit}
 use Rattle.ieee.specs.Accuracy.{NearestTo}
 use Rattle.ieee.specs.Nearest.{nearest-nearest}
 use Rattle.kinds.specs.Limits.{doubles}
+use Rattle.kinds.specs.Outcome.{Outcome, outcome}
 use Rattle.kinds.specs.Heard.{pattern, nearestHeard, nearest}
 use Rattle.kinds.specs.declared.Verdict.{Verdict}
 use Rattle.kinds.specs.declared.Verdict.the-variants as verdicts
@@ -20,9 +21,9 @@ use Rattle.kinds.specs.declared.Parted.{Parted}
 use Rattle.kinds.specs.declared.Nearest.the-variants as nearests
 use Rattle.kinds.specs.declared.Parted.the-variants as parteds
 use Rattle.judge.specs.Judge.{judged, zeroSign}
-use Rattle.judge.specs.Table.{GivenWhen}
-use Rattle.judge.specs.JudgeLaws.{given-when}
-use Rattle.sums.specs.Sums.{sumOf, nearestAfter, nearestOf, parts, addUp, Split, split, fitting, partsOf, partsAfter}
+use Rattle.judge.specs.Table.{ListWhen}
+use Rattle.judge.specs.JudgeLaws.{list-when, list-passed, list-allowed}
+use Rattle.sums.specs.Sums.{sumOf, nearestAfter, nearestOf, parts, addUp, fitting, partsOf, partsAfter}
 use Rattle.sums.specs.NonOverlapping.{NonOverlapping}
 use Rattle.sums.specs.PartsLaws.{left-smaller, parts-apart}
 use Rattle.sums.specs.SumLaws.{sum-below-limit}
@@ -71,19 +72,19 @@ module _ (ps : List ℕ) where
   nearest-from (verdicts.Refused k i) = refl
 
   -- a refusal is given exactly when its row of the table says
-  pub nearest-refusals : (k i : ℕ) → (nearestOf ps ≡ nearests.Refused k i) ↔ GivenWhen doubles true true ps (verdicts.Refused k i)
+  pub nearest-refusals : (k i : ℕ) → (nearestOf ps ≡ nearests.Refused k i) ↔ ListWhen doubles true true ps (verdicts.Refused k i)
   nearest-refusals k i = (
-    λ e. given-when doubles true true ps (verdicts.Refused k i) .0 (sym (nearest-from (judged doubles true true ps)) ∙ ap nearest-verdict e),
-    λ G. nearest-refused ps k i (given-when doubles true true ps (verdicts.Refused k i) .1 G),
+    λ e. list-when doubles true true ps (verdicts.Refused k i) .0 (sym (nearest-from (judged doubles true true ps)) ∙ ap nearest-verdict e),
+    λ G. nearest-refused ps k i (list-when doubles true true ps (verdicts.Refused k i) .1 G),
   )
 
-  module _ (G : GivenWhen doubles true true ps verdicts.Good) where
+  module _ (G : ListWhen doubles true true ps verdicts.Good) where
     -- "the double nearest S, ties to even significand", for every list that isn't refused
     pub nearest-promised : let x = nearestFloat (doubles .format) (zeroSign ps) S in
         (nearestHeard (nearestOf ps) ≡ nearest (pattern x)) × NearestTo (doubles .format) S x
     nearest-promised = (
-      ap nearestHeard (nearest-good ps (given-when doubles true true ps verdicts.Good .1 G)),
-      nearest-nearest (doubles .format) (zeroSign ps) S (sum-below-limit (G .0 .few) (G .1)),
+      ap nearestHeard (nearest-good ps (list-when doubles true true ps verdicts.Good .1 G)),
+      nearest-nearest (doubles .format) (zeroSign ps) S (sum-below-limit (list-passed G .few) (list-allowed G)),
     )
 
     -- "A zero S gives +0."
@@ -96,25 +97,25 @@ module _ (ps : List ℕ) where
     parts-from verdicts.Good = refl
     parts-from (verdicts.Refused k i) = refl
 
-    pub parts-refusals : (k i : ℕ) → (partsOf ps area ≡ split (parteds.Refused k i) area) ↔ GivenWhen doubles true (fitting area) ps (verdicts.Refused k i)
+    pub parts-refusals : (k i : ℕ) → (partsOf ps area ≡ outcome (parteds.Refused k i) area) ↔ ListWhen doubles true (fitting area) ps (verdicts.Refused k i)
     parts-refusals k i = (
-      λ e. given-when doubles true (fitting area) ps (verdicts.Refused k i) .0 (
-          sym (parts-from (judged doubles true (fitting area) ps)) ∙ ap (λ (r : Split). parts-verdict (r .answer)) e
+      λ e. list-when doubles true (fitting area) ps (verdicts.Refused k i) .0 (
+          sym (parts-from (judged doubles true (fitting area) ps)) ∙ ap (λ (r : Outcome Parted Float). parts-verdict (r .answer)) e
           ),
-      λ G. sym (parts-refused ps area k i (given-when doubles true (fitting area) ps (verdicts.Refused k i) .1 G)),
+      λ G. sym (parts-refused ps area k i (list-when doubles true (fitting area) ps (verdicts.Refused k i) .1 G)),
     )
 
     -- what an accepted call leaves
     abbrev left : List Float
     left = parts (doubles .format) (length area) (zeroSign ps) S
 
-    pub parts-promised : GivenWhen doubles true (fitting area) ps verdicts.Good
-        → (partsOf ps area ≡ split (parteds.Parts (addUp (doubles .format) left S)) left)
+    pub parts-promised : ListWhen doubles true (fitting area) ps verdicts.Good
+        → (partsOf ps area ≡ outcome (parteds.Parts (addUp (doubles .format) left S)) left)
         × EachNearest (doubles .format) S left × NonOverlapping (doubles .format) left
     unfolding partsAfter
     parts-promised G =
-        let l = sum-below-limit (G .0 .few) (G .1) in (
-          rw (given-when doubles true (fitting area) ps verdicts.Good .1 G),
+        let l = sum-below-limit (list-passed G .few) (list-allowed G) in (
+          rw (list-when doubles true (fitting area) ps verdicts.Good .1 G),
           parts-nearest (doubles .format) (length area) (zeroSign ps) S l,
           parts-apart (doubles .format) (length area) (zeroSign ps) S l,
         )

@@ -18,7 +18,7 @@ use Rattle.ieee.specs.Finite.{finite-no-nan}
 use Rattle.ieee.specs.Nearest.{nearest-number}
 use Rattle.kinds.specs.Limits.{doubles}
 use Rattle.words.specs.Words.{wordCount, wholeOf, wordsOf}
-use Rattle.finite.specs.Finite.{unitsOf}
+use Rattle.addend.specs.Addend.{unitsOf}
 use Rattle.sums.specs.Sums.{parts}
 use Rattle.sums.specs.PartsLaws.{left-smaller, remaining, remaining-none, remaining-next, parts-none, parts-next}
 use Rattle.sums.specs.SumLaws.{whole-words}

@@ -19,7 +19,7 @@ use Rattle.kinds.specs.Limits.{Width, doubles}
 use Rattle.judge.specs.Table.{Allowed, most}
 use Rattle.judge.specs.FaultLaws.{fault-0, most-doubles}
 use Rattle.words.specs.Words.{wordBits, wordCount, registerBits, wholeOf, wordsOf}
-use Rattle.finite.specs.Finite.{unitsOf, Held}
+use Rattle.addend.specs.Addend.{unitsOf, Held}
 use Rattle.sums.specs.Sums.{sumOf}
 
 -- one number more

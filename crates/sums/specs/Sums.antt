@@ -9,6 +9,7 @@ use lib.Ieee.{Float, Format, ofBits}
 use Rattle.units.specs.Whole.{exactSum}
 use Rattle.ieee.specs.Units.{value, nearestFloat}
 use Rattle.kinds.specs.Limits.{doubles}
+use Rattle.kinds.specs.Outcome.{Outcome, outcome}
 use Rattle.kinds.specs.declared.Verdict.{Verdict}
 use Rattle.kinds.specs.declared.Verdict.the-variants as verdicts
 use Rattle.kinds.specs.declared.Nearest.{Nearest}
@@ -39,23 +40,16 @@ abbrev pub addUp : Format → List Float → ℤ → Bool
 addUp f xs S = eqb (natAbs (S -ℤ exactSum (map (value f) xs))) 0
 
 -- the answer, and the parts slice afterwards
-pub record Split : Type 0 where
-  pub answer : Parted
-  pub area : List Float
-
-abbrev pub split : Parted → List Float → Split
-split r xs = record { answer = r; area = xs }
-
-unfoldable pub partsAfter : Verdict → List ℕ → List Float → Split
+unfoldable pub partsAfter : Verdict → List ℕ → List Float → Outcome Parted Float
 partsAfter verdicts.Good ps area =
     let S = sumOf (doubles .format) ps in
     let xs = parts (doubles .format) (length area) (zeroSign ps) S in
-    record { answer = parteds.Parts (addUp (doubles .format) xs S); area = xs }
-partsAfter (verdicts.Refused k p) ps area = record { answer = parteds.Refused k p; area = area }
+    outcome (parteds.Parts (addUp (doubles .format) xs S)) xs
+partsAfter (verdicts.Refused k p) ps area = outcome (parteds.Refused k p) area
 
 -- the length that a parts slice may have
 abbrev pub fitting : List Float → Bool
 fitting area = leb 1 (length area) && leb (length area) (doubles .parts)
 
-abbrev pub partsOf : List ℕ → List Float → Split
+abbrev pub partsOf : List ℕ → List Float → Outcome Parted Float
 partsOf ps area = partsAfter (judged doubles true (fitting area) ps) ps area

@@ -16,7 +16,7 @@ pub fn total(list: &[u64], words: &mut [u64])
 {
     let mut i = 0;
     while i < list.len() {
-        finite::add(words, list[i]);
+        addend::add(words, list[i]);
         i += 1;
     }
 }

@@ -21,7 +21,7 @@ pub fn split(words: &mut [u64], area: &mut [f64], zero: bool)
     while i < area.len() {
         let part = nearest::nearest_double(words, sign);
         area[i] = part;
-        finite::withdraw(words, f64::to_bits(part));
+        addend::withdraw(words, f64::to_bits(part));
         sign = false;
         i += 1;
     }

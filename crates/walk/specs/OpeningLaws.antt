@@ -7,20 +7,21 @@ use lib.ListN.{length}
 use lib.Ieee.{Float}
 use Rattle.ieee.specs.Units.{nearestFloat}
 use Rattle.kinds.specs.Limits.{Width}
+use Rattle.kinds.specs.Outcome.{outcome}
 use Rattle.kinds.specs.declared.Step.{Step}
 use Rattle.kinds.specs.declared.Step.the-variants.{Refused}
 use Rattle.kinds.specs.declared.Verdict.{Verdict}
 use Rattle.kinds.specs.declared.Verdict.the-variants as verdicts
 use Rattle.judge.specs.Judge.{floats, zeroSign}
 use Rattle.rounds.specs.Round.{fresh}
-use Rattle.walk.specs.Walk.{walked, openedAfter}
+use Rattle.walk.specs.Walk.{openedAfter}
 
 pub opened-refused : (W : Width) (v : Verdict) (k p : ℕ) (ps : List ℕ) (work : List Float) → v ≡ verdicts.Refused k p
-    → walked (Refused k p) work ≡ openedAfter W v ps work
+    → outcome (Refused k p) work ≡ openedAfter W v ps work
 unfolding openedAfter
 opened-refused W v k p ps work e = rw e
 
 pub opened-good : (W : Width) (ps : List ℕ) (work xs : List Float) (zero : Float) (q : Step) → zero ≡ nearestFloat (W .format) (zeroSign ps) (pos 0)
-    → xs ≡ floats W ps → q ≡ fresh W zero (length ps) xs 0 → walked q xs ≡ openedAfter W verdicts.Good ps work
+    → xs ≡ floats W ps → q ≡ fresh W zero (length ps) xs 0 → outcome q xs ≡ openedAfter W verdicts.Good ps work
 unfolding openedAfter
 opened-good W ps work xs zero q z x e = rw (e, z, x)

@@ -11,6 +11,7 @@ use lib.Pow.{pow-lt, pow-pos}
 use lib.Ieee.{Float}
 use Rattle.lists.specs.BitsetLaws.{has-from}
 use Rattle.kinds.specs.Limits.{Width, blocksOf}
+use Rattle.kinds.specs.Outcome.{outcome}
 use Rattle.kinds.specs.States.{stateOf}
 use Rattle.kinds.specs.declared.Step.the-variants.{More}
 use Rattle.kinds.specs.declared.Verdict.{Verdict}
@@ -21,7 +22,7 @@ use Rattle.rounds.specs.Round.{roundOf, closed}
 use Rattle.rounds.specs.Fitting.{Fitting}
 use Rattle.rounds.specs.Begun.{Begun}
 use Rattle.rounds.specs.Blocks.{tauAt, stateAt, workAt, next-state, next-work, first-state, first-work, covers, last-state, last-work}
-use Rattle.walk.specs.Walk.{Walked, walked, taken, stepped, steppedAfter, onward, rising}
+use Rattle.walk.specs.Walk.{Walked, taken, stepped, steppedAfter, onward, rising}
 use Rattle.walk.specs.Stepping.{stepping, stepping-accepted}
 
 module _ {W : Width} {F : Fitting W} {e n : ℕ} {sigma t : Float} {rounds : ℕ} {xs : List Float} (B : Begun W F e n sigma t rounds xs) where
@@ -35,13 +36,13 @@ module _ {W : Width} {F : Fitting W} {e n : ℕ} {sigma t : Float} {rounds : ℕ
       j h (has-from h)
 
   takes : (j : ℕ) → j < blocksOf W n → stepped W (stateAt B j) j (workAt B j)
-      ≡ walked (cond (eqb (stateAt B (suc j) .pending) 0) (closed W (stateAt B (suc j)) (workAt B (suc j))) (More (stateAt B (suc j)))) (workAt B (suc j))
+      ≡ outcome (cond (eqb (stateAt B (suc j) .pending) 0) (closed W (stateAt B (suc j)) (workAt B (suc j))) (More (stateAt B (suc j)))) (workAt B (suc j))
   unfolding steppedAfter taken stateAt
   takes j h =
       let next = next-state B j h in
       let work = next-work B j h in
       ap (λ (v : Verdict). steppedAfter W v (stateAt B j) j (workAt B j)) (accepted j h)
-      ∙ (λ i. walked (cond (eqb (next i .pending) 0) (closed W (next i) (work i)) (More (next i))) (work i))
+      ∙ (λ i. outcome (cond (eqb (next i .pending) 0) (closed W (next i) (work i)) (More (next i))) (work i))
 
   some-left : (j : ℕ) → suc j < blocksOf W n → eqb (stateAt B (suc j) .pending) 0 ≡ false
   unfolding stateAt
@@ -52,37 +53,37 @@ module _ {W : Width} {F : Fitting W} {e n : ℕ} {sigma t : Float} {rounds : ℕ
   none-left m b = eq-eqb (2 ^ blocksOf W n - 2 ^ suc m) 0 (rw b (sub-self (2 ^ suc m)))
 
   -- ---- the blocks before the last, and the last
-  goes-on : (j : ℕ) → j < blocksOf W n → foldl (onward W) (walked (More (stateAt B 0)) (workAt B 0)) (rising j) ≡ walked (More (stateAt B j)) (workAt B j)
+  goes-on : (j : ℕ) → j < blocksOf W n → foldl (onward W) (outcome (More (stateAt B 0)) (workAt B 0)) (rising j) ≡ outcome (More (stateAt B j)) (workAt B j)
   unfolding rising
   goes-on zero h = refl
   goes-on (suc j) h =
-      foldl-append (onward W) (walked (More (stateAt B 0)) (workAt B 0)) (rising j) (j ∷ [])
+      foldl-append (onward W) (outcome (More (stateAt B 0)) (workAt B 0)) (rising j) (j ∷ [])
       ∙ ap (λ (w : Walked). onward W w j) (goes-on j (omega arith))
       ∙ takes j (omega arith)
-      ∙ ap (λ (t : Bool). walked (cond t (closed W (stateAt B (suc j)) (workAt B (suc j))) (More (stateAt B (suc j)))) (workAt B (suc j))) (some-left j h)
+      ∙ ap (λ (t : Bool). outcome (cond t (closed W (stateAt B (suc j)) (workAt B (suc j))) (More (stateAt B (suc j)))) (workAt B (suc j))) (some-left j h)
 
-  closes : (m : ℕ) → blocksOf W n ≡ suc m → foldl (onward W) (walked (More (stateAt B 0)) (workAt B 0)) (rising (suc m))
-      ≡ walked (closed W (stateAt B (suc m)) (workAt B (suc m))) (workAt B (suc m))
+  closes : (m : ℕ) → blocksOf W n ≡ suc m → foldl (onward W) (outcome (More (stateAt B 0)) (workAt B 0)) (rising (suc m))
+      ≡ outcome (closed W (stateAt B (suc m)) (workAt B (suc m))) (workAt B (suc m))
   unfolding rising
   closes m b =
-      foldl-append (onward W) (walked (More (stateAt B 0)) (workAt B 0)) (rising m) (m ∷ [])
+      foldl-append (onward W) (outcome (More (stateAt B 0)) (workAt B 0)) (rising m) (m ∷ [])
       ∙ ap (λ (w : Walked). onward W w m) (goes-on m (omega arith))
       ∙ takes m (omega arith)
-      ∙ ap (λ (t : Bool). walked (cond t (closed W (stateAt B (suc m)) (workAt B (suc m))) (More (stateAt B (suc m)))) (workAt B (suc m))) (none-left m b)
+      ∙ ap (λ (t : Bool). outcome (cond t (closed W (stateAt B (suc m)) (workAt B (suc m))) (More (stateAt B (suc m)))) (workAt B (suc m))) (none-left m b)
 
   -- ---- the round
-  pub round-closes : foldl (onward W) (walked (More (roundOf W n sigma t rounds)) xs) (rising (blocksOf W n))
-      ≡ walked (closed W (stateOf n sigma t (gathered (W .format) sigma (plusZero (W .format)) xs) 0 rounds) (remainders (W .format) sigma xs))
+  pub round-closes : foldl (onward W) (outcome (More (roundOf W n sigma t rounds)) xs) (rising (blocksOf W n))
+      ≡ outcome (closed W (stateOf n sigma t (gathered (W .format) sigma (plusZero (W .format)) xs) 0 rounds) (remainders (W .format) sigma xs))
       (remainders (W .format) sigma xs)
   round-closes = go (blocksOf W n) refl
     where
-      go : (m : ℕ) → blocksOf W n ≡ m → foldl (onward W) (walked (More (roundOf W n sigma t rounds)) xs) (rising (blocksOf W n))
-          ≡ walked (closed W (stateOf n sigma t (gathered (W .format) sigma (plusZero (W .format)) xs) 0 rounds) (remainders (W .format) sigma xs))
+      go : (m : ℕ) → blocksOf W n ≡ m → foldl (onward W) (outcome (More (roundOf W n sigma t rounds)) xs) (rising (blocksOf W n))
+          ≡ outcome (closed W (stateOf n sigma t (gathered (W .format) sigma (plusZero (W .format)) xs) 0 rounds) (remainders (W .format) sigma xs))
           (remainders (W .format) sigma xs)
       go zero b = absurd (omega (arith, covers B, B .some, ap (λ (k : ℕ). W .block * k) b, mul-zero (W .block)))
       go (suc m) b =
           let state = ap (stateAt B) (sym b) ∙ last-state B in
           let work = ap (workAt B) (sym b) ∙ last-work B in
-          (λ i. foldl (onward W) (walked (More (sym (first-state B) i)) (sym (first-work B) i)) (rising (b i)))
+          (λ i. foldl (onward W) (outcome (More (sym (first-state B) i)) (sym (first-work B) i)) (rising (b i)))
           ∙ closes m b
-          ∙ (λ i. walked (closed W (state i) (work i)) (work i))
+          ∙ (λ i. outcome (closed W (state i) (work i)) (work i))

@@ -10,6 +10,7 @@ use lib.Ieee.{Float}
 use Rattle.lists.specs.Apart.{apart}
 use Rattle.lists.specs.Each.{each-weaker}
 use Rattle.kinds.specs.Limits.{Width, blocksOf}
+use Rattle.kinds.specs.Outcome.{outcome}
 use Rattle.kinds.specs.States.{stateOf}
 use Rattle.kinds.specs.declared.State.{State}
 use Rattle.kinds.specs.declared.Step.{Step}
@@ -22,25 +23,25 @@ use Rattle.rounds.specs.Closing.{Closing}
 use Rattle.rounds.specs.Fitting.{Fitting}
 use Rattle.rounds.specs.Begun.{Begun, begun-rounds}
 use Rattle.rounds.specs.Closes.{Next, ends, goes, falls}
-use Rattle.walk.specs.Walk.{Walked, walked, onward, rising, roundsFrom}
+use Rattle.walk.specs.Walk.{Walked, onward, rising, roundsFrom}
 use Rattle.sound.specs.Sound.{unitsAt}
 use Rattle.walk.specs.Rising.{round-closes}
 
 module _ (W : Width) (blocks : ℕ) where
-  pub still : (x : Float) (r : ℕ) (ys : List Float) (bs : List ℕ) → foldl (onward W) (walked (Done x r) ys) bs ≡ walked (Done x r) ys
+  pub still : (x : Float) (r : ℕ) (ys : List Float) (bs : List ℕ) → foldl (onward W) (outcome (Done x r) ys) bs ≡ outcome (Done x r) ys
   still x r ys [] = refl
   still x r ys (b ∷ bs) = still x r ys bs
 
-  pub run-done : (k : ℕ) (x : Float) (r : ℕ) (ys : List Float) → roundsFrom W blocks k (walked (Done x r) ys) ≡ walked (Done x r) ys
+  pub run-done : (k : ℕ) (x : Float) (r : ℕ) (ys : List Float) → roundsFrom W blocks k (outcome (Done x r) ys) ≡ outcome (Done x r) ys
   unfolding roundsFrom
   run-done zero x r ys = refl
   run-done (suc k) x r ys = ap (roundsFrom W blocks k) (still x r ys (rising blocks)) ∙ run-done k x r ys
 
-  still-refused : (k p : ℕ) (ys : List Float) (bs : List ℕ) → foldl (onward W) (walked (Refused k p) ys) bs ≡ walked (Refused k p) ys
+  still-refused : (k p : ℕ) (ys : List Float) (bs : List ℕ) → foldl (onward W) (outcome (Refused k p) ys) bs ≡ outcome (Refused k p) ys
   still-refused k p ys [] = refl
   still-refused k p ys (b ∷ bs) = still-refused k p ys bs
 
-  pub run-refused : (m k p : ℕ) (ys : List Float) → roundsFrom W blocks m (walked (Refused k p) ys) ≡ walked (Refused k p) ys
+  pub run-refused : (m k p : ℕ) (ys : List Float) → roundsFrom W blocks m (outcome (Refused k p) ys) ≡ outcome (Refused k p) ys
   unfolding roundsFrom
   run-refused zero k p ys = refl
   run-refused (suc m) k p ys = ap (roundsFrom W blocks m) (still-refused k p ys (rising blocks)) ∙ run-refused m k p ys
@@ -70,27 +71,27 @@ module _ {W : Width} {F : Fitting W} {n : ℕ} {s : State} {xs : List Float} (R 
       λ i. stateOf (same-n i) (s .sigma) (s .t) (gathered (W .format) (s .sigma) (tau i) xs) 0 (s .rounds)
 
   -- a round of it, and what may follow
-  pub run-round : (k : ℕ) → roundsFrom W (blocksOf W n) (suc k) (walked (More s) xs)
-      ≡ roundsFrom W (blocksOf W n) k (walked (closed W (allTaken W s xs) (allLeft W s xs)) (allLeft W s xs))
+  pub run-round : (k : ℕ) → roundsFrom W (blocksOf W n) (suc k) (outcome (More s) xs)
+      ≡ roundsFrom W (blocksOf W n) k (outcome (closed W (allTaken W s xs) (allLeft W s xs)) (allLeft W s xs))
   unfolding roundsFrom
   run-round k = ap (roundsFrom W (blocksOf W n) k)
-      ((λ i. foldl (onward W) (walked (More (R .state i)) xs) (rising (blocksOf W n)))
+      ((λ i. foldl (onward W) (outcome (More (R .state i)) xs) (rising (blocksOf W n)))
       ∙ round-closes (R .begun)
-      ∙ ap (λ (q : State). walked (closed W q (allLeft W s xs)) (allLeft W s xs)) all-taken)
+      ∙ ap (λ (q : State). outcome (closed W q (allLeft W s xs)) (allLeft W s xs)) all-taken)
 
   follows : Next W F n (s .rounds) (allLeft W s xs) (closed W (allTaken W s xs) (allLeft W s xs))
   follows = rw all-taken at (falls (R .begun))
 
   pub run-ends : (k : ℕ) (x : Float) (r : ℕ) → closed W (allTaken W s xs) (allLeft W s xs) ≡ Done x r
-      → walked (Done x r) (allLeft W s xs) ≡ roundsFrom W (blocksOf W n) (suc k) (walked (More s) xs)
+      → outcome (Done x r) (allLeft W s xs) ≡ roundsFrom W (blocksOf W n) (suc k) (outcome (More s) xs)
   run-ends k x r e =
       sym (run-round k
-      ∙ ap (λ (q : Step). roundsFrom W (blocksOf W n) k (walked q (allLeft W s xs))) e
+      ∙ ap (λ (q : Step). roundsFrom W (blocksOf W n) k (outcome q (allLeft W s xs))) e
       ∙ run-done W (blocksOf W n) k x r (allLeft W s xs))
 
   pub run-goes : (k : ℕ) (s' : State) → closed W (allTaken W s xs) (allLeft W s xs) ≡ More s'
-      → roundsFrom W (blocksOf W n) (suc k) (walked (More s) xs) ≡ roundsFrom W (blocksOf W n) k (walked (More s') (allLeft W s xs))
-  run-goes k s' e = run-round k ∙ ap (λ (q : Step). roundsFrom W (blocksOf W n) k (walked q (allLeft W s xs))) e
+      → roundsFrom W (blocksOf W n) (suc k) (outcome (More s) xs) ≡ roundsFrom W (blocksOf W n) k (outcome (More s') (allLeft W s xs))
+  run-goes k s' e = run-round k ∙ ap (λ (q : Step). roundsFrom W (blocksOf W n) k (outcome q (allLeft W s xs))) e
 
   pub run-running : (s' : State) → closed W (allTaken W s xs) (allLeft W s xs) ≡ More s' → Running W F n s' (allLeft W s xs) × (s' .rounds ≡ s .rounds + 1)
   unfolding roundOf
@@ -145,15 +146,15 @@ module _ {W : Width} {F : Fitting W} {n : ℕ} {s : State} {xs : List Float} (R 
     is = sym (Q ∙ (λ i. closed W (T i) (Y i)))
 
     pub walk-ends : (x : Float) (r : ℕ) → q ≡ Done x r
-        → walked q ys ≡ roundsFrom W (blocksOf W n) (suc (W .rounds) - s .rounds) (walked (More s) xs)
+        → outcome q ys ≡ roundsFrom W (blocksOf W n) (suc (W .rounds) - s .rounds) (outcome (More s) xs)
     walk-ends x r e = rw (e, Y, remaining) (run-ends R (W .rounds - s .rounds) x r (is ∙ e))
 
     pub walk-accepted : (k p : ℕ) → q ≡ Refused k p → ⊥
     walk-accepted k p e = run-accepted R k p (is ∙ e)
 
     module _ (s' : State) (e : q ≡ More s') where
-      pub walk-goes : roundsFrom W (blocksOf W n) (suc (W .rounds) - s .rounds) (walked (More s) xs)
-          ≡ roundsFrom W (blocksOf W n) (suc (W .rounds) - s' .rounds) (walked (More s') ys)
+      pub walk-goes : roundsFrom W (blocksOf W n) (suc (W .rounds) - s .rounds) (outcome (More s) xs)
+          ≡ roundsFrom W (blocksOf W n) (suc (W .rounds) - s' .rounds) (outcome (More s') ys)
       walk-goes =
           let k : suc (W .rounds) - s' .rounds ≡ W .rounds - s .rounds = omega (arith, run-running R s' (is ∙ e) .1) in
           rw (remaining, k, Y) (run-goes R (W .rounds - s .rounds) s' (is ∙ e))
@@ -173,7 +174,7 @@ pub record Ended (W : Width) (w : Walked) : Type 0 where
 
 module _ {W : Width} {F : Fitting W} {n : ℕ} where
   finished : {s : State} {xs : List Float} (k : ℕ) (x : Float) (r : ℕ) → Running W F n s xs → closed W (allTaken W s xs) (allLeft W s xs) ≡ Done x r
-      → Ended W (roundsFrom W (blocksOf W n) (suc k) (walked (More s) xs))
+      → Ended W (roundsFrom W (blocksOf W n) (suc k) (outcome (More s) xs))
   finished {s} {xs} k x r R e = record {
     sum = x;
     rounds = r;
@@ -183,16 +184,16 @@ module _ {W : Width} {F : Fitting W} {n : ℕ} where
 
   -- what a close leaves to be shown: that a walk which goes on ends
   closing : {s : State} {xs : List Float} (k : ℕ) (R : Running W F n s xs)
-      → ((s' : State) → closed W (allTaken W s xs) (allLeft W s xs) ≡ More s' → Ended W (roundsFrom W (blocksOf W n) k (walked (More s') (allLeft W s xs))))
-      → Ended W (roundsFrom W (blocksOf W n) (suc k) (walked (More s) xs))
+      → ((s' : State) → closed W (allTaken W s xs) (allLeft W s xs) ≡ More s' → Ended W (roundsFrom W (blocksOf W n) k (outcome (More s') (allLeft W s xs))))
+      → Ended W (roundsFrom W (blocksOf W n) (suc k) (outcome (More s) xs))
   closing {s} {xs} k R h = go (closed W (allTaken W s xs) (allLeft W s xs)) refl
     where
-      go : (q : Step) → closed W (allTaken W s xs) (allLeft W s xs) ≡ q → Ended W (roundsFrom W (blocksOf W n) (suc k) (walked (More s) xs))
+      go : (q : Step) → closed W (allTaken W s xs) (allLeft W s xs) ≡ q → Ended W (roundsFrom W (blocksOf W n) (suc k) (outcome (More s) xs))
       go (Done x r) e = finished k x r R e
       go (Refused j p) e = absurd (run-accepted R j p e)
       go (More s') e = rw (run-goes R k s' e) (h s' e)
 
   pub run-finishes : {s : State} {xs : List Float} (k : ℕ) → Running W F n s xs → s .rounds + k ≡ W .rounds
-      → Ended W (roundsFrom W (blocksOf W n) (suc k) (walked (More s) xs))
+      → Ended W (roundsFrom W (blocksOf W n) (suc k) (outcome (More s) xs))
   run-finishes zero R h = closing 0 R (λ s' e. let N = run-running R s' e in absurd (omega (arith, N .1, begun-rounds (N .0 .begun))))
   run-finishes (suc k) R h = closing (suc k) R (λ s' e. let N = run-running R s' e in run-finishes k (N .0) (omega (arith, N .1)))

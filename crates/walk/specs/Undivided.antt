@@ -12,17 +12,18 @@ use lib.Ieee.{Float}
 use Rattle.ieee.specs.Units.{nearestFloat}
 use Rattle.lists.specs.Apart.{apart}
 use Rattle.kinds.specs.Limits.{Width, blocksOf}
+use Rattle.kinds.specs.Outcome.{outcome}
 use Rattle.kinds.specs.declared.State.{State}
 use Rattle.kinds.specs.declared.Step.{Step}
 use Rattle.kinds.specs.declared.Step.the-variants.{More, Done, Refused}
 use Rattle.kinds.specs.declared.Verdict.{Verdict}
 use Rattle.kinds.specs.declared.Verdict.the-variants as verdicts
 use Rattle.judge.specs.Judge.{judged, floats, zeroSign}
-use Rattle.judge.specs.JudgeLaws.{given-when}
+use Rattle.judge.specs.JudgeLaws.{list-when, list-passed, list-allowed}
 use Rattle.extract.specs.Extract.{plusZero}
 use Rattle.rounds.specs.Round.{allZero, sigmaOf, roundOf, fresh}
 use Rattle.rounds.specs.Fitting.{Fitting}
-use Rattle.walk.specs.Walk.{Walked, walked, openedAfter, opened, roundsFrom, faithfulOf}
+use Rattle.walk.specs.Walk.{Walked, openedAfter, opened, roundsFrom, faithfulOf}
 use Rattle.walk.specs.Opening.{opens}
 use Rattle.walk.specs.Run.{Running, run-done, run-refused}
 
@@ -33,7 +34,7 @@ pub record First (W : Width) (F : Fitting W) (n : ℕ) (s : State) (xs : List Fl
   pub rounds : s .rounds ≡ 0
 
 module _ {W : Width} (F : Fitting W) (ps : List ℕ) (work : List Float) where
-  pub opened-first : (s : State) (xs : List Float) → opened W ps work ≡ walked (More s) xs → First W F (length ps) s xs
+  pub opened-first : (s : State) (xs : List Float) → opened W ps work ≡ outcome (More s) xs → First W F (length ps) s xs
   unfolding openedAfter fresh roundOf
   opened-first s xs e = by (judged W (eqb (length work) (length ps)) true ps) refl e
     where
@@ -45,24 +46,24 @@ module _ {W : Width} (F : Fitting W) (ps : List ℕ) (work : List Float) where
 
       round : allZero (W .format) (floats W ps) ≡ false → judged W (eqb (length work) n) true ps ≡ verdicts.Good → First W F n first (floats W ps)
       round z g =
-          let v = given-when W (eqb (length work) n) true ps verdicts.Good .0 g in
-          record { running = record { e = _; state = refl; begun = opens (v .1) F (v .0 .few) z }; count = refl; rounds = refl }
+          let v = list-when W (eqb (length work) n) true ps verdicts.Good .0 g in
+          record { running = record { e = _; state = refl; begun = opens (list-allowed v) F (list-passed v .few) z }; count = refl; rounds = refl }
 
       zero : Float
       zero = nearestFloat (W .format) (zeroSign ps) (pos 0)
 
       starts : (b : Bool) → allZero (W .format) (floats W ps) ≡ b → judged W (eqb (length work) n) true ps ≡ verdicts.Good
-          → walked (cond b (Done zero 0) (More first)) (floats W ps) ≡ walked (More s) xs → First W F n s xs
+          → outcome (cond b (Done zero 0) (More first)) (floats W ps) ≡ outcome (More s) xs → First W F n s xs
       starts true z g h =
           let m : Done zero 0 ≡ More s = ap (λ (w : Walked). w .answer) h in
           apart (cc)
       starts false z g h =
           let m : More first ≡ More s = ap (λ (w : Walked). w .answer) h in
           let a : first ≡ s = cc in
-          let b : floats W ps ≡ xs = ap (λ (w : Walked). w .work) h in
+          let b : floats W ps ≡ xs = ap (λ (w : Walked). w .area) h in
           rw (a, b) at (round z g)
 
-      by : (v : Verdict) → judged W (eqb (length work) n) true ps ≡ v → openedAfter W v ps work ≡ walked (More s) xs → First W F n s xs
+      by : (v : Verdict) → judged W (eqb (length work) n) true ps ≡ v → openedAfter W v ps work ≡ outcome (More s) xs → First W F n s xs
       by verdicts.Good g h = starts (allZero (W .format) (floats W ps)) refl g h
       by (verdicts.Refused k p) g h =
           let m : Refused k p ≡ More s = ap (λ (w : Walked). w .answer) h in
@@ -71,29 +72,29 @@ module _ {W : Width} (F : Fitting W) (ps : List ℕ) (work : List Float) where
   rest : Walked → Walked
   rest w = roundsFrom W (blocksOf W (length ps)) (suc (W .rounds)) w
 
-  module _ (q : Step) (xs : List Float) (e : walked q xs ≡ opened W ps work) where
+  module _ (q : Step) (xs : List Float) (e : outcome q xs ≡ opened W ps work) where
     -- an answer that isn't a state stays
-    stays : rest (walked q xs) ≡ walked q xs → walked q xs ≡ faithfulOf W ps work
+    stays : rest (outcome q xs) ≡ outcome q xs → outcome q xs ≡ faithfulOf W ps work
     unfolding rest
     stays h = sym h ∙ ap rest e
 
-    pub faithful-done : (x : Float) (r : ℕ) → q ≡ Done x r → walked q xs ≡ faithfulOf W ps work
+    pub faithful-done : (x : Float) (r : ℕ) → q ≡ Done x r → outcome q xs ≡ faithfulOf W ps work
     unfolding rest
     faithful-done x r d = stays (rw d (run-done W (blocksOf W (length ps)) (suc (W .rounds)) x r xs))
 
-    pub faithful-refused : (k p : ℕ) → q ≡ Refused k p → walked q xs ≡ faithfulOf W ps work
+    pub faithful-refused : (k p : ℕ) → q ≡ Refused k p → outcome q xs ≡ faithfulOf W ps work
     unfolding rest
     faithful-refused k p d = stays (rw d (run-refused W (blocksOf W (length ps)) (suc (W .rounds)) k p xs))
 
     module _ (s : State) (d : q ≡ More s) where
       first : First W F (length ps) s xs
-      first = opened-first s xs (sym e ∙ ap (λ (q : Step). walked q xs) d)
+      first = opened-first s xs (sym e ∙ ap (λ (q : Step). outcome q xs) d)
 
       pub faithful-running : Running W F (s .n) s xs
       faithful-running = subst (λ (n : ℕ). Running W F n s xs) (sym (first .count)) (first .running)
 
-      pub faithful-more : roundsFrom W (blocksOf W (s .n)) (suc (W .rounds) - s .rounds) (walked (More s) xs) ≡ faithfulOf W ps work
+      pub faithful-more : roundsFrom W (blocksOf W (s .n)) (suc (W .rounds) - s .rounds) (outcome (More s) xs) ≡ faithfulOf W ps work
       unfolding rest
       faithful-more =
           let k : suc (W .rounds) - s .rounds ≡ suc (W .rounds) = omega (arith, first .rounds) in
-          (λ i. roundsFrom W (blocksOf W (first .count i)) (k i) (walked (sym d i) xs)) ∙ ap rest e
+          (λ i. roundsFrom W (blocksOf W (first .count i)) (k i) (outcome (sym d i) xs)) ∙ ap rest e

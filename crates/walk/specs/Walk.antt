@@ -8,6 +8,7 @@ use lib.ListN.{length}
 use lib.Ieee.{Float}
 use Rattle.ieee.specs.Units.{nearestFloat}
 use Rattle.kinds.specs.Limits.{Width, blocksOf}
+use Rattle.kinds.specs.Outcome.{Outcome, outcome}
 use Rattle.kinds.specs.declared.State.{State}
 use Rattle.kinds.specs.declared.Step.{Step}
 use Rattle.kinds.specs.declared.Step.the-variants.{More, Done, Refused}
@@ -18,12 +19,8 @@ use Rattle.sound.specs.Sound.{gated}
 use Rattle.rounds.specs.Round.{turned, takenState, fresh, closed}
 
 -- the answer, and the work area afterwards
-pub record Walked : Type 0 where
-  pub answer : Step
-  pub work : List Float
-
-abbrev pub walked : Step → List Float → Walked
-walked r xs = record { answer = r; work = xs }
+abbrev pub Walked : Type 0
+Walked = Outcome Step Float
 
 -- ---- "Opening copies the list to the work area and answers the first state, a finished sum or a refusal."
 -- "If n is 0 or every number is zero, the answer is +0 with 0 rounds. Otherwise mu .., sigma .., t = +0, and the first round opens"
@@ -31,8 +28,8 @@ unfoldable pub openedAfter : Width → Verdict → List ℕ → List Float → W
 openedAfter W verdicts.Good ps work =
     let zero = nearestFloat (W .format) (zeroSign ps) (pos 0) in
     let xs = floats W ps in
-    walked (fresh W zero (length ps) xs 0) xs
-openedAfter W (verdicts.Refused k p) ps work = walked (Refused k p) work
+    outcome (fresh W zero (length ps) xs 0) xs
+openedAfter W (verdicts.Refused k p) ps work = outcome (Refused k p) work
 
 abbrev pub opened : Width → List ℕ → List Float → Walked
 opened W ps work = openedAfter W (judged W (eqb (length work) (length ps)) true ps) ps work
@@ -42,11 +39,11 @@ unfoldable pub taken : Width → State → ℕ → List Float → Walked
 taken W s b work =
     let next = takenState W s b work in
     let xs = turned W (s .sigma) b work in
-    walked (cond (eqb (next .pending) 0) (closed W next xs) (More next)) xs
+    outcome (cond (eqb (next .pending) 0) (closed W next xs) (More next)) xs
 
 unfoldable pub steppedAfter : Width → Verdict → State → ℕ → List Float → Walked
 steppedAfter W verdicts.Good s b work = taken W s b work
-steppedAfter W (verdicts.Refused k p) s b work = walked (Refused k p) work
+steppedAfter W (verdicts.Refused k p) s b work = outcome (Refused k p) work
 
 abbrev pub stepped : Width → State → ℕ → List Float → Walked
 stepped W s b work = steppedAfter W (gated W s b work) s b work
@@ -57,7 +54,7 @@ abbrev pub onward : Width → Walked → ℕ → Walked
 onward W w b = after (w .answer)
   where
     after : Step → Walked
-    after (More s) = stepped W s b (w .work)
+    after (More s) = stepped W s b (w .area)
     after (Done x r) = w
     after (Refused k p) = w
 

@@ -1,18 +1,19 @@
 // A block that the gate let pass.
-use blocks::round;
-use closes::close;
 use kinds::State;
 use kinds::Step;
+use rounds::close::close;
+use rounds::round;
 ghost use mathlib.Core.Path.{_≡_};
 ghost use Rattle.kinds.specs.Limits.{doubles};
+ghost use Rattle.kinds.specs.Outcome.{outcome};
 ghost use Rattle.kinds.specs.declared.Verdict.the-variants.{Good};
 ghost use Rattle.sound.specs.Sound.{gated};
-ghost use Rattle.walk.specs.Walk.{walked, taken};
+ghost use Rattle.walk.specs.Walk.{taken};
 
 // Takes the block; "When the last pending block of a round is taken the round closes".
 pub fn accepted(s: State, work: &mut [f64], block: usize) -> Step
     requires { ⌜ gated doubles s block (now work) ≡ Good ⌝ }
-    ensures { λ r. ⌜ walked r (now (work .exit)) ≡ taken doubles s block (now (work .entry)) ⌝ }
+    ensures { λ r. ⌜ outcome r (now (work .exit)) ≡ taken doubles s block (now (work .entry)) ⌝ }
 {
     let next = round::take(s, work, block);
     let pending = next.pending;

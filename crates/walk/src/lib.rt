@@ -9,11 +9,12 @@ mod run;
 
 ghost use mathlib.Core.Path.{_≡_};
 ghost use Rattle.kinds.specs.Limits.{doubles};
-ghost use Rattle.walk.specs.Walk.{walked, opened, stepped, faithfulOf};
+ghost use Rattle.kinds.specs.Outcome.{outcome};
+ghost use Rattle.walk.specs.Walk.{opened, stepped, faithfulOf};
 
 // "Opening copies the list to the work area and answers the first state, a finished sum or a refusal."
 pub fn open(list: &[u64], work: &mut [f64]) -> Step
-    ensures { λ r. ⌜ walked r (now (work .exit)) ≡ opened doubles (now (list .entry)) (now (work .entry)) ⌝ }
+    ensures { λ r. ⌜ outcome r (now (work .exit)) ≡ opened doubles (now (list .entry)) (now (work .entry)) ⌝ }
 {
     let fits = work.len() == list.len();
     match judge::judge(list, fits, true) {
@@ -24,9 +25,9 @@ pub fn open(list: &[u64], work: &mut [f64]) -> Step
 
 // "On a block step: 4, 8, 6, 7." "A step answers one of: more, with the next state; the finished sum with its rounds; or a refusal."
 pub fn step(s: State, work: &mut [f64], block: usize) -> Step
-    ensures { λ r. ⌜ walked r (now (work .exit)) ≡ stepped doubles s block (now (work .entry)) ⌝ }
+    ensures { λ r. ⌜ outcome r (now (work .exit)) ≡ stepped doubles s block (now (work .entry)) ⌝ }
 {
-    match gate::gate(s, work, block) {
+    match sound::gate(s, work, block) {
         Verdict::Refused(k, place) => Step::Refused(k, place),
         Verdict::Good => accepted::accepted(s, work, block),
     }
@@ -34,7 +35,7 @@ pub fn step(s: State, work: &mut [f64], block: usize) -> Step
 
 // "The undivided call is this walk with blocks in rising order."
 pub fn faithful(list: &[u64], work: &mut [f64]) -> Step
-    ensures { λ r. ⌜ walked r (now (work .exit)) ≡ faithfulOf doubles (now (list .entry)) (now (work .entry)) ⌝ }
+    ensures { λ r. ⌜ outcome r (now (work .exit)) ≡ faithfulOf doubles (now (list .entry)) (now (work .entry)) ⌝ }
 {
     let first = open(list, work);
     match first {

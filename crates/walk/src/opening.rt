@@ -1,15 +1,16 @@
 // How a walk opens.
-use blocks::fresh::fresh;
 use kinds::Step;
+use rounds::fresh::fresh;
 ghost use mathlib.Core.Path.{_≡_};
 ghost use Prim.Native.Nat.{_≤_};
 ghost use lib.IntN.{pos};
 ghost use lib.ListN.{length};
 ghost use Rattle.ieee.specs.Units.{nearestFloat};
 ghost use Rattle.kinds.specs.Limits.{doubles};
+ghost use Rattle.kinds.specs.Outcome.{outcome};
 ghost use Rattle.kinds.specs.declared.Verdict.the-variants.{Good};
 ghost use Rattle.judge.specs.Judge.{firstFault};
-ghost use Rattle.walk.specs.Walk.{walked, openedAfter};
+ghost use Rattle.walk.specs.Walk.{openedAfter};
 
 // The zero of a sign. `judge::zero_sign` is the one definition of which zero a list with exact sum zero answers, here and in the nearest sum; document 01
 // asks for +0 of every list.
@@ -22,7 +23,7 @@ fn zero(negative: bool) -> f64
 // "Opening copies the list to the work area". Of an allowed list only, as the copy asks.
 pub fn start(list: &[u64], work: &mut [f64]) -> Step
     requires { ⌜ (length (now work) ≡ length (now list)) × (length (now list) ≤ doubles .length) × (firstFault doubles (now list) 0 ≡ Good) ⌝ }
-    ensures { λ r. ⌜ walked r (now (work .exit)) ≡ openedAfter doubles Good (now (list .entry)) (now (work .entry)) ⌝ }
+    ensures { λ r. ⌜ outcome r (now (work .exit)) ≡ openedAfter doubles Good (now (list .entry)) (now (work .entry)) ⌝ }
 {
     judge::copy(list, work);
     let zero = zero(judge::zero_sign(list));

@@ -4,3 +4,6 @@ mod word;
 
 // "Register: 33 words of 64 bits, least significant first, two's complement, counting units."
 pub const WORDS: usize = 33;
+
+// The top digit of a word. That of the highest word is set where the register is negative.
+pub const TOP: u64 = 0x8000_0000_0000_0000;

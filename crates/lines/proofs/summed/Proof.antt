@@ -67,7 +67,7 @@ returns c =
     let f = c .before .before .before .before in
     let a = f .before .before .before .before .before .args in
     let e = ap (λ (w : Walked). w .answer) (sym (f .faithful .ensures)) ∙ c .enum-told .given .1 in
-    (ap (λ (w : Walked). w .work) (f .faithful .ensures), rw (lines-more (a .list .now) (a .work .now) _ e) (nothing (a .text .now)))
+    (ap (λ (w : Walked). w .area) (f .faithful .ensures), rw (lines-more (a .list .now) (a .work .now) _ e) (nothing (a .text .now)))
 
 same-length-2 : tie.Need-same-length-2
 same-length-2 c = search needs
@@ -82,7 +82,7 @@ returns-2 c =
     let f = k .before .before .before .before in
     let a = f .before .before .before .before .before .args in
     let e = ap (λ (w : Walked). w .answer) (sym (f .faithful .ensures)) ∙ k .k .given .1 in
-    (ap (λ (w : Walked). w .work) (f .faithful .ensures), rw (lines-refused (a .list .now) (a .work .now) _ _ e) (r .refused .ensures))
+    (ap (λ (w : Walked). w .area) (f .faithful .ensures), rw (lines-refused (a .list .now) (a .work .now) _ _ e) (r .refused .ensures))
 
 same-length-4 : tie.Need-same-length-4
 same-length-4 c = search needs
@@ -100,7 +100,7 @@ returns-3 c =
     let a = f .before .before .before .before .before .args in
     let e = ap (λ (w : Walked). w .answer) (sym (f .faithful .ensures)) ∙ d .sum .given .1 in
     let g = sym (n .nearest .ensures) ∙ k .k2 .given .1 in
-    (ap (λ (w : Walked). w .work) (f .faithful .ensures), rw (lines-near-refused (a .list .now) (a .work .now) _ _ e _ _ g) (r .refused2 .ensures))
+    (ap (λ (w : Walked). w .area) (f .faithful .ensures), rw (lines-near-refused (a .list .now) (a .work .now) _ _ e _ _ g) (r .refused2 .ensures))
 
 same-length-6 : tie.Need-same-length-6
 same-length-6 c = search needs
@@ -118,7 +118,7 @@ returns-4 c =
     let a = f .before .before .before .before .before .args in
     let e = ap (λ (w : Walked). w .answer) (sym (f .faithful .ensures)) ∙ d .sum .given .1 in
     let g = sym (n .nearest .ensures) ∙ y .near .given .1 in
-    (ap (λ (w : Walked). w .work) (f .faithful .ensures), rw (lines-three (a .list .now) (a .work .now) _ _ e _ g) (r .three .ensures))
+    (ap (λ (w : Walked). w .area) (f .faithful .ensures), rw (lines-three (a .list .now) (a .work .now) _ _ e _ g) (r .three .ensures))
 
 pub summed-spec : {M : Type 1} → statement M
 summed-spec =

@@ -6,9 +6,9 @@ use native.Mathlib.Omega.{arith}
 use Rattle.kinds.specs.Limits.{doubles}
 use Rattle.judge.specs.Judge.{faultOf}
 use Rattle.judge.specs.FaultLaws.{fault-0}
-use Rattle.finite.specs.Finite.{Held}
-use Rattle.register.specs.Steps.{signBit, leaves}
-use Rattle.finite.specs.RegisterWords.{held}
+use Rattle.addend.specs.Addend.{Held}
+use Rattle.register.specs.Signs.{signBit, leaves}
+use Rattle.addend.specs.RegisterWords.{held}
 use Rattle.register.specs.EnterLaws.{enter-long, enter-bad}
 use Rattle.register.specs.Range.{left, stayed}
 use Rattle.register.proofs.add.Statement.{statement}

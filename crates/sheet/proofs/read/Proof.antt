@@ -4,8 +4,9 @@ use mathlib.Core.List.{_++_}
 use native.Mathlib.Omega.{arith}
 use lib.ListN.{drop}
 use Rattle.kinds.specs.Limits.{doubles}
+use Rattle.kinds.specs.Outcome.{outcome}
 use Rattle.kinds.specs.declared.Sheet.the-variants.{Read}
-use Rattle.sheet.specs.Sheet.{versionOf, countOf, patternsOf, reading}
+use Rattle.sheet.specs.Sheet.{versionOf, countOf, patternsOf}
 use Rattle.sheet.specs.SheetLaws.{read-no-header, read-version, read-many, read-short, read-long, read-no-room, read-all}
 use borrow.Author.Needs.{needs}
 use Rattle.sheet.proofs.read.Statement.{statement}
@@ -80,8 +81,8 @@ returns-7 c =
     let a = r .before .before .before .before .args in
     let n : r .read-header .result .count ≡ countOf (a .sheet .now) = r .read-header .ensures .1 in
     let v : versionOf (a .sheet .now) ≡ 1 = sym (r .read-header .ensures .0) ∙ k .if2 .left in
-    ap (reading (Read (r .read-header .result .count))) (c .before .before .copy .ensures)
-    ∙ (λ i. reading (Read (n i)) (patternsOf (n i) (drop 5 (a .sheet .now)) ++ drop (n i) (a .area .now)))
+    ap (outcome (Read (r .read-header .result .count))) (c .before .before .copy .ensures)
+    ∙ (λ i. outcome (Read (n i)) (patternsOf (n i) (drop 5 (a .sheet .now)) ++ drop (n i) (a .area .now)))
     ∙ sym (read-all doubles (a .sheet .now) (a .area .now) (omega arith) v (omega arith) (omega arith) (omega arith))
 
 pub read-spec : {M : Type 1} → statement M

@@ -5,7 +5,7 @@ use mathlib.Core.Bool.{true}
 use Rattle.ieee.specs.Units.{nearestFloat}
 use Rattle.kinds.specs.Limits.{doubles}
 use Rattle.kinds.specs.declared.Nearest.the-variants.{Sum}
-use Rattle.judge.specs.JudgeLaws.{given-when}
+use Rattle.judge.specs.JudgeLaws.{list-when, list-passed, list-allowed}
 use Rattle.kinds.specs.declared.Verdict.the-variants.{Good}
 use Rattle.sums.specs.Sums.{sumOf}
 use Rattle.sums.specs.SumLaws.{sum-below-limit, total-whole}
@@ -29,7 +29,7 @@ total-requires : tie.Need-total-requires
 total-requires c κs =
     let j = c .before .before .before in
     let ps = j .before .before .args .list .now in
-    (search needs, given-when doubles true true ps Good .0 (sym (j .judge .ensures) ∙ c .before .enum-told .given .1) .1)
+    (search needs, list-allowed (list-when doubles true true ps Good .0 (sym (j .judge .ensures) ∙ c .before .enum-told .given .1)))
 
 zero-sign-requires : tie.Need-zero-sign-requires
 zero-sign-requires c κs = search needs
@@ -42,8 +42,8 @@ nearest-double-requires c κs =
     let t = c .before .before .before in
     let j = t .before .before .before .before in
     let ps = j .before .before .args .list .now in
-    let v = given-when doubles true true ps Good .0 (sym (j .judge .ensures) ∙ t .before .before .enum-told .given .1) in
-    let l = sum-below-limit (v .0 .few) (v .1) in
+    let v = list-when doubles true true ps Good .0 (sym (j .judge .ensures) ∙ t .before .before .enum-told .given .1) in
+    let l = sum-below-limit (list-passed v .few) (list-allowed v) in
     (search needs, rw (total-whole (sumOf (doubles .format) ps) l (t .total .ensures)) l)
 
 returns : tie.Need-returns
@@ -59,8 +59,8 @@ returns-2 c =
     let j = t .before .before .before .before in
     let ps = j .before .before .args .list .now in
     let e = sym (j .judge .ensures) ∙ t .before .before .enum-told .given .1 in
-    let v = given-when doubles true true ps Good .0 e in
-    let w = total-whole (sumOf (doubles .format) ps) (sum-below-limit (v .0 .few) (v .1)) (t .total .ensures) in
+    let v = list-when doubles true true ps Good .0 e in
+    let w = total-whole (sumOf (doubles .format) ps) (sum-below-limit (list-passed v .few) (list-allowed v)) (t .total .ensures) in
     ap Sum (c .nearest-double .ensures ∙ (λ i. nearestFloat (doubles .format) (z .zero-sign .ensures i) (w i))) ∙ sym (nearest-good ps e)
 
 pub nearest-spec : {M : Type 1} → statement M

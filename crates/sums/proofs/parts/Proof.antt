@@ -6,7 +6,7 @@ use lib.ListN.{length}
 use lib.IntN.{ℤ}
 use Rattle.kinds.specs.Limits.{doubles}
 use Rattle.kinds.specs.declared.Verdict.the-variants.{Good}
-use Rattle.judge.specs.JudgeLaws.{given-when}
+use Rattle.judge.specs.JudgeLaws.{list-when, list-passed, list-allowed}
 use Rattle.sums.specs.Sums.{sumOf, parts}
 use Rattle.sums.specs.PartsLaws.{remaining}
 use Rattle.sums.specs.SumLaws.{sum-below-limit, total-whole}
@@ -30,7 +30,7 @@ total-requires : tie.Need-total-requires
 total-requires c κs =
     let j = c .before .before .before in
     let ps = j .before .before .before .args .list .now in
-    (search needs, given-when doubles true _ ps Good .0 (sym (j .judge .ensures) ∙ c .before .enum-told .given .1) .1)
+    (search needs, list-allowed (list-when doubles true _ ps Good .0 (sym (j .judge .ensures) ∙ c .before .enum-told .given .1)))
 
 zero-sign-requires : tie.Need-zero-sign-requires
 zero-sign-requires c κs = search needs
@@ -43,8 +43,8 @@ split-requires c κs =
     let t = c .before .before .before .before in
     let j = t .before .before .before .before in
     let ps = j .before .before .before .args .list .now in
-    let v = given-when doubles true _ ps Good .0 (sym (j .judge .ensures) ∙ t .before .before .enum-told .given .1) in
-    let l = sum-below-limit (v .0 .few) (v .1) in
+    let v = list-when doubles true _ ps Good .0 (sym (j .judge .ensures) ∙ t .before .before .enum-told .given .1) in
+    let l = sum-below-limit (list-passed v .few) (list-allowed v) in
     (search needs, rw (total-whole (sumOf (doubles .format) ps) l (t .total .ensures)) l)
 
 slice-aggregate-is-zero : tie.Need-slice-aggregate-is-zero
@@ -72,8 +72,8 @@ returns-2 c =
     let ps = g .args .list .now in
     let area = g .args .area .now in
     let e = sym (j .judge .ensures) ∙ t .before .before .enum-told .given .1 in
-    let v = given-when doubles true _ ps Good .0 e in
-    let w = total-whole (sumOf (doubles .format) ps) (sum-below-limit (v .0 .few) (v .1)) (t .total .ensures) in
+    let v = list-when doubles true _ ps Good .0 e in
+    let w = total-whole (sumOf (doubles .format) ps) (sum-below-limit (list-passed v .few) (list-allowed v)) (t .total .ensures) in
     let zero = z .zero-sign .result in
     parts-answer ps (s .split .last .0) area (s .split .last .1 .0) zero (c .is-zero .result) e (z .zero-sign .ensures)
     (s .split .ensures .0 ∙ ap (λ (y : ℤ). parts (doubles .format) (length area) zero y) w)

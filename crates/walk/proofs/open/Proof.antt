@@ -6,7 +6,7 @@ use lib.Dec.{eqb→eq}
 use Rattle.kinds.specs.Limits.{doubles}
 use Rattle.kinds.specs.declared.Verdict.{Verdict}
 use Rattle.kinds.specs.declared.Verdict.the-variants.{Good}
-use Rattle.judge.specs.JudgeLaws.{given-when}
+use Rattle.judge.specs.JudgeLaws.{list-when, list-passed, list-allowed}
 use Rattle.judge.specs.FirstFaultLaws.{first-good}
 use Rattle.walk.specs.Walk.{openedAfter}
 use Rattle.walk.specs.OpeningLaws.{opened-refused}
@@ -26,8 +26,8 @@ start-requires : tie.Need-start-requires
 start-requires c κs =
     let j = c .before .before .before in
     let ps = j .before .before .before .args .list .now in
-    let v = given-when doubles _ true ps Good .0 (sym (j .judge .ensures) ∙ c .before .enum-told .given .1) in
-    (eqb→eq _ _ (v .0 .right-area), v .0 .few, first-good doubles ps .1 (v .1))
+    let v = list-when doubles _ true ps Good .0 (sym (j .judge .ensures) ∙ c .before .enum-told .given .1) in
+    (eqb→eq _ _ (list-passed v .right-area), list-passed v .few, first-good doubles ps .1 (list-allowed v))
 
 returns : tie.Need-returns
 returns c =

@@ -6,7 +6,7 @@ use lib.Pow.{pow-sub-lt}
 use Rattle.lists.specs.Digits.{number, Digits}
 use Rattle.lists.specs.DigitLaws.{number-lt}
 use Rattle.words.specs.Words.{wordBits, wordCount, registerBits}
-use Rattle.leading.specs.HeadLaws.{below-most}
+use Rattle.nearest.specs.HeadLaws.{below-most}
 use Rattle.nearest.specs.Bits.{headBits}
 use Rattle.nearest.specs.BitsLaws.{bits-positive, not-zero, bits-negative}
 use Rattle.nearest.proofs.bits.nearest_bits.Statement.{statement}

@@ -8,7 +8,7 @@ use lib.Seq.{take-all}
 use Rattle.kinds.specs.Limits.{doubles}
 use Rattle.judge.specs.FaultLaws.{allowed-number}
 use Rattle.words.specs.Words.{wordCount, wholeOf, wordsOf}
-use Rattle.finite.specs.RegisterWords.{held}
+use Rattle.addend.specs.RegisterWords.{held}
 use Rattle.sums.specs.Sums.{sumOf}
 use Rattle.sums.specs.SumLaws.{total-begins, total-goes-on}
 use Rattle.sums.proofs.exact.total.Statement.{statement}

@@ -5,10 +5,11 @@ use Prim.Native.Nat.{suc, _-_}
 use borrow.Author.Needs.{needs}
 use lib.ListN.{length}
 use Rattle.kinds.specs.Limits.{doubles, blocksOf}
+use Rattle.kinds.specs.Outcome.{outcome}
 use Rattle.kinds.specs.declared.Step.the-variants.{More}
 use Rattle.extract.specs.ExtractLaws.{remainders-length}
 use Rattle.rounds.specs.Instances.{doubles-fit}
-use Rattle.walk.specs.Walk.{walked, roundsFrom}
+use Rattle.walk.specs.Walk.{roundsFrom}
 use Rattle.walk.specs.Run.{Running, walk-closing, walk-ends, walk-accepted, walk-goes, walk-running, walk-lower}
 use Rattle.walk.proofs.run.run.Statement.{statement}
 use Rattle.walk.proofs.run.run.Tie as tie
@@ -16,8 +17,8 @@ use Rattle.walk.proofs.run.run.Tie as tie
 abbrev Inv-loop : tie.InvT-loop
 Inv-loop work₀ s₀ work s =
     (length work ≡ length work₀) × Running doubles doubles-fit (s₀ .n) s work
-    × (roundsFrom doubles (blocksOf doubles (s₀ .n)) (suc (doubles .rounds) - s₀ .rounds) (walked (More s₀) work₀)
-    ≡ roundsFrom doubles (blocksOf doubles (s₀ .n)) (suc (doubles .rounds) - s .rounds) (walked (More s) work))
+    × (roundsFrom doubles (blocksOf doubles (s₀ .n)) (suc (doubles .rounds) - s₀ .rounds) (outcome (More s₀) work₀)
+    ≡ roundsFrom doubles (blocksOf doubles (s₀ .n)) (suc (doubles .rounds) - s .rounds) (outcome (More s) work))
 
 abbrev μ-loop : tie.MeasureT-loop
 μ-loop work₀ s₀ work s = suc (doubles .rounds) - s .rounds

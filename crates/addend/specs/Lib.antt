@@ -1,0 +1,5 @@
+-- Finite numbers among the register's words. Definitions first, then laws.
+pub mod Addend
+pub mod PatternFields
+pub mod OppositePattern
+pub mod RegisterWords

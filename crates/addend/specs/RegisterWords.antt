@@ -1,0 +1,41 @@
+-- The register's words after a sum: a carry equation on their numbers gives every word; and the units of a pattern and of its opposite. Assumes nothing.
+use mathlib.Core.Path.{_≡_, sym, ap, _∙_}
+use mathlib.Core.List.{List}
+use Prim.Native.Nat.{ℕ, _^_, _≤_, _<_}
+use lib.Dec.{T, lit<}
+use lib.Ieee.{ofBits, top}
+use lib.Ieee.Scale.{finite}
+use lib.IntN.{pos, negℤ, _+ℤ_, _-ℤ_}
+use lib.ListN.{length, getD}
+use mir.Syntax.{w64}
+use mir.Val.{Fits}
+use Rattle.kinds.specs.Limits.{doubles}
+use Rattle.lists.specs.Carry.{two, Carried}
+use Rattle.lists.specs.SignedDigits.{cut-add, cut-sub}
+use Rattle.words.specs.Words.{wordBits, wordCount, wholeOf, wordsOf}
+use Rattle.addend.specs.Addend.{unitsOf, Held, Placed}
+use Rattle.addend.specs.PatternFields.{pattern-plus, pattern-minus}
+use Rattle.addend.specs.OppositePattern.{opposite, opposite-value}
+
+-- words of the language are such
+pub held : {ws : List ℕ} → length ws ≡ wordCount → ((i : ℕ) → Fits w64 (getD ws i 0)) → Held ws
+held l f = record { long = l; below = record { below = λ i. f i .fits } }
+
+-- ---- es is ws and m, or ws less m, cut off at 2112 bits
+module _ {ws es : List ℕ} (W : Held ws) (E : Held es) {m r : ℕ} where
+  pub rises : Carried wordBits ws m es (length ws) r → es ≡ wordsOf (wholeOf ws +ℤ pos m)
+  rises C = cut-add wordBits wordCount (lit< tt) m r W E (rw (W .long) at (C .total))
+
+  pub falls : Carried wordBits es m ws (length ws) r → es ≡ wordsOf (wholeOf ws -ℤ pos m)
+  falls C = cut-sub wordBits wordCount (lit< tt) m r W E (rw (W .long) at (C .total))
+
+-- ---- the units of a pattern, from its place
+module _ {p k lo hi : ℕ} (F : T (finite (ofBits (doubles .format) p))) (P : Placed p k lo hi) where
+  pub units-plus : p < top (doubles .format) → unitsOf p ≡ pos (two wordBits k lo hi)
+  units-plus h = pattern-plus (doubles .format) p F h ∙ ap pos (sym (P .units))
+
+  pub units-minus : top (doubles .format) ≤ p → unitsOf p ≡ negℤ (pos (two wordBits k lo hi))
+  units-minus h = pattern-minus (doubles .format) p F h ∙ ap (λ (m : ℕ). negℤ (pos m)) (sym (P .units))
+
+pub opposite-units : (p : ℕ) → p < 2 ^ 64 → T (finite (ofBits (doubles .format) p)) → unitsOf (opposite (doubles .format) p) ≡ negℤ (unitsOf p)
+opposite-units p h F = opposite-value (doubles .format) p h F

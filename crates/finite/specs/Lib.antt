@@ -1,5 +1,0 @@
--- Finite numbers among the register's words. Definitions first, then laws.
-pub mod Finite
-pub mod PatternFields
-pub mod OppositePattern
-pub mod RegisterWords

@@ -1,0 +1,34 @@
+-- `rounds::round::begin` meets its contract: the callees give each field. Assumes nothing.
+use mathlib.Core.Path.{ap, _∙_}
+use borrow.Author.Needs.{needs}
+use lib.Ieee.{binary64}
+use Rattle.lists.specs.Bitset.{full}
+use Rattle.extract.specs.Extract.{plusZero}
+use Rattle.kinds.specs.Limits.{doubles, blocksOf}
+use Rattle.kinds.specs.States.{stateOf}
+use Rattle.rounds.specs.Round.{roundOf}
+use Rattle.rounds.proofs.round.begin.Statement.{statement}
+use Rattle.rounds.proofs.round.begin.Tie as tie
+
+of-requires : tie.Need-of-requires
+of-requires c κs = search needs
+
+blocks-requires : tie.Need-blocks-requires
+blocks-requires c κs = search needs
+
+full-requires : tie.Need-full-requires
+full-requires c κs = search needs
+
+of-requires-2 : tie.Need-of-requires-2
+of-requires-2 c κs = search needs
+
+returns : tie.Need-returns
+unfolding roundOf
+returns c =
+    let b = c .before .before in
+    let a = b .before .before .args in
+    let p = c .before .full .ensures ∙ ap full (b .blocks2 .ensures ∙ ap (blocksOf doubles) (b .before .of .ensures)) in
+    rw (c .of2 .ensures) (λ i. stateOf (a .n) (a .sigma) (a .t) (plusZero binary64) (p i) (a .rounds))
+
+pub begin-spec : {M : Type 1} → statement M
+begin-spec = tie.close (tie.spec of-requires blocks-requires full-requires of-requires-2 returns)

@@ -1,0 +1,84 @@
+-- `rounds::round::take` meets its contract: the part that is extracted is the block, cut at n. Assumes nothing.
+use mathlib.Core.Path.{_≡_, sym, ap, _∙_}
+use Prim.Native.Nat.{_+_, _-_, _*_, min}
+use native.Mathlib.Omega.{arith}
+use borrow.Author.Needs.{needs}
+use denote.Ref.{now}
+use lib.Ieee.{binary64}
+use lib.ListN.{length, take, drop}
+use lib.Seq.{drop-drop}
+use Rattle.extract.specs.Extract.{gathered}
+use Rattle.kinds.specs.States.{stateOf}
+use Rattle.kinds.specs.Limits.{doubles}
+use Rattle.rounds.specs.Round.{blockOf, turned}
+use Rattle.rounds.specs.CutLaws.{take-cut, drop-cut}
+use Rattle.rounds.proofs.round.take.Statement.{statement}
+use Rattle.rounds.proofs.round.take.Tie as tie
+
+mul-from : tie.Need-mul-from
+mul-from c = search needs
+
+add-least : tie.Need-add-least
+add-least c = search needs
+
+least-requires : tie.Need-least-requires
+least-requires c κs = search needs
+
+mul-extract : tie.Need-mul-extract
+mul-extract c = search needs
+
+sub-extract : tie.Need-sub-extract
+sub-extract c = search needs
+
+part-extract-start : tie.Need-part-extract-start
+part-extract-start c = search needs
+
+part-extract-end : tie.Need-part-extract-end
+part-extract-end c = search needs
+
+extract-requires : tie.Need-extract-requires
+extract-requires c κs = search needs
+
+without-requires : tie.Need-without-requires
+without-requires c κs = search needs
+
+of-requires : tie.Need-of-requires
+of-requires c κs = search needs
+
+same-length : tie.Need-same-length
+same-length c = search needs
+
+returns : tie.Need-returns
+unfolding turned
+returns c =
+    let w = c .before in
+    let x = w .before .before .before in
+    let l = x .before .before in
+    let a = l .before .before .args in
+    let xs = now (a .work) in
+    let from = 64 * a .block in
+    let e : l .least .result ≡ min (from + 64) (length xs) = l .least .ensures ∙ ap (min (from + 64)) (sym (l .before .before .pre .1)) in
+    let d : from + (l .least .result - from) ≡ l .least .result = omega arith in
+    let p : take (l .least .result - from) (drop from xs) ≡ blockOf doubles (a .block) xs = rw e (take-cut xs from 64) in
+    let s = a .s in
+    let q = x .extract .ensures .0 ∙ ap (gathered binary64 (s .sigma) (s .tau)) p in (
+      rw (c .of .ensures) (λ i. stateOf (s .n) (s .sigma) (s .t) (q i) (w .without .ensures i) (s .rounds)),
+      rw (x .extract .ensures .1, p, drop-drop, d, e, drop-cut xs from 64),
+    )
+
+pub take-spec : {M : Type 1} → statement M
+take-spec =
+    tie.close
+    (tie.spec
+    mul-from
+    add-least
+    least-requires
+    mul-extract
+    sub-extract
+    part-extract-start
+    part-extract-end
+    extract-requires
+    without-requires
+    of-requires
+    same-length
+    returns)

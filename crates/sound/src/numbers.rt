@@ -1,0 +1,66 @@
+// The numbers of a sound state, its pending set excepted, and that set.
+use kinds::Doubles;
+use kinds::State;
+ghost use mathlib.Core.Path.{_≡_};
+ghost use mathlib.Core.Bool.{false};
+ghost use Prim.Native.Nat.{_≤_};
+ghost use lib.Dec.{T};
+ghost use lib.Ieee.{binary64};
+ghost use lib.Ieee.Scale.{finite};
+ghost use Rattle.units.specs.Rounding.{ceil};
+ghost use Rattle.ieee.specs.Units.{magnitude, negative};
+ghost use Rattle.kinds.specs.Limits.{doubles};
+ghost use Rattle.sound.specs.Sound.{unitsAt, soundSigma, atMost, soundNumbers, soundPending};
+
+// Whether x is finite and no larger than the limit. A NaN passes no comparison, so it fails this one.
+pub fn at_most(x: f64, limit: f64) -> bool
+    requires { ⌜ T (finite limit) × (negative limit ≡ false) ⌝ }
+    ensures { λ r. ⌜ r ≡ atMost doubles (magnitude binary64 limit) x ⌝ }
+{
+    (-limit <= x) & (x <= limit)
+}
+
+// The exponent of the largest magnitude of a list, 2^1000, counted in units.
+fn top() -> u32
+    ensures { λ r. ⌜ r ≡ ceil (unitsAt doubles (doubles .magnitude)) ⌝ }
+{
+    exponent::ceiling(f64::from_bits(Doubles::MAGNITUDE))
+}
+
+// "sigma is a power of two from 2^(M-1074) to 2^(1000+M)": what lies between the two is a number, and its exponent is that of a float. M is
+// asked of lists that aren't too long.
+pub fn sigma(sigma: f64, n: usize) -> bool
+    requires { ⌜ n ≤ doubles .length ⌝ }
+    ensures { λ r. ⌜ r ≡ soundSigma doubles n sigma ⌝ }
+{
+    let m = Doubles::of(n).exponent();
+    if (exponent::power(m) <= sigma) & (sigma <= exponent::power(m + top())) {
+        return exponent::power(exponent::ceiling(sigma)) == sigma;
+    }
+    false
+}
+
+// "n is 1 to 4,094; rounds closed 0 to 50; .. sigma ..; t and tau are finite, of magnitude at most 2^1012"
+pub fn numbers(s: State) -> bool
+    ensures { λ r. ⌜ r ≡ soundNumbers doubles s ⌝ }
+{
+    if s.n < 1 {
+        return false;
+    }
+    if Doubles::LENGTH < s.n {
+        return false;
+    }
+    let limit = f64::from_bits(Doubles::CARRIED);
+    (s.rounds <= Doubles::ROUNDS)
+        & sigma(s.sigma, s.n)
+        & at_most(s.t, limit)
+        & at_most(s.tau, limit)
+}
+
+// "the pending set is not empty and has no bit at or above B". Asked of an n that `numbers` has tested: then B is 1 to 64.
+pub fn pending(s: State) -> bool
+    requires { ⌜ (1 ≤ s .n) × (s .n ≤ doubles .length) ⌝ }
+    ensures { λ r. ⌜ r ≡ soundPending doubles s ⌝ }
+{
+    (0 < s.pending) & (s.pending <= bitset::full(Doubles::of(s.n).blocks()))
+}
