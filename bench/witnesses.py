@@ -7,24 +7,25 @@ import sys
 
 TESTS = os.path.join(os.path.dirname(os.path.dirname(os.path.abspath(__file__))), "tests")
 sys.path[:0] = [TESTS, os.path.join(TESTS, "host")]
-import cases  # noqa: E402
-import trial  # noqa: E402
+import drawn  # noqa: E402
+import exact  # noqa: E402
+import samples  # noqa: E402
 
 BATCHES = 8
 
 
 def patterns(seed):
     """Every list as patterns. An empty list has no bytes to hand over."""
-    yield from trial.walked_lists()
+    yield from samples.lists()
     chance = random.Random(seed)
     for _ in range(BATCHES):
-        for n in cases.lengths(chance):
-            yield chance.choice(cases.SHAPES)(chance, n)
+        for n in drawn.lengths(chance):
+            yield chance.choice(drawn.SHAPES)(chance, n)
 
 
 def write(path, seed):
     """The file that main.c reads, a list to a case; answers how many there are."""
-    made = [numbers for numbers in patterns(seed) if 0 < len(numbers) <= trial.LENGTH]
+    made = [numbers for numbers in patterns(seed) if 0 < len(numbers) <= exact.LENGTH]
     with open(path, "wb") as f:
         for numbers in made:
             f.write(struct.pack(f"={2 + len(numbers)}Q", len(numbers), 1, *numbers))

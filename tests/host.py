@@ -11,6 +11,7 @@ A difference is printed with its inputs, and the exit status is 1.
 """
 import argparse
 import collections
+import itertools
 import multiprocessing
 import os
 import random
@@ -23,13 +24,15 @@ ROOT = os.path.dirname(HERE)
 sys.dont_write_bytecode = True
 sys.path[:0] = [HERE, os.path.join(HERE, "host")]
 import calls  # noqa: E402
-import cases  # noqa: E402
+import drawn  # noqa: E402
+import fixed  # noqa: E402
 import kit  # noqa: E402
 
 PLACE = os.path.join(ROOT, "target", "host")
 DRIVER = os.path.join(PLACE, "driver")
 LISTS = 20000
 PROGRESS = 8  # seconds between lines
+TOGETHER = 500  # requests that the driver is handed at once: each may have areas of 32 KB
 FLIPPED = ["sum_lengths", "register_lengths", 0, 1]  # the batches of the short run: every kind of call is in them
 
 # which refusals each call has: every one must have been met, and no other may be; 0 is an accepted call
@@ -74,19 +77,29 @@ def build():
 
 
 # ---- a batch
+def batches(wanted):
+    """The names of the batches in which so many lists are tried: those of the fixed groups, and the random ones' numbers."""
+    return [group.__name__ for group in fixed.GROUPS] + list(range(-(-wanted // drawn.LISTS)))
+
+
+def requests_of(seed, name):
+    """The requests of a batch. Its random numbers depend on the seed and its name alone."""
+    chance = random.Random(f"{seed}/{name}")
+    for group in drawn.GROUPS if isinstance(name, int) else [group for group in fixed.GROUPS if group.__name__ == name]:
+        yield from group(chance)
+
+
 def answers_of(requests):
     """What the driver answers, one after the other."""
     wires = b"".join(map(calls.wire, requests))
     process = subprocess.run(kit.run_prefix() + [DRIVER], input=wires, env=kit.environment(), capture_output=True, check=False)
     if process.returncode:
         raise RuntimeError(f"the driver ended with status {process.returncode}: {process.stderr.decode(errors='replace')}")
-    at = 0
-    for request in requests:
-        end = at + len(calls.answered(request.code, request.after))
-        yield process.stdout[at:end]
-        at = end
-    if at != len(process.stdout):
-        raise RuntimeError(f"{len(process.stdout)} bytes of answers, asked for are {at}")
+    lengths = [len(calls.answered(request.code, request.after)) for request in requests]
+    if sum(lengths) != len(process.stdout):
+        raise RuntimeError(f"{len(process.stdout)} bytes of answers, asked for are {sum(lengths)}")
+    ends = list(itertools.accumulate(lengths))
+    return [process.stdout[end - length : end] for length, end in zip(lengths, ends)]
 
 
 def flipped(answer, chance):
@@ -102,14 +115,15 @@ def met(request):
 def compared(work):
     """The batch's name, the answers met, how many are reported to differ, and the first report. Flipped answers go the same way as all others."""
     seed, name, flip = work
-    requests, chance = cases.batch(seed, name), random.Random(f"{seed}/{name}/flip")
+    requests, chance = requests_of(seed, name), random.Random(f"{seed}/{name}/flip")
     counts, reports, first = collections.Counter(), 0, None
-    for request, answer in zip(requests, answers_of(requests)):
-        found = calls.difference(request, flipped(answer, chance) if flip else answer)
-        counts[met(request)] += 1
-        if found:
-            reports += 1
-            first = first or f"{found}:\n{calls.shown(request)}"
+    for some in iter(lambda: list(itertools.islice(requests, TOGETHER)), []):
+        for request, answer in zip(some, answers_of(some)):
+            found = calls.difference(request, flipped(answer, chance) if flip else answer)
+            counts[met(request)] += 1
+            if found:
+                reports += 1
+                first = first or f"{found}:\n{calls.shown(request)}"
     return name, counts, reports, first
 
 
@@ -163,7 +177,7 @@ def main():
     asked = words.parse_args()
     print(f"host: seed {asked.seed}", flush=True)
     build()
-    names = cases.batches(asked.lists)
+    names = batches(asked.lists)
     with multiprocessing.Pool(os.cpu_count()) as pool:
         counts, bad = compare(pool, asked.seed, names, asked.flip)
         turned, passed = (counts, 0) if asked.flip else compare(pool, asked.seed, FLIPPED, True)

@@ -5,7 +5,7 @@
     python3 tests/sheets.py --make   writes tests/sheets/NAME.sheet and NAME.out
 
 NAME.sheet is what the program reads and NAME.out what it must print: document 01's order of refusals is written here, the sums are those of tests/walk.py and
-tests/trial.py, and where a line is written by hand beside its sheet the two have to agree. Nothing of the library is used. Each sheet is read as a file and
+tests/exact.py, and where a line is written by hand beside its sheet the two have to agree. Nothing of the library is used. Each sheet is read as a file and
 through a pipe in small pieces, each written when the program has taken the one before, and there are inputs longer than the program's buffer.
 """
 import array
@@ -17,16 +17,18 @@ import termios
 import time
 
 sys.dont_write_bytecode = True
+import exact  # noqa: E402
 import kit  # noqa: E402
-import trial  # noqa: E402
+import samples  # noqa: E402
 import walk  # noqa: E402
+from exact import Refused  # noqa: E402
 
 HERE = os.path.dirname(os.path.abspath(__file__))
 FOLDER = os.path.join(HERE, "sheets")
 PROGRAM = os.path.join(os.path.dirname(HERE), "target", "bin", "sum_sheet")
 BUFFER = 32758
 SECONDS = 60  # within which the program has to end
-SIGN, INFINITY, ONE, LIMIT = trial.SIGN, trial.INFINITY, trial.ONE, trial.MAGNITUDE
+SIGN, INFINITY, ONE, LIMIT = exact.SIGN, exact.INFINITY, exact.ONE, exact.MAGNITUDE
 TOP, TINY = 0x4630000000000000, 0x3CA0000000000000  # 2^100, 2^-53
 
 
@@ -39,16 +41,16 @@ def sheet(patterns, version=1, count=None):
 def read(data):
     """The patterns of a sheet, or the refusal: 11 for fewer than 5 bytes, 12, 1, 11, 13."""
     if len(data) < 5:
-        raise trial.Refused(11, 0)
+        raise Refused(11, 0)
     if data[0] != 1:
-        raise trial.Refused(12, 0)
+        raise Refused(12, 0)
     count = int.from_bytes(data[1:5], "big")
-    if count > trial.LENGTH:
-        raise trial.Refused(1, 0)
+    if count > exact.LENGTH:
+        raise Refused(1, 0)
     if len(data) < 5 + 8 * count:
-        raise trial.Refused(11, 0)
+        raise Refused(11, 0)
     if len(data) > 5 + 8 * count:
-        raise trial.Refused(13, 0)
+        raise Refused(13, 0)
     return [int.from_bytes(data[i : i + 8], "big") for i in range(5, len(data), 8)]
 
 
@@ -56,8 +58,8 @@ def printed(data):
     """What the program prints of its input, of which it reads as much as its buffer holds."""
     try:
         patterns = read(data[:BUFFER])
-        near = trial.nearest_sum(patterns)
-    except trial.Refused as refused:
+        near = exact.nearest_sum(patterns)
+    except Refused as refused:
         number, place = refused.args
         return f"refused {number} at {place}\n" if number in (2, 3) else f"refused {number}\n"
     told, sum_of, rounds = walk.faithful(patterns, [0] * len(patterns))
@@ -72,8 +74,8 @@ def three(count, faithful, rounds, near):
 
 ZEROS = "0" * 16
 UNITY = "3FF" + "0" * 13
-RANDOM = trial.filled(4094, 0, trial.seed(7, 1))
-LADDER = trial.ladder(4094, 102, 41)
+RANDOM = samples.filled(4094, 0, samples.seed(7, 1))
+LADDER = samples.ladder(4094, 102, 41)
 
 SHEETS = [
     ("example", sheet([TOP, ONE, SIGN + TOP]), three(3, UNITY, 2, UNITY)),
@@ -115,9 +117,9 @@ SHEETS = [
     ("limits", sheet([LIMIT, LIMIT]), three(2, "7E8" + "0" * 13, 1, "7E8" + "0" * 13)),
     ("all_digits", sheet([0x0123456789ABCDEF]), three(1, "0123456789ABCDEF", 1, "0123456789ABCDEF")),
     ("subnormals", sheet([0xFEDCBA987654F, SIGN + 0x123456789ABCD] * 5), None),
-    ("ten_numbers", sheet(trial.filled(10, 5, trial.seed(7, 2))), None),
-    ("numbers_65", sheet(trial.cancelling(65, 0, *[trial.seed(7, 3)] * 3)), None),
-    ("numbers_1000", sheet(trial.filled(1000, 0, trial.seed(7, 4))), None),
+    ("ten_numbers", sheet(samples.filled(10, 5, samples.seed(7, 2))), None),
+    ("numbers_65", sheet(samples.cancelling(65, 0, *[samples.seed(7, 3)] * 3)), None),
+    ("numbers_1000", sheet(samples.filled(1000, 0, samples.seed(7, 4))), None),
     ("numbers_4094", sheet(RANDOM), None),
     # the longest lines: 4 digits of count and 2 of rounds
     ("rounds_51", sheet(LADDER), three(4094, "0000000000000001", 51, "0000000000000001")),

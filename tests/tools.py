@@ -140,7 +140,7 @@ def is_shown(status, lines, data, printed):
         return False
     try:
         patterns = sheets.read(data[: sheets.BUFFER])
-    except sheets.trial.Refused:
+    except sheets.Refused:
         return len(lines) == 1
     numbers_shown = lines[1:-1] if refused else lines[1:]
     wanted = [[str(place), f"{p:016X}", repr(walk.double(p))] for place, p in enumerate(patterns)]

@@ -1,5 +1,5 @@
 #!/usr/bin/env python3
-"""The faithful walk of document 01 in exact integers, written from the document alone. tests/trial.py takes the expected lines from it.
+"""The faithful walk of document 01 in exact integers, written from the document alone: tests/trial.py and tests/host.py hold the library to it.
 
     python3 tests/walk.py        checks it against Python's doubles, against exact sums and against the document's cases; exit status 1 on a difference
 
@@ -172,11 +172,9 @@ def falling(pending, turn):
 
 
 def seeded(pending, turn):
-    """The first at or above the turn's place; where none is, the lowest or the highest."""
+    """The first at or above the turn's place; where none is, the lowest."""
     start = turn % 64
-    if pending >> start:
-        return start + rising(pending >> start, turn)
-    return rising(pending, turn) if turn >> 32 & 1 else falling(pending, turn)
+    return start + rising(pending >> start, turn) if pending >> start else rising(pending, turn)
 
 
 def run(patterns, area, order=rising, turns=itertools.repeat(0)):

@@ -1,16 +1,16 @@
 """The calls over bytes: each as a request to the driver, with the answer that document 01 asks for.
 
-The answers come from the models of tests/trial.py (sums, parts and registers in whole units) and tests/walk.py (the faithful walk); what is said here is how
+The answers come from the models of tests/exact.py (sums, parts and registers in whole units) and tests/walk.py (the faithful walk); what is said here is how
 they lie in bytes and which lengths are refused. Sheets are read as by tests/sheets.py.
 """
 import collections
 import functools
 import struct
 
+import exact
 import sheets
-import trial
 import walk
-from trial import Refused
+from exact import INFINITY, NAN, SIGN, Refused
 
 # the numbers by which the driver knows the calls
 CALLS = [
@@ -18,7 +18,7 @@ CALLS = [
     "harness_open", "harness_faithful", "harness_step", "harness_parts", "harness_register_round", "harness_read",
 ]  # fmt: skip
 
-SIZE, SUM, STATE, REGISTER = 8, 16, 56, 8 * trial.WORDS  # bytes of a number, a sum, the harness's state and a register
+SIZE, SUM, STATE, REGISTER = 8, 16, 56, 8 * exact.WORDS  # bytes of a number, a sum, the harness's state and a register
 ROOM, FEW, UNHELD = 4160, 40, 0xFFFFFFFF  # what the harness can hold, and what it answers to other lengths
 BESIDE = b"\xA5" * 9  # before, between and behind the areas, where no call may write
 
@@ -75,8 +75,8 @@ def difference(request, answer):
         area, byte, total = request.sum
         at = SIZE + starts(request.areas)[area] + byte
         (pattern,) = unpacked(answer[at : at + SIZE])
-        if pattern % trial.SIGN >= trial.INFINITY or not walk.is_faithful(pattern, total):
-            return f"{trial.text(pattern)} is not faithful to {total} units"
+        if pattern % SIGN >= INFINITY or not walk.is_faithful(pattern, total):
+            return f"{pattern:016X} is not faithful to {total} units"
     wanted = answered(request.code, request.after)
     if answer == wanted:
         return None
@@ -88,7 +88,7 @@ def difference(request, answer):
 
 def shown(request):
     """The inputs, in full."""
-    lines = [f"  {request.call} number {trial.text(request.number)}"]
+    lines = [f"  {request.call} number {request.number:016X}"]
     return "\n".join(lines + [f"  area {k}, {len(area)} bytes: {area.hex().upper()}" for k, area in enumerate(request.areas)])
 
 
@@ -100,13 +100,13 @@ def undivided(patterns):
     return walk.faithful(patterns, area), area
 
 
-def exact(patterns):
-    return sum(map(trial.units, patterns))
+def total_of(patterns):
+    return sum(map(exact.units, patterns))
 
 
 def length_refusal(data, out):
     """ "A list above 32,752 bytes is refusal 1; other lengths that aren't a multiple of 8, and wrong lengths of the 16 .. bytes, are refusal 4." """
-    if len(data) > SIZE * trial.LENGTH:
+    if len(data) > SIZE * exact.LENGTH:
         raise Refused(1, 0)
     if len(data) % SIZE or len(out) != SUM:
         raise Refused(4, 0)
@@ -123,10 +123,10 @@ def summed(call, data, out):
     """Either sum: the pattern, then the rounds, 0 for nearest."""
     try:
         length_refusal(data, out)
-        pair = faithful_sum(data) if call == "kewohiata_faithful" else (trial.nearest_sum(unpacked(data)), 0)
+        pair = faithful_sum(data) if call == "kewohiata_faithful" else (exact.nearest_sum(unpacked(data)), 0)
     except Refused as refusal:
         return Request(call, [data, out], 0, heard(*refusal.args), [data, out], None)
-    found = (1, 0, exact(unpacked(data))) if call == "kewohiata_faithful" else None
+    found = (1, 0, total_of(unpacked(data))) if call == "kewohiata_faithful" else None
     return Request(call, [data, out], 0, 0, [data, packed(pair)], found)
 
 
@@ -134,7 +134,7 @@ def summed(call, data, out):
 def entered(call, data, pattern):
     """An addition or a withdrawal, on a register's bytes."""
     sign = 1 if call == "kewohiata_register_add" else -1
-    register = trial.Register(unpacked(data) if len(data) == REGISTER else [])
+    register = exact.Register(unpacked(data) if len(data) == REGISTER else [])
     try:
         register.enter(pattern, sign)
     except Refused as refusal:
@@ -146,7 +146,7 @@ def rounded(data, out):
     if len(data) % SIZE or len(data) > SIZE * FEW or len(out) != SIZE:
         return Request("harness_register_round", [data, out], 0, UNHELD, [data, out], None)
     try:
-        code, after = 0, packed([trial.Register(unpacked(data)).round()])
+        code, after = 0, packed([exact.Register(unpacked(data)).round()])
     except Refused as refusal:
         code, after = heard(*refusal.args), out
     return Request("harness_register_round", [data, out], 0, code, [data, after], None)
@@ -155,9 +155,9 @@ def rounded(data, out):
 # ---- the walk
 def one_nan(numbers):
     """The harness's doubles: each NaN comes back as one."""
-    if walk.largest(numbers) <= trial.INFINITY:
+    if walk.largest(numbers) <= INFINITY:
         return list(numbers)
-    return [trial.NAN if p % trial.SIGN > trial.INFINITY else p for p in numbers]
+    return [NAN if p % SIGN > INFINITY else p for p in numbers]
 
 
 def told(answer, state):
@@ -192,7 +192,7 @@ def started(call, data, work, state):
         return Request(call, areas, 0, UNHELD, areas, None)
     patterns, area = unpacked(data), one_nan(unpacked(work))
     answer = walked(call, patterns, area)
-    found = sum_of(answer, 2, exact(patterns)) if answer[0] == "done" else None
+    found = sum_of(answer, 2, total_of(patterns)) if answer[0] == "done" else None
     return Request(call, areas, 0, code_of(answer), [data, packed(area), told(answer, state)], found)
 
 
@@ -213,7 +213,7 @@ def parted(data, area, flag):
     if len(data) % SIZE or len(area) % SIZE or len(data) > SIZE * ROOM or len(area) > SIZE * FEW or len(flag) != SIZE:
         return Request("harness_parts", areas, 0, UNHELD, areas, None)
     try:
-        parts, all_told = trial.sum_in_parts(unpacked(data), len(area) // SIZE)
+        parts, all_told = exact.sum_in_parts(unpacked(data), len(area) // SIZE)
     except Refused as refusal:
         return Request("harness_parts", areas, 0, heard(*refusal.args), [data, packed(one_nan(unpacked(area))), flag], None)
     return Request("harness_parts", areas, 0, 0, [data, packed(parts), packed([all_told])], None)

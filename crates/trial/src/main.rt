@@ -1,23 +1,46 @@
-// The tests that run: what the library answers on lists and registers made by a generator, one line for each. tests/trial.py says what document 01 asks for.
+// The program of tests: the sums of lists made by a generator, a line for each answer. tests/trial.py has the lines that exact integers ask for.
 use kinds::Doubles;
-use report::areas::HELD;
-use trial_lists::lists;
-use trial_registers::registers;
-use trial_states::refusals;
-use trial_states::states;
-use trial_walks::lengths;
-use trial_walks::walks;
-use words::WORDS;
+
+mod lists;
+mod text;
+mod ways;
+
+// A list of n numbers of every magnitude, and then with all but the middle cancelling.
+fn length(list: &mut [u64], work: &mut [f64], n: usize) {
+    if n <= list.len() {
+        if n <= work.len() {
+            lists::fill(
+                &mut list[0..n],
+                Doubles::MAGNITUDE,
+                lists::START ^ (n as u64),
+            );
+            ways::all(&list[0..n], &mut work[0..n]);
+            lists::cancel(&mut list[0..n]);
+            ways::all(&list[0..n], &mut work[0..n]);
+        }
+    }
+}
+
+// A list that takes 51 rounds, the most; no shorter one does.
+fn ladder(list: &mut [u64], work: &mut [f64]) {
+    lists::ladder(list);
+    ways::all(list, work);
+}
+
+fn all(list: &mut [u64], work: &mut [f64]) {
+    length(list, work, 64);
+    length(list, work, 65);
+    length(list, work, Doubles::LENGTH);
+    length(list, work, Doubles::LENGTH + 1);
+    if 2047 <= list.len() {
+        if 2047 <= work.len() {
+            ladder(&mut list[0..2047], &mut work[0..2047]);
+        }
+    }
+}
 
 fn main() {
     let mut list = [0u64; Doubles::LENGTH + 1];
-    lists::all(&mut list);
-    let mut register = [0u64; WORDS + 1];
-    registers::all(&mut register);
-    let mut work = [HELD; Doubles::LENGTH + 1];
-    let mut other = [HELD; Doubles::LENGTH + 1];
-    walks::all(&mut list, &mut work, &mut other);
-    lengths::all(&mut list, &mut work);
-    states::all(&mut work);
-    refusals::all(&mut work);
+    let mut work = [1.5f64; Doubles::LENGTH + 1];
+    all(&mut list, &mut work);
 }

@@ -1,4 +1,0 @@
-// What the tests write: text, answers and work areas.
-pub mod answers;
-pub mod areas;
-pub mod text;

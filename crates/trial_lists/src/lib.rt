@@ -1,2 +1,0 @@
-// Tests of the sums: a line for each list.
-pub mod lists;

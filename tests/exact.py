@@ -1,0 +1,97 @@
+"""Document 01's nearest sum, parts and register in exact integers, written from the document alone: they know nothing of the library's code.
+
+Calls take and give patterns. Inside, a number is its whole units of 2^-1074. A refusal is raised.
+"""
+LENGTH, MAGNITUDE, PARTS, WORDS = 4094, 0x7E70000000000000, 8, 33
+SIGN, INFINITY, ONE, UNIT = 1 << 63, 0x7FF << 52, 0x3FF << 52, 1
+NAN = 0x7FF8000000000000  # what each NaN is shown as
+BITS, ONES = 64 * WORDS, 2**64 - 1
+
+
+class Refused(Exception):
+    """A refusal's number and place, 0 where none is told."""
+
+
+def size(magnitude):
+    """The units of a pattern without its sign."""
+    exponent, fraction = divmod(magnitude, 1 << 52)
+    return fraction if exponent == 0 else (2**52 + fraction) << (exponent - 1)
+
+
+def units(pattern):
+    return -size(pattern % SIGN) if pattern >= SIGN else size(pattern)
+
+
+def nearest(number):
+    """The pattern of the double nearest a whole number of units. Patterns are in the order of their magnitudes: of the two around the number's the nearer, at a
+    tie the even one."""
+    goal = abs(number)
+    low, high = 0, INFINITY
+    while high - low > 1:
+        middle = (low + high) // 2
+        low, high = (middle, high) if size(middle) <= goal else (low, middle)
+    below, above = goal - size(low), size(high) - goal
+    magnitude = high if above < below or (above == below and low % 2) else low
+    return magnitude + SIGN if number < 0 else magnitude
+
+
+def fault(pattern):
+    magnitude = pattern % SIGN
+    return 2 if magnitude >= INFINITY else 3 if magnitude > MAGNITUDE else 0
+
+
+def judge(patterns, parts=1):
+    if len(patterns) > LENGTH:
+        raise Refused(1, 0)
+    if not 1 <= parts <= PARTS:
+        raise Refused(5, 0)
+    for place, pattern in enumerate(patterns):
+        if fault(pattern):
+            raise Refused(fault(pattern), place)
+
+
+def nearest_sum(patterns):
+    judge(patterns)
+    return nearest(sum(map(units, patterns)))
+
+
+def sum_in_parts(patterns, count):
+    """The parts, and whether they add up to the sum."""
+    judge(patterns, count)
+    rest, parts = sum(map(units, patterns)), []
+    for _ in range(count):
+        parts.append(nearest(rest))
+        rest -= units(parts[-1])
+    return parts, rest == 0
+
+
+class Register:
+    """Words, least significant first, in two's complement. Calls are tried with a wrong number of them too."""
+
+    def __init__(self, words):
+        self.words = list(words)
+
+    def whole(self):
+        natural = sum(word << 64 * i for i, word in enumerate(self.words))
+        return natural - (1 << BITS) if natural >> (BITS - 1) else natural
+
+    def store(self, whole):
+        self.words = [whole >> 64 * i & ONES for i in range(WORDS)]
+
+    def enter(self, pattern, sign):
+        """Addition (sign 1) and withdrawal (sign -1)."""
+        if len(self.words) != WORDS:
+            raise Refused(4, 0)
+        if fault(pattern):
+            raise Refused(fault(pattern), 0)
+        whole = self.whole() + sign * units(pattern)
+        if not -(1 << BITS - 1) <= whole < 1 << BITS - 1:
+            raise Refused(9, 0)
+        self.store(whole)
+
+    def round(self):
+        if len(self.words) != WORDS:
+            raise Refused(4, 0)
+        if abs(self.whole()) >= 2**2098 - 2**2044:
+            raise Refused(10, 0)
+        return nearest(self.whole())

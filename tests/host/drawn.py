@@ -1,0 +1,169 @@
+"""Requests drawn at random: lists, states, registers and sheets."""
+import exact
+import samples
+import walk
+from calls import SIZE, entered, read, rounded, stepped, undivided
+from exact import LENGTH, ONES, SIGN
+from samples import KINDS
+from sequences import ADD, ENTRIES, ORDERS, is_allowed, list_requests, register_of, run_requests, turn
+from sheets import sheet
+
+LISTS = 250  # in a batch
+ENDS = [0, 1, 2, 63, 64, 65, 128, 129, 511, 512, 513]  # lengths at the ends of blocks
+LIMIT = 2**2098 - 2**2044  # units from which on a register isn't rounded
+TOP = 1 << exact.BITS - 1  # one unit more than the largest register
+
+
+# ---- lists
+def tie(chance, n):
+    """Two numbers halfway between two doubles, a third that may decide, and pairs that cancel."""
+    return samples.tie(max(n - 3, 0), chance.randrange(8), turn(chance), turn(chance), turn(chance))
+
+
+def ladder(chance, n):
+    """Pairs of powers of two that cancel, each some places below the last; then one unit, and zeros. Long ones aren't deep: each pair may be a round."""
+    distance = chance.randint(20, 60)
+    deepest = 2074 // distance if n <= 700 else 6
+    return samples.ladder(n, 2 * chance.randint(0, min((n - 1) // 2, deepest)), distance) if n else []
+
+
+def faulty(chance, n):
+    """NaNs, infinities and numbers above the limit."""
+    return samples.faulty(n, chance.randrange(KINDS), turn(chance), turn(chance), turn(chance)) if n else []
+
+
+def any_numbers(chance, n):
+    """Numbers of any kind, among them such as only some of are allowed."""
+    return samples.plain(n, chance.randrange(KINDS), 0, 0, turn(chance))
+
+
+SHAPES = [walk.numbers] * 3 + [walk.cancelled] * 5 + [tie] * 3 + [ladder] * 2 + [faulty, any_numbers]
+
+
+def lengths(chance):
+    """Mostly short, some at the ends of blocks, a few long."""
+    for k in range(LISTS):
+        if k < 12:
+            yield chance.choice(ENDS[3:8])
+        elif k < 16:
+            yield chance.choice([*ENDS[8:], chance.randint(130, 700)])
+        elif k < 19:
+            yield chance.choice([1000, 2046, 2047, 4033, LENGTH, chance.randint(701, LENGTH)])
+        else:
+            yield chance.choice([0, 1, 2, 3, chance.randint(4, 12), chance.randint(4, 40)])
+
+
+def runs_of(chance, patterns):
+    """In which orders a list is walked: where there is one block all are the same, and long walks cost too much."""
+    blocks, rounds = walk.blocks_of(len(patterns)), undivided(tuple(patterns))[0][2]
+    if blocks * rounds > 150:
+        return []
+    return ORDERS if blocks > 1 and blocks * rounds <= 40 else chance.sample(ORDERS, 1)
+
+
+def lists(chance):
+    for k, n in enumerate(lengths(chance)):
+        patterns = chance.choice(SHAPES)(chance, n)
+        yield from list_requests(chance, patterns)
+        if is_allowed(patterns) and (k < 19 or k % 4 == 0):
+            for order in runs_of(chance, patterns):
+                yield from run_requests(chance, patterns, order)
+
+
+# ---- states that no call gave out
+def block_of(chance, s):
+    if chance.random() < 0.8:
+        return walk.seeded(s.pending, turn(chance)) if s.pending else 0
+    return chance.choice([chance.randint(0, 66), walk.blocks_of(s.n), walk.blocks_of(s.n) - 1, 63, 64, 2**32, 2**63, ONES]) % 2**64
+
+
+def foreign_requests(chance):
+    """Several steps of a sound state."""
+    s, area = walk.foreign(chance)
+    for _ in range(chance.choice([1, 3, 8])):
+        request, answer, area = stepped(s, area, block_of(chance, s), turn(chance))
+        yield request
+        if answer[0] == "done":
+            break
+        s = answer[1] if answer[0] == "more" else s
+
+
+def spoiled(chance):
+    """A sound state and its area, with one or two things changed, mostly to what isn't sound."""
+    first, area = walk.foreign(chance)
+    s, n = first, first.n
+    numbers = [samples.number(chance.randrange(KINDS), turn(chance)), walk.CARRIED + 1, SIGN | walk.CARRIED + 1, first.sigma + 1, first.sigma - 1]
+    few = {"n": [0, n - 1, n + 1, LENGTH + 1, ONES], "pending": [0, first.pending << 1, ONES], "rounds": [51, 52, 2**32 - 1, 2**32, ONES]}
+    for what in chance.sample(["sigma", "t", "tau", "n", "pending", "rounds", "area", "length"], chance.randint(1, 2)):
+        if what == "area":
+            area[chance.randrange(len(area))] = chance.choice(numbers)
+        elif what == "length":
+            area = chance.choice([area[1:] or [0, 0], area + [0], [0] * (LENGTH + 1)])
+        else:
+            s = s._replace(**{what: chance.choice(few.get(what, numbers))})
+    return s, area
+
+
+def states(chance):
+    for _ in range(30):
+        yield from foreign_requests(chance)
+    for _ in range(30):
+        s, area = spoiled(chance)
+        yield stepped(s, area, chance.choice([0, 1, 63, 64, ONES, block_of(chance, s)]), turn(chance))[0]
+
+
+# ---- registers
+def whole_of(chance):
+    """A register's whole number: small, of any size, near an end, or near the limit of rounding."""
+    size = chance.choice([0, 1, 64, 2098, 2111, chance.randint(0, 2111)])
+    near = chance.choice([0, -1, 1, -chance.getrandbits(60)])
+    whole = chance.choice([0, chance.getrandbits(size), TOP - 1 - chance.getrandbits(chance.randint(0, 60)), LIMIT + near])
+    return max(-TOP, min(TOP - 1, chance.choice([1, -1]) * whole - chance.randrange(2)))
+
+
+def halfway(chance):
+    """54 bits and the last of them 1, perhaps a unit more or less, at a place of chance."""
+    odd = 1 << 53 | chance.getrandbits(53) | 1
+    return chance.choice([1, -1]) * ((odd << chance.randint(0, 2046)) + chance.choice([0, 0, 1, -1]))
+
+
+def register_run(chance):
+    """Numbers in and out again, in another order: the register ends where it began. What is refused on the way isn't taken out."""
+    data = first = register_of(whole_of(chance))
+    held = []
+    for _ in range(chance.randint(1, 8)):
+        call, pattern = chance.choice(ENTRIES), samples.number(chance.randrange(KINDS), turn(chance))
+        request = entered(call, data, pattern)
+        yield request
+        held += [(call, pattern)] if request.code == 0 else []
+        data = request.after[0]
+    yield rounded(data, chance.randbytes(SIZE))
+    chance.shuffle(held)
+    for call, pattern in held:
+        request = entered(ENTRIES[call == ADD], data, pattern)
+        yield request
+        if request.code:
+            return
+        data = request.after[0]
+    assert data == first, f"the register {first.hex()} doesn't end where it began: {held}"
+
+
+def registers(chance):
+    for _ in range(25):
+        yield from register_run(chance)
+    for _ in range(25):
+        yield rounded(register_of(chance.choice([whole_of, halfway])(chance)), chance.randbytes(SIZE))
+
+
+# ---- sheets
+def sheets(chance):
+    for _ in range(25):
+        n = chance.choice([0, 1, 2, 5, 64, chance.randint(0, 200)])
+        patterns = [turn(chance) for _ in range(n)]
+        count = chance.choice([n] * 6 + [n + 1, max(n - 1, 0), LENGTH, LENGTH + 1, 2**31, 2**32 - 1])
+        data = sheet(patterns, chance.choice([1] * 9 + [0, 2, 255]), count)
+        data = chance.choice([data] * 6 + [data[:-1], data + b"\1", data[: chance.randint(0, 6)]])
+        yield read(data, chance.randbytes(SIZE * max(n + chance.choice([0, 0, 1, 7, -1]), 0)), chance.randbytes(SIZE))
+
+
+GROUPS = [lists, states, registers, sheets]

@@ -1,0 +1,254 @@
+"""Requests that are made in every run: lengths and orders of refusals, and the lists, states and registers at which a likely mistake shows."""
+import itertools
+
+import samples
+import walk
+from calls import FEW, REGISTER, ROOM, SIZE, STATE, SUM, entered, packed, parted, read, rounded, started, stepped, summed
+from drawn import ENDS, LIMIT, TOP
+from exact import INFINITY, LENGTH, MAGNITUDE, NAN, ONE, ONES, PARTS, SIGN, UNIT, WORDS, nearest
+from sequences import ADD, ENTRIES, ORDERS, WITHDRAW, both_around, entries, is_allowed, list_requests, register_of, run_requests, several, turn
+from sheets import sheet
+
+LARGE = MAGNITUDE + 1
+
+
+# ---- lengths and orders of refusals
+def short(numbers, n):
+    """A list of n numbers: those, and then 1."""
+    return (list(numbers) + [ONE] * n)[:n]
+
+
+# the beginnings of lists with more than one fault
+FAULTS = [[], [NAN], [LARGE, INFINITY], [INFINITY, LARGE], [ONE, SIGN | LARGE, NAN], [ONE, SIGN | INFINITY, LARGE]]
+
+
+def largest_codes(chance):
+    """The fault at the last place of the longest list: 3 or 2, and 32·4094."""
+    for fault, code in ((LARGE, 131011), (NAN, 131010)):
+        for call in ("kewohiata_faithful", "kewohiata_nearest"):
+            request = summed(call, packed([ONE] * (LENGTH - 1) + [fault]), chance.randbytes(SUM))
+            assert request.code == code, f"{call} answers {request.code} to a fault at the last place, by hand it is {code}"
+            yield request
+
+
+def sum_lengths(chance):
+    """1 for more than 32,752 bytes, else 4, else 2 or 3 at the lowest place."""
+    for faults in FAULTS:
+        for size in (0, 1, 7, 8, 9, 15, 16, 24, 32751, 32752, 32753, 32759, 32760, 32768, 40000):
+            data = packed(short(faults, 5000))[:size]
+            for out in (SUM, 0, 8, 15, 17, 24):
+                for call in ("kewohiata_faithful", "kewohiata_nearest"):
+                    yield summed(call, data, chance.randbytes(out))
+    yield from largest_codes(chance)
+
+
+# how many numbers a list has, and how many places the work area
+WALK_LENGTHS = [
+    (0, 0), (0, 1), (1, 0), (2, 2), (2, 1), (2, 3), (3, 3), (65, 64), (65, 66), (LENGTH, LENGTH), (LENGTH, LENGTH + 1), (LENGTH, 0),
+    (LENGTH + 1, LENGTH + 1), (LENGTH + 1, LENGTH), (LENGTH + 1, 2), (LENGTH + 1, 0), (LENGTH + 2, LENGTH + 2), (ROOM, ROOM), (ROOM + 1, 0), (0, ROOM + 1),
+]  # fmt: skip
+
+
+def walk_lengths(chance):
+    """1, else 4, else 2 or 3."""
+    for call in ("harness_open", "harness_faithful"):
+        for faults in FAULTS:
+            for n, m in WALK_LENGTHS:
+                yield started(call, packed(short(faults, n)), chance.randbytes(SIZE * m), chance.randbytes(STATE))
+        for sizes in ((9, 8, STATE), (8, 9, STATE), (8, 8, STATE - 1)):
+            yield started(call, *map(bytes, sizes))
+
+
+def parts_lengths(chance):
+    """1, else 5, else 2 or 3."""
+    for faults in FAULTS:
+        for n in (0, 1, 2, 3, 64, LENGTH, LENGTH + 1, LENGTH + 2, ROOM + 1):
+            for count in (0, 1, 2, 8, 9, FEW, FEW + 1):
+                yield parted(packed(short(faults, n)), chance.randbytes(SIZE * count), chance.randbytes(SIZE))
+
+
+def register_lengths(chance):
+    """4, else 2 or 3, else 9; of rounding 4, else 10. The largest register and the smallest leave no room."""
+    turned = samples.turns(WORDS, samples.seed(5, 0))
+    for data in (register_of(TOP - 1), register_of(-TOP), register_of(0), packed(turned)):
+        for size in (0, 1, 8, REGISTER - 8, REGISTER - 1, REGISTER, REGISTER + 1, REGISTER + 8, SIZE * FEW + 8):
+            for call in ENTRIES:
+                for pattern in (ONE, UNIT, 0, SIGN, SIGN | UNIT, MAGNITUDE, LARGE, SIGN | LARGE, INFINITY, NAN, ONES):
+                    yield entered(call, (data + bytes(SIZE * FEW))[:size], pattern)
+            yield rounded((data + bytes(SIZE * FEW))[:size], chance.randbytes(SIZE))
+
+
+def sheet_lengths(chance):
+    """11, 12, 1, 11, 13, 4, each where the later ones hold too."""
+    for version in (1, 2):
+        for count in (0, 1, 2, LENGTH, LENGTH + 1, 2**32 - 1):
+            for size in (0, 1, 4, 5, 6, 12, 13, 14, 20, 21, 22, 32756, 32757, 32758, 40000):
+                for room in (0, 1, 2, LENGTH - 1, LENGTH, LENGTH + 1):
+                    if size < 100 or room >= LENGTH - 1 or count < LENGTH:
+                        yield read((sheet([turn(chance)] * 4, version, count) + bytes(40000))[:size], chance.randbytes(SIZE * room), chance.randbytes(SIZE))
+
+
+# ---- registers
+def start(k, r):
+    """One of 15: words of zeros, of ones or of turns, under a top word that makes them small, the largest, the smallest, negative or middling."""
+    words = [[0] * WORDS, [ONES] * WORDS, samples.turns(WORDS, r)][k % 3]
+    words[-1] = [0, SIGN - 1, SIGN, ONES, r >> 20][k // 3 % 5]
+    return packed(words)
+
+
+def there_and_back(chance):
+    """From each start numbers of six kinds, added or withdrawn, and then the opposite of each."""
+    for k in range(15 * 6):
+        r = samples.seed(1, k)
+        data, turns = start(k, r), samples.turns(1 + r % 16, r)
+        for back in (0, 1):
+            data = yield from entries(data, [(ENTRIES[t >> 40 & 1 ^ back], samples.number(k // 15 * 2, t)) for t in turns])
+            yield rounded(data, chance.randbytes(SIZE))
+
+
+def register_examples(chance):
+    """Document 01's registers 10, 11 and 12."""
+    data = yield from entries(register_of(0), [(WITHDRAW, ONE)])
+    assert data == packed([0] * 16 + [2**64 - 2**50] + [ONES] * 16), data.hex()
+    data = yield from entries(data, [(ADD, ONE)])
+    assert not any(data), data.hex()
+    yield from both_around(chance, register_of(TOP - 1))
+    yield from both_around(chance, register_of(LIMIT))
+
+
+def register_rounds(chance):
+    """Roundings near each start; of 54 digits of which the last is one, at every 61st place, with an even and an odd digit before it; of words by turns."""
+    for k in range(15):
+        yield from both_around(chance, start(k, samples.seed(2, k)))
+    for k in range(2 * WORDS):
+        yield from both_around(chance, register_of((1 << 53 | samples.seed(3, k) >> 13 << 2 | k % 2 << 1 | 1) << k // 2 * 61))
+    for k in range(WORDS):
+        r = samples.seed(4, k)
+        words = samples.turns(k, r) + [r >> r % 64] + [0] * (WORDS - 1 - k)
+        for data in (words, [word ^ ONES for word in words]):
+            yield rounded(packed(data), chance.randbytes(SIZE))
+
+
+# ---- states that no call gave out
+SIGMA, SMALL, HALF = 0x407 << 52, 0x3C3 << 52, 0x7BE << 52
+TOP_SIGMA = 0x7EE << 52  # 2^1007: the largest of 65 numbers
+
+
+def witness(n, sigma, t, tau, pending, rounds, everywhere, place, number):
+    """A state, and an area that holds one number everywhere but at a place."""
+    area = [everywhere] * n
+    area[place] = number
+    return walk.State(sigma, t, tau, n, pending, rounds), area
+
+
+WITNESSES = [
+    witness(1, SIGMA, 0, 0, 1, 50, 0, 0, SMALL),  # a 51st round that goes on, and is followed by 8
+    witness(1, SIGMA, 0, 0, 1, 50, 0, 0, ONE),  # one that finishes
+    witness(65, TOP_SIGMA, 0, walk.CARRIED, 3, 0, MAGNITUDE, 0, MAGNITUDE),  # tau above 2^1012, and then 8
+    witness(65, SIGMA, 0x3D4 << 52, 0, 1, 0, 0, 64, ONE),  # a block not taken that is too large after rule 4
+    witness(65, SIGMA, ONE, 0, 1, 0, 0, 64, SIGN | ONE),  # a finish by rule 3 that answers +0
+    witness(129, SIGMA, 0, 0, 3, 0, 0, 128, SMALL),  # a restart by a block not taken
+    witness(65, 128, SIGN, SIGN, 2, 0, 1, 0, 1),  # the least sigma
+    witness(65, 64, SIGN, SIGN, 2, 0, 0, 0, 0),  # half of it
+    witness(65, TOP_SIGMA, 0, walk.CARRIED, 3, 0, HALF, 63, HALF + 2**51),  # a tau that depends on the order inside a block
+]
+
+
+def state_witnesses(chance):
+    """The steps that no run takes."""
+    for s, area in WITNESSES:
+        yield from several(s, area, walk.rising, itertools.repeat(0))
+
+
+BASE = walk.State(SIGMA, SIGN, SIGN, 65, 2, 0)
+BASE_AREA = [SIGN] * 64 + [0x4000000000000000]
+# what is changed and to which number, and the block of the step
+CHANGES = [
+    ("", 0, 0), ("", 0, 2), ("", 0, 63), ("", 0, 64), ("", 0, 1 << 63), ("pending", 1, 1), ("pending", 0, 1), ("pending", 4, 9), ("pending", ONES, 1),
+    ("n", 64, 9), ("n", 66, 9), ("n", 0, 9), ("n", ONES, 9), ("rounds", 51, 9), ("sigma", 0x406 << 52, 9), ("sigma", SIGMA + 1, 1),
+    ("sigma", SIGN | SIGMA, 1), ("sigma", 0, 1), ("sigma", INFINITY + 1, 1), ("sigma", INFINITY, 1), ("sigma", 0x7EF << 52, 1), ("t", walk.CARRIED + 1, 1),
+    ("t", SIGN | INFINITY + 1, 1), ("t", SIGN | INFINITY, 1), ("tau", SIGN | walk.CARRIED + 1, 1), ("tau", INFINITY + 1, 1), ("tau", INFINITY, 1),
+    (0, INFINITY + 1, 1), (0, SIGN | INFINITY, 1), (64, INFINITY + 1, 1), (63, 0x4000000000000001, 1), (64, 0xC000000000000001, 1), ("", 0, 1),
+]  # fmt: skip
+
+
+def state_refusals(chance):
+    """Each thing that makes a state unsound, with blocks that would be refused by 6 or 7; and lengths that no list has."""
+    for what, number, block in CHANGES:
+        s, area = BASE, list(BASE_AREA)
+        if isinstance(what, int):
+            area[what] = number
+        elif what:
+            s = s._replace(**{what: number})
+        for b in (block, 0, 2, ONES):
+            yield stepped(s, area, b)[0]
+    for n in (0, LENGTH, LENGTH + 1):
+        for m in (0, 1, LENGTH, LENGTH + 1):
+            for pending in (1, 2):
+                yield stepped(BASE._replace(n=n, pending=pending), [SIGN] * m, pending - 1)[0]
+
+
+# lengths, each with its M and the set of all its blocks
+SIZES = [(1, 2, 1), (2, 2, 1), (3, 3, 1), (30, 5, 1), (64, 7, 1), (65, 7, 3), (130, 8, 7), (200, 8, 15)]
+
+
+def below(limit, r):
+    """A number of magnitude at most the limit's."""
+    rest = r // 8
+    magnitude = [0, limit, rest % (limit + 1), max(limit - (rest % 61 << 52), 0)][r // 2 % 4]
+    return (r & 1) << 63 | magnitude
+
+
+def carried(limit, r):
+    return below(limit if r % 2 else walk.CARRIED, r // 2)
+
+
+def sound_state(k):
+    """A sound state by turns of the generator, and its work area. In one of four tau is the opposite of t."""
+    r = samples.seed(8, k)
+    n, m, full = SIZES[k % len(SIZES)]
+    exponent = [r // 4 % 60, 2074 - r // 4 % 4, r // 4 % 2075, r // 4 % 2075][r % 4]
+    limit, a = nearest(1 << exponent), samples.following(r)
+    b = samples.following(a)
+    t = carried(limit, a)
+    tau = carried(limit, b) if b % 4 else t ^ SIGN
+    area = [below(limit, x) for x in samples.turns(n, r)]
+    return walk.State(nearest(1 << exponent + m), t, tau, n, b >> 2 & full or full, [0, 3, 49, 50][a // 4 % 4]), area
+
+
+def stray(pending, chosen):
+    """One block in eight is any, pending or not, there or not."""
+    return chosen % 5 if chosen >> 40 & 7 == 0 else walk.seeded(pending, chosen)
+
+
+def sound_states(chance):
+    for k in range(120):
+        yield from several(*sound_state(k), stray, samples.endless(samples.seed(8, k)))
+
+
+# ---- lists
+def list_witnesses(chance):
+    """Every call on each list of tests/samples.py, with parts from none to one more than allowed; and every length at the ends of blocks."""
+    for k, patterns in enumerate(samples.lists()):
+        yield from list_requests(chance, patterns)
+        yield parted(packed(patterns), chance.randbytes(SIZE * ((k + k // 10) % (PARTS + 2))), chance.randbytes(SIZE))
+    for n in ENDS + [LENGTH]:
+        for shape in (walk.numbers, walk.cancelled):
+            patterns = shape(chance, n)
+            yield from list_requests(chance, patterns)
+            for order in ORDERS:
+                yield from run_requests(chance, patterns, order)
+    yield from list_requests(chance, samples.ladder(LENGTH, 102, 41))
+
+
+def walk_witnesses(chance):
+    """Each of those lists walked block by block, in three orders."""
+    for patterns in filter(is_allowed, samples.lists()):
+        for order in ORDERS:
+            yield from run_requests(chance, patterns, order)
+
+
+GROUPS = [
+    walk_witnesses, list_witnesses, sum_lengths, walk_lengths, parts_lengths, register_lengths, sheet_lengths, there_and_back, register_examples,
+    register_rounds, state_witnesses, state_refusals, sound_states,
+]  # fmt: skip
