@@ -14,8 +14,9 @@
  * Where more than one holds, a sum tells 1, then 4, then 2 or 3 of the lowest bad place; a register call 4, then 2 or 3 with place 0, then 9.
  *
  * Outside the contract, and nothing is promised of such a call: a null pointer (also with length 0), a length that isn't the area's, an area that is not
- * readable or not writable as its type says, two areas of a call that overlap, and an area that something else writes to during the call. The calls keep no
- * state between each other, allocate nothing and may run at the same time on different areas. */
+ * readable or not writable as its type says, two areas of a call that overlap, an area that something else writes to during the call, and a floating-point
+ * environment other than the usual one: sums want doubles rounded to nearest, ties to even, with subnormals kept. The calls keep no state between each other,
+ * allocate nothing and may run at the same time on different areas. */
 #ifndef KEWOHIATA_H
 #define KEWOHIATA_H
 
