@@ -18,7 +18,7 @@ ghost use Rattle.calls.specs.Inner.{Listed};
 fn answer(numbers: &[u64], work: &mut [f64], out: &mut [u8]) -> u32
     requires { ⌜ length (now out) ≡ sumBytes ⌝ }
     ensures { λ r. ⌜
-        outcome r (now (out .exit)) ≡ answered (stepHeard (faithfulOf doubles (now (numbers .entry)) (now (work .entry)) .answer)) (now (out .entry)) []
+        outcome r (now (out .exit)) ≡ answered (stepHeard doubles (faithfulOf doubles (now (numbers .entry)) (now (work .entry)) .answer)) (now (out .entry)) []
         ⌝ }
 {
     match walk::faithful(numbers, work) {

@@ -92,7 +92,7 @@ module _ (before words : List ℕ) where
 
 -- ---- the numbers and the work area of a sum
 pub faithful-within : (list numbers out : List ℕ) (work : List Float) (n : ℕ) → length list ≡ 8 * n → numbers ≡ unpacked n list → work ≡ own n
-    → answered (stepHeard (faithfulOf doubles numbers work .answer)) out [] ≡ summed faithfulHeard list out
+    → answered (stepHeard doubles (faithfulOf doubles numbers work .answer)) out [] ≡ summed faithfulHeard list out
 faithful-within list numbers out work n l e w =
     let d : length list / 8 ≡ n = omega arith in
     rw (d, e, w, eights-length little n list)

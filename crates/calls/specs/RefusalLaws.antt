@@ -26,7 +26,7 @@ use Rattle.calls.specs.Inner.{EntryRefusal}
 pub faithful-refusal : (ps : List ℕ) (work : List Float) (k i : ℕ) → faithfulOf doubles ps work .answer ≡ steps.Refused k i → Refusal (doubles .length) k i
 faithful-refusal ps work k i e = list-refusal (faithful-refused ps work k i .0 e)
 
-pub nearest-refusal : (ps : List ℕ) (k i : ℕ) → nearestOf ps ≡ nearests.Refused k i → Refusal (doubles .length) k i
+pub nearest-refusal : (ps : List ℕ) (k i : ℕ) → nearestOf doubles ps ≡ nearests.Refused k i → Refusal (doubles .length) k i
 nearest-refusal ps k i e = list-refusal (nearest-refused ps k i .0 e)
 
 -- ---- of a register

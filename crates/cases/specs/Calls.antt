@@ -44,7 +44,7 @@ abbrev pub Result : Type 0
 Result = Outcome Heard ℕ
 
 abbrev walkResult : Walked → Result
-walkResult w = outcome (stepHeard (w .answer)) (map (toBits binary64) (w .area))
+walkResult w = outcome (stepHeard doubles (w .answer)) (map (toBits binary64) (w .area))
 
 unfoldable pub resultOf : Call → Result
 resultOf (faithfulSum ps) = walkResult (faithfulOf doubles ps (replicate (length ps) (ofBits binary64 held)))
@@ -52,13 +52,13 @@ resultOf (opening ps) = walkResult (opened doubles ps (replicate (length ps) (of
 resultOf (step s ps b) =
     let given = stateOf (s .n) (ofBits binary64 (s .sigma)) (ofBits binary64 (s .t)) (ofBits binary64 (s .tau)) (s .pending) (s .rounds) in
     walkResult (stepped doubles given b (map (ofBits binary64) ps))
-resultOf (nearestSum ps) = outcome (nearestHeard (nearestOf ps)) []
+resultOf (nearestSum ps) = outcome (nearestHeard doubles (nearestOf doubles ps)) []
 resultOf (sumInParts ps k) =
-    let s = partsOf ps (replicate k (ofBits binary64 0)) in
+    let s = partsOf doubles ps (replicate k (ofBits binary64 0)) in
     outcome (partedHeard (s .answer)) (map (toBits binary64) (s .area))
 resultOf (add ws p) = outcome (entryHeard (added ws p .answer)) (added ws p .area)
 resultOf (withdraw ws p) = outcome (entryHeard (withdrawn ws p .answer)) (withdrawn ws p .area)
-resultOf (round ws) = outcome (nearestHeard (rounded ws)) []
+resultOf (round ws) = outcome (nearestHeard doubles (rounded ws)) []
 
 -- one row of the table
 pub record Row : Type 0 where

@@ -14,7 +14,6 @@ use Rattle.lists.specs.Digits.{number}
 use Rattle.ieee.specs.Units.{value, magnitude, nearestFloat}
 use Rattle.kinds.specs.Limits.{doubles}
 use Rattle.kinds.specs.Outcome.{outcome}
-use Rattle.kinds.specs.Heard.{pattern}
 use Rattle.kinds.specs.declared.Step.the-variants.{Done}
 use Rattle.kinds.specs.declared.Nearest.the-variants.{Sum}
 use Rattle.kinds.specs.declared.Sheet.the-variants.{Read}
@@ -62,11 +61,11 @@ walked-three : (xs : List Float) → length xs ≡ 3 → W.faithfulOf doubles th
 walked-three xs h = ap (λ (v : Verdict). W.roundsFrom doubles 1 51 (W.openedAfter doubles v three xs)) (good xs h) ∙ run xs
 
 -- ---- the two sums, and their lines
-nearest-three : S.nearestOf three ≡ Sum one
+nearest-three : S.nearestOf doubles three ≡ Sum one
 unfolding S.nearestAfter nearestFloat value ofBits
-nearest-three = nearest-good three allowed
+nearest-three = nearest-good doubles three allowed
 
-one-pattern : pattern one ≡ 0x3FF0000000000000
+one-pattern : toBits binary64 one ≡ 0x3FF0000000000000
 unfolding ofBits toBits
 one-pattern = refl
 

@@ -12,7 +12,7 @@ use lib.Dec.{eqb}
 use lib.ListN.{length, getD, length-replicate}
 use Rattle.kinds.specs.Limits.{doubles}
 use Rattle.kinds.specs.Outcome.{outcome}
-use Rattle.kinds.specs.Heard.{Refusal, Heard, refused, tells, placeOf, pattern, stepHeard, nearestHeard}
+use Rattle.kinds.specs.Heard.{Refusal, Heard, refused, tells, placeOf, stepHeard, nearestHeard}
 use Rattle.kinds.specs.declared.Verdict.{Verdict}
 use Rattle.kinds.specs.declared.Verdict.the-variants as verdicts
 use Rattle.judge.specs.Judge.{judged}
@@ -35,10 +35,10 @@ fits : (ps : List ℕ) → eqb (length (own (length ps))) (length ps) ≡ true
 fits ps = eq-eqb (length (own (length ps))) (length ps) (length-replicate (length ps) _)
 
 faithful-hears : (ps : List ℕ) (k i : ℕ) → ListWhen doubles true true ps (verdicts.Refused k i) → faithfulHeard ps ≡ refused k (placeOf k i)
-faithful-hears ps k i G = ap stepHeard (faithful-refused ps (own (length ps)) k i .1 (rw (fits ps) G))
+faithful-hears ps k i G = ap (stepHeard doubles) (faithful-refused ps (own (length ps)) k i .1 (rw (fits ps) G))
 
 nearest-hears : (ps : List ℕ) (k i : ℕ) → ListWhen doubles true true ps (verdicts.Refused k i) → sumHeard ps ≡ refused k (placeOf k i)
-nearest-hears ps k i G = ap nearestHeard (nearest-refused ps k i .1 G)
+nearest-hears ps k i G = ap (nearestHeard doubles) (nearest-refused ps k i .1 G)
 
 -- ---- of bytes that are a list
 module _ (list out : List ℕ) (l : length list ≤ listBytes) (m : length list % 8 ≡ 0) (o : length out ≡ sumBytes) where
@@ -57,7 +57,7 @@ module _ (list out : List ℕ) (l : length list ≤ listBytes) (m : length list 
       record {
         sum = F .sum;
         rounds = F .rounds;
-        is = is-summed faithfulHeard ∙ ap (λ h. answered h out []) (ap stepHeard (F .answer)) ∙ answered-done out [] (pattern (F .sum)) (F .rounds);
+        is = is-summed faithfulHeard ∙ ap (λ h. answered h out []) (ap (stepHeard doubles) (F .answer)) ∙ answered-done out [] _ (F .rounds);
         faithful = F .faithful;
         most = F .most;
       }

@@ -5,6 +5,7 @@ use Prim.Native.Nat.{ℕ, zero, suc}
 use lib.Dec.{T}
 use lib.Ieee.Bits.{is-true}
 use Rattle.lists.specs.Apart.{apart}
+use Rattle.kinds.specs.Limits.{Width}
 use Rattle.kinds.specs.Heard.{Place, Heard, refused, tells, placeOf, told, Row, stepHeard, nearestHeard, partedHeard, entryHeard, sheetHeard}
 use Rattle.kinds.specs.declared.Step.{Step}
 use Rattle.kinds.specs.declared.Step.the-variants as steps
@@ -28,14 +29,14 @@ placed k (suc i) (inl e) = apart (cc)
 placed k (suc i) (inr t) = rw (is-true (tells k) t)
 
 -- ---- an answer of which a refusal is heard is that refusal
-pub step-is : (a : Step) (k : ℕ) (p : Place) → stepHeard a ≡ refused k p → (i : ℕ) × (a ≡ steps.Refused k i)
-step-is (steps.More s) k p e = apart (cc)
-step-is (steps.Done x r) k p e = apart (cc)
-step-is (steps.Refused l j) k p e = (j, cc)
+pub step-is : (W : Width) (a : Step) (k : ℕ) (p : Place) → stepHeard W a ≡ refused k p → (i : ℕ) × (a ≡ steps.Refused k i)
+step-is W (steps.More s) k p e = apart (cc)
+step-is W (steps.Done x r) k p e = apart (cc)
+step-is W (steps.Refused l j) k p e = (j, cc)
 
-pub nearest-is : (a : Nearest) (k : ℕ) (p : Place) → nearestHeard a ≡ refused k p → (i : ℕ) × (a ≡ nearests.Refused k i)
-nearest-is (nearests.Sum x) k p e = apart (cc)
-nearest-is (nearests.Refused l j) k p e = (j, cc)
+pub nearest-is : (W : Width) (a : Nearest) (k : ℕ) (p : Place) → nearestHeard W a ≡ refused k p → (i : ℕ) × (a ≡ nearests.Refused k i)
+nearest-is W (nearests.Sum x) k p e = apart (cc)
+nearest-is W (nearests.Refused l j) k p e = (j, cc)
 
 pub parted-is : (a : Parted) (k : ℕ) (p : Place) → partedHeard a ≡ refused k p → (i : ℕ) × (a ≡ parteds.Refused k i)
 parted-is (parteds.Parts b) k p e = apart (cc)

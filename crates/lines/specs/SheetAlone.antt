@@ -48,7 +48,7 @@ faithful-same ps xs ys l = by (judged doubles (eqb (length xs) (length ps)) true
 
 list-same : (ps : List ℕ) (xs ys : List Float) → length xs ≡ length ys → listLines ps xs ≡ listLines ps ys
 unfolding listLines
-list-same ps xs ys l = ap (λ (a : Step). sumLines (length ps) a (nearestOf ps)) (faithful-same ps xs ys l)
+list-same ps xs ys l = ap (λ (a : Step). sumLines (length ps) a (nearestOf doubles ps)) (faithful-same ps xs ys l)
 
 -- ---- the reader's answer, and what it reads, are the same with every area that has room
 module _ (sheet numbers others : List ℕ) (h : doubles .length ≤ length numbers) (k : doubles .length ≤ length others) where

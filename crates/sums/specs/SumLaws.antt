@@ -36,14 +36,14 @@ pub total-begins : {ws : List ℕ} (ps : List ℕ) → Held ws → ws ≡ wordsO
 total-begins {ws} ps W = sym (ap wordsOf (+ℤ-idr (wholeOf ws)) ∙ cut-whole wordBits wordCount (lit< tt) W)
 
 pub total-goes-on : {ws : List ℕ} (z : ℤ) (ps : List ℕ) (i : ℕ) → i < length ps → ws ≡ wordsOf (z +ℤ sumOf (doubles .format) (take i ps))
-    → wordsOf (wholeOf ws +ℤ unitsOf (getD ps i 0)) ≡ wordsOf (z +ℤ sumOf (doubles .format) (take (i + 1) ps))
+    → wordsOf (wholeOf ws +ℤ unitsOf doubles (getD ps i 0)) ≡ wordsOf (z +ℤ sumOf (doubles .format) (take (i + 1) ps))
 total-goes-on {ws} z ps i h e =
     ap (λ (l : List ℕ). wordsOf (wholeOf l +ℤ u)) e
     ∙ cut-plus wordBits wordCount (lit< tt) u (z +ℤ s)
     ∙ ap wordsOf (+ℤ-assoc z s u ∙ ap (λ (x : ℤ). z +ℤ x) (sym (sum-next (doubles .format) ps i h)))
   where
     u : ℤ
-    u = unitsOf (getD ps i 0)
+    u = unitsOf doubles (getD ps i 0)
 
     s : ℤ
     s = sumOf (doubles .format) (take i ps)
