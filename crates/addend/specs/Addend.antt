@@ -19,6 +19,6 @@ abbrev pub Held : List ℕ → Type 0
 Held ws = Words wordBits wordCount ws
 
 -- lo at the word k and hi at the next are the magnitude of the pattern p, and the two words are there
-pub record Placed (p k lo hi : ℕ) : Type 0 where
+pub record AtWord (p k lo hi : ℕ) : Type 0 where
   pub within : k + 1 < wordCount
   pub units : two wordBits k lo hi ≡ magnitude (doubles .format) (ofBits (doubles .format) p)

@@ -13,8 +13,8 @@ use Rattle.walk.specs.Walk.{Walked, opened, stepped, faithfulOf}
 use Rattle.sums.specs.Sums.{nearestOf, partsOf}
 
 -- what a work area holds before the call, at each place: 1.5, a number that is in no list and no answer of the table
-abbrev pub held : ℕ
-held = 0x3FF8000000000000
+abbrev pub beforehand : ℕ
+beforehand = 0x3FF8000000000000
 
 -- a state by the patterns of its sigma, t and tau; n, the pending set and the rounds closed
 pub record Given : Type 0 where
@@ -47,8 +47,8 @@ abbrev walkResult : Walked → Result
 walkResult w = outcome (stepHeard doubles (w .answer)) (map (toBits binary64) (w .area))
 
 unfoldable pub resultOf : Call → Result
-resultOf (faithfulSum ps) = walkResult (faithfulOf doubles ps (replicate (length ps) (ofBits binary64 held)))
-resultOf (opening ps) = walkResult (opened doubles ps (replicate (length ps) (ofBits binary64 held)))
+resultOf (faithfulSum ps) = walkResult (faithfulOf doubles ps (replicate (length ps) (ofBits binary64 beforehand)))
+resultOf (opening ps) = walkResult (opened doubles ps (replicate (length ps) (ofBits binary64 beforehand)))
 resultOf (step s ps b) =
     let given = stateOf (s .n) (ofBits binary64 (s .sigma)) (ofBits binary64 (s .t)) (ofBits binary64 (s .tau)) (s .pending) (s .rounds) in
     walkResult (stepped doubles given b (map (ofBits binary64) ps))
@@ -61,6 +61,6 @@ resultOf (withdraw ws p) = outcome (entryHeard (withdrawn ws p .answer)) (withdr
 resultOf (round ws) = outcome (nearestHeard doubles (rounded ws)) []
 
 -- one row of the table
-pub record Row : Type 0 where
+pub record Case : Type 0 where
   pub call : Call
   pub expected : Result

@@ -28,7 +28,7 @@ use Rattle.calls.specs.Calls.{Called, placeCode, answered, lengthFault, pattern
 use Rattle.calls.specs.Calls.{listBytes, sumBytes}
 use Rattle.calls.specs.CallsLaws.{fault-0, fitting, sixteen, sum-refused, sum-summed, answered-refused, answered-done, answered-nearest, code-told}
 use Rattle.calls.specs.RefusalLaws.{faithful-refusal, nearest-refusal}
-use Rattle.exports.specs.SumBytes.{FaithfulBytes, NearestBytes, Accepted}
+use Rattle.exports.specs.SumBytes.{FaithfulBytes, NearestBytes, RightBytes}
 
 -- the work area has the right length
 fits : (ps : List ℕ) → eqb (length (own (length ps))) (length ps) ≡ true
@@ -110,8 +110,8 @@ some-number ps k i (bad-number P l j F) z = F .bad z
 
 module _ (heardOf : List ℕ → Heard)
     (hears : (ps : List ℕ) (k i : ℕ) → ListWhen doubles true true ps (verdicts.Refused k i) → heardOf ps ≡ refused k (placeOf k i)) (list out : List ℕ) where
-  accepted : lengthFault (length list) (length out) ≡ 0 → sumCall heardOf list out .answer ≡ 0 → Accepted list out
-  accepted f e =
+  right-bytes : lengthFault (length list) (length out) ≡ 0 → sumCall heardOf list out .answer ≡ 0 → RightBytes list out
+  right-bytes f e =
       let F = fitting (length list) (length out) f in
       record {
         bytes = omega (arith, F .whole, F .few);
@@ -129,20 +129,20 @@ module _ (heardOf : List ℕ → Heard)
           let z : k + placeCode (placeOf k i) ≡ 0 = ap (λ (x : Called). x .answer) (sym c) ∙ e in
           absurd (some-number (patternsIn list) k i G (omega (arith, z)))
 
-  accepted-when : sumCall heardOf list out .answer ≡ 0 → Accepted list out
-  accepted-when e = elim (ℕ-discrete (lengthFault (length list) (length out)) 0) [
-    | yes f ↦ accepted f e
+  right-when : sumCall heardOf list out .answer ≡ 0 → RightBytes list out
+  right-when e = elim (ℕ-discrete (lengthFault (length list) (length out)) 0) [
+    | yes f ↦ right-bytes f e
     | no h ↦ absurd (h (ap (λ (x : Called). x .answer) (sym (sum-refused heardOf list out h)) ∙ e))
   ]
 
-pub faithful-when : (list out : List ℕ) → (faithfulCall list out .answer ≡ 0) ↔ Accepted list out
+pub faithful-when : (list out : List ℕ) → (faithfulCall list out .answer ≡ 0) ↔ RightBytes list out
 faithful-when list out = (
-  accepted-when faithfulHeard faithful-hears list out,
+  right-when faithfulHeard faithful-hears list out,
   λ A. ap (λ (x : Called). x .answer) (faithful-call list out (A .bytes) (A .whole) (A .sixteen) (A .allowed) .is),
 )
 
-pub nearest-when : (list out : List ℕ) → (nearestCall list out .answer ≡ 0) ↔ Accepted list out
+pub nearest-when : (list out : List ℕ) → (nearestCall list out .answer ≡ 0) ↔ RightBytes list out
 nearest-when list out = (
-  accepted-when sumHeard nearest-hears list out,
+  right-when sumHeard nearest-hears list out,
   λ A. ap (λ (x : Called). x .answer) (nearest-call list out (A .bytes) (A .whole) (A .sixteen) (A .allowed) .is),
 )

@@ -27,7 +27,7 @@ pub record NearestBytes (list : List ℕ) (c : Called) : Type 0 where
   pub nearest : NearestTo (doubles .format) (sumOf (doubles .format) (patternsIn list)) sum
 
 -- what is accepted: no length is refused, and every number is allowed
-pub record Accepted (list out : List ℕ) : Type 0 where
+pub record RightBytes (list out : List ℕ) : Type 0 where
   pub bytes : length list ≤ listBytes
   pub whole : length list % 8 ≡ 0
   pub sixteen : length out ≡ sumBytes

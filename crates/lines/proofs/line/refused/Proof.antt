@@ -1,7 +1,7 @@
 -- `lines::line::refused` meets its contract: its pieces, one behind the other, are the line, with a place where one is told. Assumes nothing.
 use mathlib.Core.Path.{sym, _∙_}
 use native.Mathlib.Omega.{arith}
-use Rattle.numerals.specs.TextLaws.{joined}
+use Rattle.numerals.specs.TextLaws.{placed-behind}
 use Rattle.lines.specs.LineLaws.{word-length, line-told, line-untold}
 use borrow.Author.Needs.{needs}
 use Rattle.lines.proofs.line.refused.Statement.{statement}
@@ -46,7 +46,7 @@ returns c =
     let d = t .before .before .before .before in
     let s = d .before .before .before .before in
     rw (line-told (s .args .k) (s .args .place) (sym (t .before .place-told .ensures) ∙ t .if1 .taken))
-    (joined (omega arith) (joined (omega arith) (d .decimal .ensures) (e .decimal2 .ensures)) (p .put .ensures))
+    (placed-behind (omega arith) (placed-behind (omega arith) (d .decimal .ensures) (e .decimal2 .ensures)) (p .put .ensures))
 
 slice-aggregate-put-2 : tie.Need-slice-aggregate-put-2
 slice-aggregate-put-2 c = search needs
@@ -67,7 +67,7 @@ returns-2 c =
     let d = t .before .before .before .before in
     let s = d .before .before .before .before in
     rw (line-untold (s .args .k) (s .args .place) (sym (t .before .place-told .ensures) ∙ t .if1 .left))
-    (joined (omega arith) (d .decimal .ensures) (p .put2 .ensures))
+    (placed-behind (omega arith) (d .decimal .ensures) (p .put2 .ensures))
 
 pub refused-spec : {M : Type 1} → statement M
 refused-spec =

@@ -30,8 +30,7 @@ use Rattle.sums.specs.AnswerLaws.{nearest-good}
 use Rattle.octets.specs.Octets.{eights}
 use Rattle.sheet.specs.Sheet.{Reading, readOf}
 use Rattle.sheet.specs.SheetLaws.{read-all}
-use Rattle.sheet.specs.Instances.{three}
-use Rattle.sheet.specs.Instances as sheets
+use Rattle.sheet.specs.Instances.{three, exampleSheet}
 use Rattle.lines.specs.Lines.{countLine, faithfulLine, nearestLine, listLines, printed, linesAfter, linesOf}
 use Rattle.lines.specs.SumLaws.{lines-three}
 use Rattle.lines.specs.Instances.{exampleLines, three-lines}
@@ -77,11 +76,11 @@ three-printed xs h =
 
 -- ---- "For the sheet .. it prints all of"
 module _ (numbers : List ℕ) (work : List Float) (text : List ℕ) (h : 3 ≤ length numbers) (k : 3 ≤ length work) where
-  read-three : readOf doubles sheets.printed numbers ≡ outcome (Read 3) (three ++ drop 3 numbers)
+  read-three : readOf doubles exampleSheet numbers ≡ outcome (Read 3) (three ++ drop 3 numbers)
   unfolding eights number
-  read-three = read-all doubles sheets.printed numbers (omega arith) refl (omega arith) refl h
+  read-three = read-all doubles exampleSheet numbers (omega arith) refl (omega arith) refl h
 
-  pub example-printed : linesOf sheets.printed numbers work text
+  pub example-printed : linesOf exampleSheet numbers work text
       ≡ printed 68 (three ++ drop 3 numbers) (zeros ++ drop 3 work) (exampleLines ++ drop 68 text)
   unfolding linesAfter
   example-printed =
