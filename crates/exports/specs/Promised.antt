@@ -22,12 +22,13 @@ use Rattle.judge.specs.FaultLaws.{fault-number}
 use Rattle.octets.specs.Octets.{little}
 use Rattle.octets.specs.EightsLaws.{eights-length}
 use Rattle.sums.specs.Promised.{nearest-promised}
+use Rattle.sums.specs.AnswerNumbers.{nearest-refusal}
 use Rattle.runs.specs.Instances.{faithful-64}
+use Rattle.runs.specs.AnswerNumbers.{faithful-refusal}
 use Rattle.demands.specs.Refusals.{nearest-refused, faithful-refused}
 use Rattle.calls.specs.Calls.{Called, placeCode, answered, lengthFault, patternsIn, sumCall, own, faithfulHeard, sumHeard, faithfulCall, nearestCall}
 use Rattle.calls.specs.Calls.{listBytes, sumBytes}
 use Rattle.calls.specs.CallsLaws.{fault-0, fitting, sixteen, sum-refused, sum-summed, answered-refused, answered-done, answered-nearest, code-told}
-use Rattle.calls.specs.RefusalLaws.{faithful-refusal, nearest-refusal}
 use Rattle.exports.specs.SumBytes.{FaithfulBytes, NearestBytes, RightBytes}
 
 -- the work area has the right length
@@ -97,7 +98,7 @@ module _ (list out : List ℕ) (l : length list ≤ listBytes) (m : length list 
 
     pub nearest-code : nearestCall list out ≡ outcome (k + 32 * (i + 1)) out
     nearest-code =
-        is-summed sumHeard ∙ ap (λ h. answered h out []) (nearest-hears ps k i given) ∙ code (nearest-refusal ps k i (nearest-refused ps k i .1 given))
+        is-summed sumHeard ∙ ap (λ h. answered h out []) (nearest-hears ps k i given) ∙ code (nearest-refusal doubles ps k i (nearest-refused ps k i .1 given))
 
 -- ---- exactly when 0 is returned
 

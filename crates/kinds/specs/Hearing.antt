@@ -1,12 +1,13 @@
 -- A table of refusals is read both ways; a refusal is heard exactly when its row says; and its place is told as the table says. Assumes nothing.
 use mathlib.Core.Path.{_≡_, refl, sym, ap, subst, _∙_}
 use mathlib.Core.Logic.{_⊎_, inl, inr, _↔_}
-use Prim.Native.Nat.{ℕ, zero, suc}
+use Prim.Native.Nat.{ℕ, zero, suc, _<_}
+use native.Mathlib.Omega.{arith}
 use lib.Dec.{T}
 use lib.Ieee.Bits.{is-true}
 use Rattle.lists.specs.Apart.{apart}
 use Rattle.kinds.specs.Limits.{Width}
-use Rattle.kinds.specs.Heard.{Place, Heard, refused, tells, placeOf, told, Row, stepHeard, nearestHeard, partedHeard, entryHeard, sheetHeard}
+use Rattle.kinds.specs.Heard.{Place, Heard, refused, tells, placeOf, told, Row, Refusal, stepHeard, nearestHeard, partedHeard, entryHeard, sheetHeard}
 use Rattle.kinds.specs.declared.Step.{Step}
 use Rattle.kinds.specs.declared.Step.the-variants as steps
 use Rattle.kinds.specs.declared.Nearest.{Nearest}
@@ -27,6 +28,10 @@ pub placed : (k i : ℕ) → (i ≡ 0) ⊎ T (tells k) → placeOf k i ≡ told 
 placed k zero h = refl
 placed k (suc i) (inl e) = apart (cc)
 placed k (suc i) (inr t) = rw (is-true (tells k) t)
+
+-- a number of the table at place 0 is a refusal of the table
+pub at-place-0 : {places k : ℕ} → k < 32 → Refusal places k 0
+at-place-0 {places} {k} h = record { number = h; place = omega arith; as-told = placed k 0 (inl refl) }
 
 -- ---- an answer of which a refusal is heard is that refusal
 pub step-is : (W : Width) (a : Step) (k : ℕ) (p : Place) → stepHeard W a ≡ refused k p → (i : ℕ) × (a ≡ steps.Refused k i)

@@ -1,5 +1,4 @@
 -- The lines that the sheet program prints, as bytes, and what is left of the areas that it lends. Definitions only.
-use mathlib.Core.Bool.{Bool, true, false}
 use mathlib.Core.List.{List, [], _∷_, _++_}
 use Prim.Native.Nat.{ℕ}
 use lib.ListN.{length, take, drop}
@@ -53,11 +52,6 @@ nearestLine p = nearestWord ++ hexOf p ++ lineEnd
 unfoldable pub refusedLine : ℕ → Place → List ℕ
 refusedLine k nowhere = refusedWord ++ decimalOf k ++ lineEnd
 refusedLine k (at p) = refusedWord ++ decimalOf k ++ (atWord ++ decimalOf p) ++ lineEnd
-
--- whether a place is told
-abbrev pub told : Place → Bool
-told nowhere = false
-told (at p) = true
 
 -- of a list of n numbers, from its faithful and its nearest sum. The undivided call answers no state (runs/AnswerNumbers).
 unfoldable pub sumLines : ℕ → Step → Nearest → List ℕ

@@ -8,13 +8,14 @@ use lib.Seq.{take-at}
 use lib.Ieee.{Float}
 use Rattle.kinds.specs.Limits.{doubles}
 use Rattle.kinds.specs.Outcome.{outcome}
-use Rattle.kinds.specs.Heard.{placeOf}
+use Rattle.kinds.specs.Heard.{Refusal, placeOf}
 use Rattle.kinds.specs.declared.Sheet.{Sheet}
 use Rattle.kinds.specs.declared.Sheet.the-variants.{Read, Refused}
 use Rattle.octets.specs.Octets.{big}
 use Rattle.octets.specs.EightsLaws.{eights-length}
 use Rattle.sheet.specs.Sheet.{Reading, countOf, patternsOf, readOf}
 use Rattle.sheet.specs.SheetLaws.{Readable, readable, readable-read}
+use Rattle.sheet.specs.TableLaws.{sheet-when, sheet-refusal}
 use Rattle.walk.specs.Walk.{faithfulOf}
 use Rattle.numerals.specs.Text.{Placed}
 use Rattle.numerals.specs.TextLaws.{first-end, first-text}
@@ -31,6 +32,9 @@ module _ (sheet numbers : List ℕ) (work : List Float) (text : List ℕ) {answe
   unfolding linesAfter
   sheet-refused k p s P =
       (λ i. printed (first-end P i) area work (first-text P i)) ∙ ap (λ (a : Sheet). linesAfter a area work text) (sym s) ∙ lines-read
+
+  pub read-refusal : (k p : ℕ) → answer ≡ Refused k p → Refusal (doubles .length) k p
+  read-refusal k p s = sheet-refusal doubles sheet numbers (sheet-when doubles sheet numbers (Refused k p) .0 (ap (λ (r : Reading). r .answer) (sym e) ∙ s))
 
   module _ (n : ℕ) (s : answer ≡ Read n) where
     -- a list that was read, with what its walk leaves

@@ -1,4 +1,4 @@
--- What the nearest sum answers is a number, so that its bits may be read. Assumes nothing.
+-- What the nearest sum answers is a number, so that its bits may be read, or a refusal of the table. Assumes nothing.
 use mathlib.Core.Path.{_≡_, refl, sym, _∙_, subst}
 use mathlib.Core.Bool.{true, not}
 use mathlib.Core.List.{List}
@@ -8,15 +8,19 @@ use lib.Ieee.{Float, isNan}
 use Rattle.ieee.specs.Units.{Number, nearestFloat}
 use Rattle.ieee.specs.Finite.{finite-no-nan}
 use Rattle.lists.specs.Apart.{apart}
-use Rattle.kinds.specs.Limits.{doubles}
+use Rattle.kinds.specs.Limits.{Width, doubles}
+use Rattle.kinds.specs.Heard.{Refusal}
 use Rattle.kinds.specs.declared.Verdict.{Verdict}
 use Rattle.kinds.specs.declared.Verdict.the-variants as verdicts
 use Rattle.kinds.specs.declared.Nearest.the-variants.{Sum, Refused}
 use Rattle.judge.specs.Judge.{judged, zeroSign}
-use Rattle.judge.specs.JudgeLaws.{list-when}
+use Rattle.judge.specs.JudgeLaws.{list-when, list-refusal}
 use Rattle.sums.specs.Sums.{sumOf, nearestOf}
 use Rattle.sums.specs.AnswerLaws.{nearest-good, nearest-refused}
-use Rattle.sums.specs.Promised.{nearest-promised}
+use Rattle.sums.specs.Promised.{nearest-promised, nearest-refusals}
+
+pub nearest-refusal : (W : Width) (ps : List ℕ) (k p : ℕ) → nearestOf W ps ≡ Refused k p → Refusal (W .length) k p
+nearest-refusal W ps k p e = list-refusal (nearest-refusals W ps k p .0 e)
 
 module _ (ps : List ℕ) {x : Float} (e : nearestOf doubles ps ≡ Sum x) where
   pub nearest-number : Number (doubles .format) x

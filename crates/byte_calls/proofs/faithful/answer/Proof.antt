@@ -8,10 +8,9 @@ use Rattle.kinds.specs.Limits.{doubles}
 use Rattle.kinds.specs.Outcome.{outcome}
 use Rattle.kinds.specs.Heard.{Heard, stepHeard}
 use Rattle.walk.specs.Walk.{Walked}
-use Rattle.runs.specs.AnswerNumbers.{faithful-no-nan, faithful-not-more}
+use Rattle.runs.specs.AnswerNumbers.{faithful-no-nan, faithful-not-more, faithful-refusal}
 use Rattle.calls.specs.Calls.{answered}
 use Rattle.calls.specs.CallsLaws.{answered-done, answered-refused}
-use Rattle.calls.specs.RefusalLaws.{faithful-refusal}
 use Rattle.byte_calls.proofs.faithful.answer.Statement.{statement}
 use Rattle.byte_calls.proofs.faithful.answer.Tie as tie
 

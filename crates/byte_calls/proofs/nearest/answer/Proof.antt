@@ -6,10 +6,9 @@ use borrow.Author.Needs.{needs}
 use Rattle.kinds.specs.Limits.{doubles}
 use Rattle.kinds.specs.Outcome.{outcome}
 use Rattle.kinds.specs.Heard.{Heard, nearestHeard}
-use Rattle.sums.specs.AnswerNumbers.{nearest-no-nan}
+use Rattle.sums.specs.AnswerNumbers.{nearest-no-nan, nearest-refusal}
 use Rattle.calls.specs.Calls.{answered}
 use Rattle.calls.specs.CallsLaws.{answered-nearest, answered-refused}
-use Rattle.calls.specs.RefusalLaws.{nearest-refusal}
 use Rattle.byte_calls.proofs.nearest.answer.Statement.{statement}
 use Rattle.byte_calls.proofs.nearest.answer.Tie as tie
 
@@ -37,7 +36,7 @@ refusal-requires c κs =
     let after-number = c .before in
     let after-nearest = after-number .before .before in
     let start = after-nearest .before .before .before in
-    nearest-refusal (start .args .numbers .now) _ _ (sym (after-nearest .nearest .ensures) ∙ after-number .number .given .1)
+    nearest-refusal doubles (start .args .numbers .now) _ _ (sym (after-nearest .nearest .ensures) ∙ after-number .number .given .1)
 
 same-length : tie.Need-same-length
 same-length c = search needs
