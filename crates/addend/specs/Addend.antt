@@ -7,18 +7,18 @@ use lib.Ieee.{ofBits}
 use Rattle.ieee.specs.Units.{magnitude, value}
 use Rattle.lists.specs.Carry.{two}
 use Rattle.lists.specs.SignedDigits.{Words}
-use Rattle.kinds.specs.Limits.{doubles}
+use Rattle.kinds.specs.Limits.{Width, doubles}
 use Rattle.words.specs.Words.{wordBits, wordCount}
 
 -- the units of a pattern
-abbrev pub unitsOf : ℕ → ℤ
-unitsOf p = value (doubles .format) (ofBits (doubles .format) p)
+abbrev pub unitsOf : Width → ℕ → ℤ
+unitsOf W p = value (W .format) (ofBits (W .format) p)
 
 -- 33 words of 64 bits
 abbrev pub Held : List ℕ → Type 0
 Held ws = Words wordBits wordCount ws
 
 -- lo at the word k and hi at the next are the magnitude of the pattern p, and the two words are there
-pub record Placed (p k lo hi : ℕ) : Type 0 where
+pub record AtWord (p k lo hi : ℕ) : Type 0 where
   pub within : k + 1 < wordCount
   pub units : two wordBits k lo hi ≡ magnitude (doubles .format) (ofBits (doubles .format) p)

@@ -13,7 +13,7 @@ use Rattle.kinds.specs.Limits.{doubles}
 use Rattle.lists.specs.Carry.{two, Carried}
 use Rattle.lists.specs.SignedDigits.{cut-add, cut-sub}
 use Rattle.words.specs.Words.{wordBits, wordCount, wholeOf, wordsOf}
-use Rattle.addend.specs.Addend.{unitsOf, Held, Placed}
+use Rattle.addend.specs.Addend.{unitsOf, Held, AtWord}
 use Rattle.addend.specs.PatternFields.{pattern-plus, pattern-minus}
 use Rattle.addend.specs.OppositePattern.{opposite, opposite-value}
 
@@ -30,12 +30,12 @@ module _ {ws es : List ℕ} (W : Held ws) (E : Held es) {m r : ℕ} where
   falls C = cut-sub wordBits wordCount (lit< tt) m r W E (rw (W .long) at (C .total))
 
 -- ---- the units of a pattern, from its place
-module _ {p k lo hi : ℕ} (F : T (finite (ofBits (doubles .format) p))) (P : Placed p k lo hi) where
-  pub units-plus : p < top (doubles .format) → unitsOf p ≡ pos (two wordBits k lo hi)
+module _ {p k lo hi : ℕ} (F : T (finite (ofBits (doubles .format) p))) (P : AtWord p k lo hi) where
+  pub units-plus : p < top (doubles .format) → unitsOf doubles p ≡ pos (two wordBits k lo hi)
   units-plus h = pattern-plus (doubles .format) p F h ∙ ap pos (sym (P .units))
 
-  pub units-minus : top (doubles .format) ≤ p → unitsOf p ≡ negℤ (pos (two wordBits k lo hi))
+  pub units-minus : top (doubles .format) ≤ p → unitsOf doubles p ≡ negℤ (pos (two wordBits k lo hi))
   units-minus h = pattern-minus (doubles .format) p F h ∙ ap (λ (m : ℕ). negℤ (pos m)) (sym (P .units))
 
-pub opposite-units : (p : ℕ) → p < 2 ^ 64 → T (finite (ofBits (doubles .format) p)) → unitsOf (opposite (doubles .format) p) ≡ negℤ (unitsOf p)
+pub opposite-units : (p : ℕ) → p < 2 ^ 64 → T (finite (ofBits (doubles .format) p)) → unitsOf doubles (opposite (doubles .format) p) ≡ negℤ (unitsOf doubles p)
 opposite-units p h F = opposite-value (doubles .format) p h F

@@ -20,7 +20,7 @@ ghost use Rattle.addend.specs.Addend.{unitsOf};
 // A NaN or an infinity has no units, and the place of a number is one of 33 words.
 pub fn add(words: &mut [u64], p: u64)
     requires { ⌜ (length (now words) ≡ wordCount) × T (finite (ofBits (doubles .format) p)) ⌝ }
-    ensures { λ _. ⌜ now (words .exit) ≡ wordsOf (wholeOf (now (words .entry)) +ℤ unitsOf p) ⌝ }
+    ensures { λ _. ⌜ now (words .exit) ≡ wordsOf (wholeOf (now (words .entry)) +ℤ unitsOf doubles p) ⌝ }
 {
     let at = place(p);
     if p < SIGN {
@@ -40,7 +40,7 @@ pub fn opposite(p: u64) -> u64
 // A withdrawal is the addition of the opposite number. What is required is as above.
 pub fn withdraw(words: &mut [u64], p: u64)
     requires { ⌜ (length (now words) ≡ wordCount) × T (finite (ofBits (doubles .format) p)) ⌝ }
-    ensures { λ _. ⌜ now (words .exit) ≡ wordsOf (wholeOf (now (words .entry)) -ℤ unitsOf p) ⌝ }
+    ensures { λ _. ⌜ now (words .exit) ≡ wordsOf (wholeOf (now (words .entry)) -ℤ unitsOf doubles p) ⌝ }
 {
     add(words, opposite(p));
 }

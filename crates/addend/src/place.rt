@@ -7,7 +7,7 @@ ghost use lib.Ieee.Scale.{finite};
 ghost use Rattle.kinds.specs.Limits.{doubles};
 ghost use Rattle.lists.specs.Carry.{two};
 ghost use Rattle.words.specs.Words.{wordBits, wordCount};
-ghost use Rattle.addend.specs.Addend.{Placed};
+ghost use Rattle.addend.specs.Addend.{AtWord};
 use kinds::LEAST_NORMAL;
 use kinds::SIGN;
 
@@ -33,7 +33,7 @@ pub fn shifted(m: u64, e: u64) -> Pair
 // The magnitude of a finite number in units. A NaN or an infinity has none.
 pub fn place(p: u64) -> Pair
     requires { ⌜ T (finite (ofBits (doubles .format) p)) ⌝ }
-    ensures { λ r. ⌜ Placed p (r .word) (r .lo) (r .hi) ⌝ }
+    ensures { λ r. ⌜ AtWord p (r .word) (r .lo) (r .hi) ⌝ }
 {
     let magnitude = p % SIGN;
     let field = magnitude / LEAST_NORMAL;

@@ -18,7 +18,7 @@ ghost use Rattle.calls.specs.Inner.{Listed};
 fn answer(numbers: &[u64], work: &mut [f64], out: &mut [u8]) -> u32
     requires { ⌜ length (now out) ≡ sumBytes ⌝ }
     ensures { λ r. ⌜
-        outcome r (now (out .exit)) ≡ answered (stepHeard (faithfulOf doubles (now (numbers .entry)) (now (work .entry)) .answer)) (now (out .entry)) []
+        outcome r (now (out .exit)) ≡ answered (stepHeard doubles (faithfulOf doubles (now (numbers .entry)) (now (work .entry)) .answer)) (now (out .entry)) []
         ⌝ }
 {
     match walk::faithful(numbers, work) {
@@ -40,7 +40,7 @@ fn within(list: &[u8], numbers: &mut [u64], work: &mut [f64], out: &mut [u8]) ->
     answer(numbers, work, out)
 }
 
-// Up to 64 numbers.
+// An array's length is part of its type and there are no generics over it: so one function for each length, in both files. Up to 64 numbers.
 fn short(list: &[u8], out: &mut [u8]) -> u32
     requires { ⌜ Listed 64 (length (now list)) × (length (now out) ≡ sumBytes) ⌝ }
     ensures { λ r. ⌜ outcome r (now (out .exit)) ≡ summed faithfulHeard (now (list .entry)) (now (out .entry)) ⌝ }

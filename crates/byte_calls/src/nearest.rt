@@ -34,7 +34,7 @@ fn within(list: &[u8], numbers: &mut [u64], out: &mut [u8]) -> u32
     answer(numbers, out)
 }
 
-// Up to 64 numbers.
+// Three functions as there, since no generics go over an array's length. Up to 64 numbers.
 fn short(list: &[u8], out: &mut [u8]) -> u32
     requires { ⌜ Listed 64 (length (now list)) × (length (now out) ≡ sumBytes) ⌝ }
     ensures { λ r. ⌜ outcome r (now (out .exit)) ≡ summed sumHeard (now (list .entry)) (now (out .entry)) ⌝ }

@@ -67,13 +67,13 @@ abbrev pub own : ℕ → List Float
 own n = replicate n (ofBits (doubles .format) 0)
 
 abbrev pub faithfulHeard : List ℕ → Heard
-faithfulHeard ps = stepHeard (faithfulOf doubles ps (own (length ps)) .answer)
+faithfulHeard ps = stepHeard doubles (faithfulOf doubles ps (own (length ps)) .answer)
 
 abbrev pub faithfulCall : List ℕ → List ℕ → Called
 faithfulCall list out = sumCall faithfulHeard list out
 
 abbrev pub sumHeard : List ℕ → Heard
-sumHeard ps = nearestHeard (nearestOf ps)
+sumHeard ps = nearestHeard doubles (nearestOf doubles ps)
 
 abbrev pub nearestCall : List ℕ → List ℕ → Called
 nearestCall list out = sumCall sumHeard list out

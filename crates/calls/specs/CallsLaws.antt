@@ -92,7 +92,7 @@ module _ (before words : List ℕ) where
 
 -- ---- the numbers and the work area of a sum
 pub faithful-within : (list numbers out : List ℕ) (work : List Float) (n : ℕ) → length list ≡ 8 * n → numbers ≡ unpacked n list → work ≡ own n
-    → answered (stepHeard (faithfulOf doubles numbers work .answer)) out [] ≡ summed faithfulHeard list out
+    → answered (stepHeard doubles (faithfulOf doubles numbers work .answer)) out [] ≡ summed faithfulHeard list out
 faithful-within list numbers out work n l e w =
     let d : length list / 8 ≡ n = omega arith in
     rw (d, e, w, eights-length little n list)
@@ -103,14 +103,21 @@ nearest-within list numbers out n l e =
     let d : length list / 8 ≡ n = omega arith in
     rw (d, e)
 
--- the first places of an area that holds the list
-pub front-length : {A : Type 0} {most bytes : ℕ} → Listed most bytes → (x : A) → length (take (bytes / 8) (replicate most x)) ≡ bytes / 8
-front-length {A} {most} {bytes} F x = length-take-le (bytes / 8) (replicate most x) (rw (length-replicate most) (F .few))
-
-pub own-front : (n k : ℕ) → n ≤ k → take n (own k) ≡ own n
+own-front : (n k : ℕ) → n ≤ k → take n (own k) ≡ own n
 own-front zero k h = refl
 own-front (suc n) zero h = absurd (omega arith)
 own-front (suc n) (suc k) h = ap (λ (xs : List Float). ofBits (doubles .format) 0 ∷ xs) (own-front n k (omega arith))
+
+-- the first places of areas that hold the list, of any length: so many, for the numbers and for the walk's own work
+module _ {most bytes : ℕ} (F : Listed most bytes) where
+  pub front-length : {A : Type 0} (x : A) → length (take (bytes / 8) (replicate most x)) ≡ bytes / 8
+  front-length x = length-take-le (bytes / 8) (replicate most x) (rw (length-replicate most) (F .few))
+
+  pub front-bytes : bytes ≡ 8 * length (take (bytes / 8) (replicate {A = ℕ} most 0))
+  front-bytes = F .whole ∙ rw (front-length {A = ℕ} 0)
+
+  pub front-own : take (bytes / 8) (own most) ≡ own (length (take (bytes / 8) (replicate {A = ℕ} most 0)))
+  front-own = own-front (bytes / 8) most (F .few) ∙ rw (front-length {A = ℕ} 0)
 
 -- ---- the code of a refusal
 module _ {k i : ℕ} (R : Refusal (doubles .length) k i) where

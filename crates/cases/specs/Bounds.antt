@@ -6,7 +6,7 @@ use Prim.Native.Nat.{ℕ, _+_, _^_}
 use lib.ListN.{replicate}
 use Rattle.kinds.specs.Outcome.{outcome}
 use Rattle.kinds.specs.Heard.{nowhere, at, refused, more, done, parts}
-use Rattle.cases.specs.Calls.{Given, Row, held, opening, step, faithfulSum, sumInParts}
+use Rattle.cases.specs.Calls.{Given, Case, beforehand, opening, step, faithfulSum, sumInParts}
 
 -- a state with t = tau = +0; one with a given t
 abbrev opened : ℕ → ℕ → ℕ → Given
@@ -15,7 +15,7 @@ opened n pending rounds = record { sigma = 0x4070000000000000; t = 0; tau = 0; n
 abbrev carrying : ℕ → Given
 carrying t = record { sigma = 0x4070000000000000; t = t; tau = 0; n = 1; pending = 1; rounds = 0 }
 
-unfoldable pub bounds : List Row
+unfoldable pub bounds : List Case
 bounds =
     -- "rounds closed 0 to 50": the 51st round may close and go on, and its state is not sound
     record {
@@ -58,7 +58,7 @@ bounds =
       call = opening (0x7E70000000000000 ∷ 0xFE70000000000000 ∷ []);
       expected = outcome (more 0x7E90000000000000 0 0 2 1 0) (0x7E70000000000000 ∷ 0xFE70000000000000 ∷ []);
     }
-    ∷ record { call = opening (0 ∷ 0xFE70000000000001 ∷ []); expected = outcome (refused 3 (at 1)) (held ∷ held ∷ []) }
+    ∷ record { call = opening (0 ∷ 0xFE70000000000001 ∷ []); expected = outcome (refused 3 (at 1)) (beforehand ∷ beforehand ∷ []) }
     -- "or the magnitude of t' is at least 2^(2M+1) eps sigma": t' is 2^-46 at sigma = 4 and M = 2, and that is enough
     ∷ record {
       call = faithfulSum (0x3FF0000000000000 ∷ 0xBFEFFFFFFFFFFF80 ∷ []);

@@ -13,8 +13,8 @@ use Rattle.walk.specs.Walk.{Walked, opened, stepped, faithfulOf}
 use Rattle.sums.specs.Sums.{nearestOf, partsOf}
 
 -- what a work area holds before the call, at each place: 1.5, a number that is in no list and no answer of the table
-abbrev pub held : ℕ
-held = 0x3FF8000000000000
+abbrev pub beforehand : ℕ
+beforehand = 0x3FF8000000000000
 
 -- a state by the patterns of its sigma, t and tau; n, the pending set and the rounds closed
 pub record Given : Type 0 where
@@ -44,23 +44,23 @@ abbrev pub Result : Type 0
 Result = Outcome Heard ℕ
 
 abbrev walkResult : Walked → Result
-walkResult w = outcome (stepHeard (w .answer)) (map (toBits binary64) (w .area))
+walkResult w = outcome (stepHeard doubles (w .answer)) (map (toBits binary64) (w .area))
 
 unfoldable pub resultOf : Call → Result
-resultOf (faithfulSum ps) = walkResult (faithfulOf doubles ps (replicate (length ps) (ofBits binary64 held)))
-resultOf (opening ps) = walkResult (opened doubles ps (replicate (length ps) (ofBits binary64 held)))
+resultOf (faithfulSum ps) = walkResult (faithfulOf doubles ps (replicate (length ps) (ofBits binary64 beforehand)))
+resultOf (opening ps) = walkResult (opened doubles ps (replicate (length ps) (ofBits binary64 beforehand)))
 resultOf (step s ps b) =
     let given = stateOf (s .n) (ofBits binary64 (s .sigma)) (ofBits binary64 (s .t)) (ofBits binary64 (s .tau)) (s .pending) (s .rounds) in
     walkResult (stepped doubles given b (map (ofBits binary64) ps))
-resultOf (nearestSum ps) = outcome (nearestHeard (nearestOf ps)) []
+resultOf (nearestSum ps) = outcome (nearestHeard doubles (nearestOf doubles ps)) []
 resultOf (sumInParts ps k) =
-    let s = partsOf ps (replicate k (ofBits binary64 0)) in
+    let s = partsOf doubles ps (replicate k (ofBits binary64 0)) in
     outcome (partedHeard (s .answer)) (map (toBits binary64) (s .area))
 resultOf (add ws p) = outcome (entryHeard (added ws p .answer)) (added ws p .area)
 resultOf (withdraw ws p) = outcome (entryHeard (withdrawn ws p .answer)) (withdrawn ws p .area)
-resultOf (round ws) = outcome (nearestHeard (rounded ws)) []
+resultOf (round ws) = outcome (nearestHeard doubles (rounded ws)) []
 
 -- one row of the table
-pub record Row : Type 0 where
+pub record Case : Type 0 where
   pub call : Call
   pub expected : Result

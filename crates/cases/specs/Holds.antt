@@ -21,7 +21,7 @@ use Rattle.walk.specs.Walk as W
 use Rattle.sums.specs.Sums as S
 use Rattle.kinds.specs.Outcome.{outcome}
 use Rattle.kinds.specs.Heard.{nowhere, at, Heard, refused, more, done, nearest, parts, accepted, count}
-use Rattle.cases.specs.Calls.{Result, Row, resultOf}
+use Rattle.cases.specs.Calls.{Result, Case, resultOf}
 use Rattle.cases.specs.Table.{table}
 use Rattle.cases.specs.Bounds.{bounds}
 
@@ -69,11 +69,11 @@ same [] (y ∷ ys) = false
 same (x ∷ xs) [] = false
 same (x ∷ xs) (y ∷ ys) = eqb x y && same xs ys
 
-passes : Row → Bool
+passes : Case → Bool
 unfolding same code resultOf
 passes r = same (code (resultOf (r .call) .answer)) (code (r .expected .answer)) && same (resultOf (r .call) .area) (r .expected .area)
 
-every : List Row → Bool
+every : List Case → Bool
 unfolding passes
 every [] = true
 every (r ∷ rs) = passes r && every rs
@@ -86,7 +86,7 @@ same-lists [] (y ∷ ys) t = absurd t
 same-lists (x ∷ xs) [] t = absurd t
 same-lists (x ∷ xs) (y ∷ ys) t = λ i. eqb→eq x y (and-l (eqb x y) (same xs ys) t) i ∷ same-lists xs ys (and-r (eqb x y) (same xs ys) t) i
 
-row-holds : (r : Row) → T (passes r) → resultOf (r .call) ≡ r .expected
+row-holds : (r : Case) → T (passes r) → resultOf (r .call) ≡ r .expected
 unfolding passes
 row-holds r t = λ i. outcome (heard i) (area i)
   where
@@ -105,7 +105,7 @@ row-holds r t = λ i. outcome (heard i) (area i)
     area : a .area ≡ b .area
     area = same-lists (a .area) (b .area) (and-r (same (code (a .answer)) (code (b .answer))) (same (a .area) (b .area)) t)
 
-rows-hold : (rs : List Row) → T (every rs) → (k : ℕ) (d : Row) → k < length rs → resultOf (getD rs k d .call) ≡ getD rs k d .expected
+rows-hold : (rs : List Case) → T (every rs) → (k : ℕ) (d : Case) → k < length rs → resultOf (getD rs k d .call) ≡ getD rs k d .expected
 unfolding every
 rows-hold [] t k d h = absurd (omega arith)
 rows-hold (r ∷ rs) t zero d h = row-holds r (and-l (passes r) (every rs) t)
@@ -127,8 +127,8 @@ unfolding
     ofBits toBits add sub mul le eq
 computed-bounds = refl
 
-pub table-holds : (k : ℕ) (d : Row) → k < length table → resultOf (getD table k d .call) ≡ getD table k d .expected
+pub table-holds : (k : ℕ) (d : Case) → k < length table → resultOf (getD table k d .call) ≡ getD table k d .expected
 table-holds k d h = rows-hold table (rw computed tt) k d h
 
-pub bounds-hold : (k : ℕ) (d : Row) → k < length bounds → resultOf (getD bounds k d .call) ≡ getD bounds k d .expected
+pub bounds-hold : (k : ℕ) (d : Case) → k < length bounds → resultOf (getD bounds k d .call) ≡ getD bounds k d .expected
 bounds-hold k d h = rows-hold bounds (rw computed-bounds tt) k d h

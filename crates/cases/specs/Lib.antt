@@ -3,4 +3,4 @@ pub mod Calls
 pub mod Table
 pub mod Bounds
 pub mod Holds
-pub mod Printed
+pub mod Example

@@ -6,12 +6,10 @@ use Prim.Native.Nat.{ℕ, _-_, _^_}
 use lib.ListN.{replicate}
 use Rattle.kinds.specs.Outcome.{outcome}
 use Rattle.kinds.specs.Heard.{nowhere, at, refused, done, nearest, parts, accepted}
-use Rattle.cases.specs.Calls.{Row, held, faithfulSum, nearestSum, sumInParts, add, withdraw, round}
+use Rattle.register.specs.Entries.{zeros}
+use Rattle.cases.specs.Calls.{Case, beforehand, faithfulSum, nearestSum, sumInParts, add, withdraw, round}
 
--- the register of zeros; the one after 1 was withdrawn from it: "words 0 to 15 zero, word 16 = 2^64 - 2^50, the rest all ones"
-abbrev zeros : List ℕ
-zeros = replicate 33 0
-
+-- the register of zeros after 1 was withdrawn from it: "words 0 to 15 zero, word 16 = 2^64 - 2^50, the rest all ones"
 abbrev lessOne : List ℕ
 lessOne = replicate 16 0 ++ ((2 ^ 64 - 2 ^ 50) ∷ replicate 16 (2 ^ 64 - 1))
 
@@ -26,7 +24,7 @@ tooLarge = replicate 31 0 ++ ((2 ^ 64 - 2 ^ 60) ∷ (2 ^ 50 - 1) ∷ [])
 abbrev justNot : List ℕ
 justNot = replicate 31 (2 ^ 64 - 1) ++ ((2 ^ 64 - 2 ^ 60 - 1) ∷ (2 ^ 50 - 1) ∷ [])
 
-unfoldable pub table : List Row
+unfoldable pub table : List Case
 table =
     -- 1
     record { call = faithfulSum []; expected = outcome (done 0 0) [] }
@@ -63,7 +61,7 @@ table =
     -- 8
     ∷ record { call = faithfulSum (1 ∷ 1 ∷ []); expected = outcome (done 2 1) (0 ∷ 0 ∷ []) }
     -- 9, "refusal 3, place 0"
-    ∷ record { call = faithfulSum (0x7E70000000000001 ∷ []); expected = outcome (refused 3 (at 0)) (held ∷ []) }
+    ∷ record { call = faithfulSum (0x7E70000000000001 ∷ []); expected = outcome (refused 3 (at 0)) (beforehand ∷ []) }
     ∷ record { call = nearestSum (0x7E70000000000001 ∷ []); expected = outcome (refused 3 (at 0)) [] }
     -- 10
     ∷ record { call = withdraw zeros 0x3FF0000000000000; expected = outcome accepted lessOne }

@@ -18,12 +18,12 @@ use Rattle.walk.specs.Walk.{opened, stepped, faithfulOf}
 
 -- ---- sums
 
-pub nearest-determined : (ps : List ℕ) {r q : Nearest} → r ≡ nearestOf ps → q ≡ nearestOf ps → r ≡ q
+pub nearest-determined : (ps : List ℕ) {r q : Nearest} → r ≡ nearestOf doubles ps → q ≡ nearestOf doubles ps → r ≡ q
 nearest-determined ps = same
 
 pub parts-determined : (ps : List ℕ) (area : List Float) {r q : Parted} {xs ys : List Float}
-    → outcome r xs ≡ partsOf ps area → outcome q ys ≡ partsOf ps area → (r ≡ q) × (xs ≡ ys)
-parts-determined ps area = determined (partsOf ps area)
+    → outcome r xs ≡ partsOf doubles ps area → outcome q ys ≡ partsOf doubles ps area → (r ≡ q) × (xs ≡ ys)
+parts-determined ps area = determined (partsOf doubles ps area)
 
 -- ---- register
 

@@ -30,32 +30,32 @@ use Rattle.demands.specs.Tables.{StepWhen, WalkWhen, RoundWhen}
 use Rattle.demands.specs.Refusals.{nearest-refused, parts-refused, round-refused, open-refused, faithful-refused, step-refused}
 
 module _ (ps : List ℕ) where
-  pub nearest-heard : (k : ℕ) (p : Place) → (nearestHeard (nearestOf ps) ≡ refused k p)
+  pub nearest-heard : (k : ℕ) (p : Place) → (nearestHeard doubles (nearestOf doubles ps) ≡ refused k p)
       ↔ Row (λ k i. ListWhen doubles true true ps (verdicts.Refused k i)) k p
-  nearest-heard = hears nearestHeard nearests.Refused (λ k i. refl) (nearestOf ps) (nearest-is (nearestOf ps))
+  nearest-heard = hears (nearestHeard doubles) nearests.Refused (λ k i. refl) (nearestOf doubles ps) (nearest-is doubles (nearestOf doubles ps))
       (λ k i. ListWhen doubles true true ps (verdicts.Refused k i)) (nearest-refused ps) (λ k i h. list-refusal h .as-told)
 
-  pub parts-heard : (area : List Float) (k : ℕ) (p : Place) → (partedHeard (partsOf ps area .answer) ≡ refused k p)
-      ↔ Row (λ k i. ListWhen doubles true (fitting area) ps (verdicts.Refused k i)) k p
-  parts-heard area = hears partedHeard parteds.Refused (λ k i. refl) (partsOf ps area .answer) (parted-is (partsOf ps area .answer))
-      (λ k i. ListWhen doubles true (fitting area) ps (verdicts.Refused k i)) (parts-refused ps area) (λ k i h. list-refusal h .as-told)
+  pub parts-heard : (area : List Float) (k : ℕ) (p : Place) → (partedHeard (partsOf doubles ps area .answer) ≡ refused k p)
+      ↔ Row (λ k i. ListWhen doubles true (fitting doubles area) ps (verdicts.Refused k i)) k p
+  parts-heard area = hears partedHeard parteds.Refused (λ k i. refl) (partsOf doubles ps area .answer) (parted-is (partsOf doubles ps area .answer))
+      (λ k i. ListWhen doubles true (fitting doubles area) ps (verdicts.Refused k i)) (parts-refused ps area) (λ k i h. list-refusal h .as-told)
 
   module _ (work : List Float) where
-    pub open-heard : (k : ℕ) (p : Place) → (stepHeard (opened doubles ps work .answer) ≡ refused k p)
+    pub open-heard : (k : ℕ) (p : Place) → (stepHeard doubles (opened doubles ps work .answer) ≡ refused k p)
         ↔ Row (λ k i. WalkWhen doubles ps work (verdicts.Refused k i)) k p
-    open-heard = hears stepHeard steps.Refused (λ k i. refl) (opened doubles ps work .answer) (step-is (opened doubles ps work .answer))
+    open-heard = hears (stepHeard doubles) steps.Refused (λ k i. refl) (opened doubles ps work .answer) (step-is doubles (opened doubles ps work .answer))
         (λ k i. WalkWhen doubles ps work (verdicts.Refused k i)) (open-refused ps work) (λ k i h. list-refusal h .as-told)
 
-    pub faithful-heard : (k : ℕ) (p : Place) → (stepHeard (faithfulOf doubles ps work .answer) ≡ refused k p)
+    pub faithful-heard : (k : ℕ) (p : Place) → (stepHeard doubles (faithfulOf doubles ps work .answer) ≡ refused k p)
         ↔ Row (λ k i. WalkWhen doubles ps work (verdicts.Refused k i)) k p
-    faithful-heard = hears stepHeard steps.Refused (λ k i. refl) (faithfulOf doubles ps work .answer) (step-is (faithfulOf doubles ps work .answer))
+    faithful-heard = hears (stepHeard doubles) steps.Refused (λ k i. refl) _ (step-is doubles (faithfulOf doubles ps work .answer))
         (λ k i. WalkWhen doubles ps work (verdicts.Refused k i)) (faithful-refused ps work) (λ k i h. list-refusal h .as-told)
 
 -- ---- the other tables give every number with place 0, or 2 and 3 at place 0
 
-pub step-heard : (s : State) (b : ℕ) (work : List Float) (k : ℕ) (p : Place) → (stepHeard (stepped doubles s b work .answer) ≡ refused k p)
+pub step-heard : (s : State) (b : ℕ) (work : List Float) (k : ℕ) (p : Place) → (stepHeard doubles (stepped doubles s b work .answer) ≡ refused k p)
     ↔ Row (λ k i. StepWhen doubles s b work (verdicts.Refused k i)) k p
-step-heard s b work = hears stepHeard steps.Refused (λ k i. refl) (stepped doubles s b work .answer) (step-is (stepped doubles s b work .answer))
+step-heard s b work = hears (stepHeard doubles) steps.Refused (λ k i. refl) _ (step-is doubles (stepped doubles s b work .answer))
     (λ k i. StepWhen doubles s b work (verdicts.Refused k i)) (step-refused s b work) (λ k i h. placed k i (inl (zeros h)))
   where
     zeros : {k i : ℕ} → StepWhen doubles s b work (verdicts.Refused k i) → i ≡ 0
@@ -64,8 +64,8 @@ step-heard s b work = hears stepHeard steps.Refused (λ k i. refl) (stepped doub
     zeros (tables.no-block l S h) = refl
     zeros (tables.taken-before l S h p) = refl
 
-pub round-heard : (ws : List ℕ) (k : ℕ) (p : Place) → (nearestHeard (rounded ws) ≡ refused k p) ↔ Row (λ k i. RoundWhen ws (nearests.Refused k i)) k p
-round-heard ws = hears nearestHeard nearests.Refused (λ k i. refl) (rounded ws) (nearest-is (rounded ws))
+pub round-heard : (ws : List ℕ) (k : ℕ) (p : Place) → (nearestHeard doubles (rounded ws) ≡ refused k p) ↔ Row (λ k i. RoundWhen ws (nearests.Refused k i)) k p
+round-heard ws = hears (nearestHeard doubles) nearests.Refused (λ k i. refl) (rounded ws) (nearest-is doubles (rounded ws))
     (λ k i. RoundWhen ws (nearests.Refused k i)) (round-refused ws) (λ k i h. placed k i (inl (zeros h)))
   where
     zeros : {k i : ℕ} → RoundWhen ws (nearests.Refused k i) → i ≡ 0
@@ -85,9 +85,9 @@ entry-heard ws p z = hears entryHeard entries.Refused (λ k i. refl) (enter ws p
 
 module _ (ws : List ℕ) (p : ℕ) where
   pub add-heard : (k : ℕ) (q : Place) → (entryHeard (added ws p .answer) ≡ refused k q)
-      ↔ Row (λ k i. EntryWhen ws p (wholeOf ws +ℤ unitsOf p) (entries.Refused k i)) k q
-  add-heard = entry-heard ws p (wholeOf ws +ℤ unitsOf p)
+      ↔ Row (λ k i. EntryWhen ws p (wholeOf ws +ℤ unitsOf doubles p) (entries.Refused k i)) k q
+  add-heard = entry-heard ws p (wholeOf ws +ℤ unitsOf doubles p)
 
   pub withdraw-heard : (k : ℕ) (q : Place) → (entryHeard (withdrawn ws p .answer) ≡ refused k q)
-      ↔ Row (λ k i. EntryWhen ws p (wholeOf ws -ℤ unitsOf p) (entries.Refused k i)) k q
-  withdraw-heard = entry-heard ws p (wholeOf ws -ℤ unitsOf p)
+      ↔ Row (λ k i. EntryWhen ws p (wholeOf ws -ℤ unitsOf doubles p) (entries.Refused k i)) k q
+  withdraw-heard = entry-heard ws p (wholeOf ws -ℤ unitsOf doubles p)

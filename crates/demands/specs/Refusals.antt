@@ -35,40 +35,40 @@ use Rattle.demands.specs.WalkRefusals as walks
 
 -- ---- sums::nearest is lent no area
 
-pub nearest-refused : (ps : List ℕ) (k i : ℕ) → (nearestOf ps ≡ nearests.Refused k i) ↔ ListWhen doubles true true ps (verdicts.Refused k i)
-nearest-refused = nearest-refusals
+pub nearest-refused : (ps : List ℕ) (k i : ℕ) → (nearestOf doubles ps ≡ nearests.Refused k i) ↔ ListWhen doubles true true ps (verdicts.Refused k i)
+nearest-refused = nearest-refusals doubles
 
 -- ---- sums::parts
 
 module _ (ps : List ℕ) (area : List Float) (k i : ℕ) where
-  whole : (v : Verdict) → partsAfter v ps area .answer ≡ parteds.Refused k i → partsAfter v ps area ≡ outcome (parteds.Refused k i) area
+  whole : (v : Verdict) → partsAfter doubles v ps area .answer ≡ parteds.Refused k i → partsAfter doubles v ps area ≡ outcome (parteds.Refused k i) area
   unfolding partsAfter
   whole verdicts.Good e = apart (cc)
   whole (verdicts.Refused l j) e = rw e
 
-  pub parts-refused : (partsOf ps area .answer ≡ parteds.Refused k i) ↔ ListWhen doubles true (fitting area) ps (verdicts.Refused k i)
+  pub parts-refused : (partsOf doubles ps area .answer ≡ parteds.Refused k i) ↔ ListWhen doubles true (fitting doubles area) ps (verdicts.Refused k i)
   parts-refused = (
-    λ e. parts-refusals ps area k i .0 (whole (judged doubles true (fitting area) ps) e),
-    λ G. ap (λ (w : Outcome Parted Float). w .answer) (parts-refusals ps area k i .1 G),
+    λ e. parts-refusals doubles ps area k i .0 (whole (judged doubles true (fitting doubles area) ps) e),
+    λ G. ap (λ (w : Outcome Parted Float). w .answer) (parts-refusals doubles ps area k i .1 G),
   )
 
-  pub parts-leaves : partsOf ps area .answer ≡ parteds.Refused k i → partsOf ps area .area ≡ area
-  parts-leaves e = ap (λ (w : Outcome Parted Float). w .area) (whole (judged doubles true (fitting area) ps) e)
+  pub parts-leaves : partsOf doubles ps area .answer ≡ parteds.Refused k i → partsOf doubles ps area .area ≡ area
+  parts-leaves e = ap (λ (w : Outcome Parted Float). w .area) (whole (judged doubles true (fitting doubles area) ps) e)
 
 -- ---- register::add, register::withdraw
 
 module _ (ws : List ℕ) (p k i : ℕ) where
-  pub add-refused : (added ws p .answer ≡ entries.Refused k i) ↔ EntryWhen ws p (wholeOf ws +ℤ unitsOf p) (entries.Refused k i)
-  add-refused = entry-when ws p (wholeOf ws +ℤ unitsOf p) (entries.Refused k i)
+  pub add-refused : (added ws p .answer ≡ entries.Refused k i) ↔ EntryWhen ws p (wholeOf ws +ℤ unitsOf doubles p) (entries.Refused k i)
+  add-refused = entry-when ws p (wholeOf ws +ℤ unitsOf doubles p) (entries.Refused k i)
 
   pub add-leaves : added ws p .answer ≡ entries.Refused k i → added ws p .area ≡ ws
-  add-leaves = entry-leaves ws p (wholeOf ws +ℤ unitsOf p)
+  add-leaves = entry-leaves ws p (wholeOf ws +ℤ unitsOf doubles p)
 
-  pub withdraw-refused : (withdrawn ws p .answer ≡ entries.Refused k i) ↔ EntryWhen ws p (wholeOf ws -ℤ unitsOf p) (entries.Refused k i)
-  withdraw-refused = entry-when ws p (wholeOf ws -ℤ unitsOf p) (entries.Refused k i)
+  pub withdraw-refused : (withdrawn ws p .answer ≡ entries.Refused k i) ↔ EntryWhen ws p (wholeOf ws -ℤ unitsOf doubles p) (entries.Refused k i)
+  withdraw-refused = entry-when ws p (wholeOf ws -ℤ unitsOf doubles p) (entries.Refused k i)
 
   pub withdraw-leaves : withdrawn ws p .answer ≡ entries.Refused k i → withdrawn ws p .area ≡ ws
-  withdraw-leaves = entry-leaves ws p (wholeOf ws -ℤ unitsOf p)
+  withdraw-leaves = entry-leaves ws p (wholeOf ws -ℤ unitsOf doubles p)
 
 -- ---- register::round writes to no area
 

@@ -12,7 +12,7 @@ use lib.Dec.{eqb}
 use lib.ListN.{length, getD, length-replicate}
 use Rattle.kinds.specs.Limits.{doubles}
 use Rattle.kinds.specs.Outcome.{outcome}
-use Rattle.kinds.specs.Heard.{Refusal, Heard, refused, tells, placeOf, pattern, stepHeard, nearestHeard}
+use Rattle.kinds.specs.Heard.{Refusal, Heard, refused, tells, placeOf, stepHeard, nearestHeard}
 use Rattle.kinds.specs.declared.Verdict.{Verdict}
 use Rattle.kinds.specs.declared.Verdict.the-variants as verdicts
 use Rattle.judge.specs.Judge.{judged}
@@ -22,23 +22,24 @@ use Rattle.judge.specs.FaultLaws.{fault-number}
 use Rattle.octets.specs.Octets.{little}
 use Rattle.octets.specs.EightsLaws.{eights-length}
 use Rattle.sums.specs.Promised.{nearest-promised}
+use Rattle.sums.specs.AnswerNumbers.{nearest-refusal}
 use Rattle.runs.specs.Instances.{faithful-64}
+use Rattle.runs.specs.AnswerNumbers.{faithful-refusal}
 use Rattle.demands.specs.Refusals.{nearest-refused, faithful-refused}
 use Rattle.calls.specs.Calls.{Called, placeCode, answered, lengthFault, patternsIn, sumCall, own, faithfulHeard, sumHeard, faithfulCall, nearestCall}
 use Rattle.calls.specs.Calls.{listBytes, sumBytes}
 use Rattle.calls.specs.CallsLaws.{fault-0, fitting, sixteen, sum-refused, sum-summed, answered-refused, answered-done, answered-nearest, code-told}
-use Rattle.calls.specs.RefusalLaws.{faithful-refusal, nearest-refusal}
-use Rattle.exports.specs.SumBytes.{FaithfulBytes, NearestBytes, Accepted}
+use Rattle.exports.specs.SumBytes.{FaithfulBytes, NearestBytes, RightBytes}
 
 -- the work area has the right length
 fits : (ps : List ℕ) → eqb (length (own (length ps))) (length ps) ≡ true
 fits ps = eq-eqb (length (own (length ps))) (length ps) (length-replicate (length ps) _)
 
 faithful-hears : (ps : List ℕ) (k i : ℕ) → ListWhen doubles true true ps (verdicts.Refused k i) → faithfulHeard ps ≡ refused k (placeOf k i)
-faithful-hears ps k i G = ap stepHeard (faithful-refused ps (own (length ps)) k i .1 (rw (fits ps) G))
+faithful-hears ps k i G = ap (stepHeard doubles) (faithful-refused ps (own (length ps)) k i .1 (rw (fits ps) G))
 
 nearest-hears : (ps : List ℕ) (k i : ℕ) → ListWhen doubles true true ps (verdicts.Refused k i) → sumHeard ps ≡ refused k (placeOf k i)
-nearest-hears ps k i G = ap nearestHeard (nearest-refused ps k i .1 G)
+nearest-hears ps k i G = ap (nearestHeard doubles) (nearest-refused ps k i .1 G)
 
 -- ---- of bytes that are a list
 module _ (list out : List ℕ) (l : length list ≤ listBytes) (m : length list % 8 ≡ 0) (o : length out ≡ sumBytes) where
@@ -57,7 +58,7 @@ module _ (list out : List ℕ) (l : length list ≤ listBytes) (m : length list 
       record {
         sum = F .sum;
         rounds = F .rounds;
-        is = is-summed faithfulHeard ∙ ap (λ h. answered h out []) (ap stepHeard (F .answer)) ∙ answered-done out [] (pattern (F .sum)) (F .rounds);
+        is = is-summed faithfulHeard ∙ ap (λ h. answered h out []) (ap (stepHeard doubles) (F .answer)) ∙ answered-done out [] _ (F .rounds);
         faithful = F .faithful;
         most = F .most;
       }
@@ -97,7 +98,7 @@ module _ (list out : List ℕ) (l : length list ≤ listBytes) (m : length list 
 
     pub nearest-code : nearestCall list out ≡ outcome (k + 32 * (i + 1)) out
     nearest-code =
-        is-summed sumHeard ∙ ap (λ h. answered h out []) (nearest-hears ps k i given) ∙ code (nearest-refusal ps k i (nearest-refused ps k i .1 given))
+        is-summed sumHeard ∙ ap (λ h. answered h out []) (nearest-hears ps k i given) ∙ code (nearest-refusal doubles ps k i (nearest-refused ps k i .1 given))
 
 -- ---- exactly when 0 is returned
 
@@ -110,8 +111,8 @@ some-number ps k i (bad-number P l j F) z = F .bad z
 
 module _ (heardOf : List ℕ → Heard)
     (hears : (ps : List ℕ) (k i : ℕ) → ListWhen doubles true true ps (verdicts.Refused k i) → heardOf ps ≡ refused k (placeOf k i)) (list out : List ℕ) where
-  accepted : lengthFault (length list) (length out) ≡ 0 → sumCall heardOf list out .answer ≡ 0 → Accepted list out
-  accepted f e =
+  right-bytes : lengthFault (length list) (length out) ≡ 0 → sumCall heardOf list out .answer ≡ 0 → RightBytes list out
+  right-bytes f e =
       let F = fitting (length list) (length out) f in
       record {
         bytes = omega (arith, F .whole, F .few);
@@ -129,20 +130,20 @@ module _ (heardOf : List ℕ → Heard)
           let z : k + placeCode (placeOf k i) ≡ 0 = ap (λ (x : Called). x .answer) (sym c) ∙ e in
           absurd (some-number (patternsIn list) k i G (omega (arith, z)))
 
-  accepted-when : sumCall heardOf list out .answer ≡ 0 → Accepted list out
-  accepted-when e = elim (ℕ-discrete (lengthFault (length list) (length out)) 0) [
-    | yes f ↦ accepted f e
+  right-when : sumCall heardOf list out .answer ≡ 0 → RightBytes list out
+  right-when e = elim (ℕ-discrete (lengthFault (length list) (length out)) 0) [
+    | yes f ↦ right-bytes f e
     | no h ↦ absurd (h (ap (λ (x : Called). x .answer) (sym (sum-refused heardOf list out h)) ∙ e))
   ]
 
-pub faithful-when : (list out : List ℕ) → (faithfulCall list out .answer ≡ 0) ↔ Accepted list out
+pub faithful-when : (list out : List ℕ) → (faithfulCall list out .answer ≡ 0) ↔ RightBytes list out
 faithful-when list out = (
-  accepted-when faithfulHeard faithful-hears list out,
+  right-when faithfulHeard faithful-hears list out,
   λ A. ap (λ (x : Called). x .answer) (faithful-call list out (A .bytes) (A .whole) (A .sixteen) (A .allowed) .is),
 )
 
-pub nearest-when : (list out : List ℕ) → (nearestCall list out .answer ≡ 0) ↔ Accepted list out
+pub nearest-when : (list out : List ℕ) → (nearestCall list out .answer ≡ 0) ↔ RightBytes list out
 nearest-when list out = (
-  accepted-when sumHeard nearest-hears list out,
+  right-when sumHeard nearest-hears list out,
   λ A. ap (λ (x : Called). x .answer) (nearest-call list out (A .bytes) (A .whole) (A .sixteen) (A .allowed) .is),
 )

@@ -10,6 +10,7 @@ use lib.ListN.{length, take, drop, length-drop}
 use lib.Seq.{length-take-le}
 use Rattle.lists.specs.Digits.{Digits}
 use Rattle.lists.specs.DigitLaws.{digits-more, digits-take, digits-drop, number-lt}
+use Rattle.kinds.specs.Limits.{doubles}
 use Rattle.kinds.specs.Outcome.{outcome}
 use Rattle.kinds.specs.Heard.{entryHeard}
 use Rattle.kinds.specs.declared.Entry.{Entry}
@@ -94,18 +95,18 @@ module _ (register : List ℕ) (B : Digits 8 register) (l : length register ≡ 
 
 module _ (register : List ℕ) (B : Digits 8 register) (l : length register ≡ registerBytes) (p : ℕ) where
   pub add-call-undone : addCall register p .answer ≡ 0 → withdrawCall (addCall register p .area) p ≡ outcome 0 register
-  add-call-undone = back register B l p (λ ws. wholeOf ws +ℤ unitsOf p) (λ ws. withdrawn ws p) (λ ws W. withdraw-undoes W p)
+  add-call-undone = back register B l p (λ ws. wholeOf ws +ℤ unitsOf doubles p) (λ ws. withdrawn ws p) (λ ws W. withdraw-undoes W p)
 
   pub withdraw-call-undone : withdrawCall register p .answer ≡ 0 → addCall (withdrawCall register p .area) p ≡ outcome 0 register
-  withdraw-call-undone = back register B l p (λ ws. wholeOf ws -ℤ unitsOf p) (λ ws. added ws p) (λ ws W. add-undoes W p)
+  withdraw-call-undone = back register B l p (λ ws. wholeOf ws -ℤ unitsOf doubles p) (λ ws. added ws p) (λ ws W. add-undoes W p)
 
   -- "addition and withdrawal of one allowed number change the whole number by exactly its units"
-  pub add-call-whole : addCall register p .answer ≡ 0 → wholeOf (wordsIn (addCall register p .area)) ≡ wholeOf (wordsIn register) +ℤ unitsOf p
-  add-call-whole = whole register B l p (λ ws. wholeOf ws +ℤ unitsOf p) (λ ws. withdrawn ws p) (λ ws W. withdraw-undoes W p)
+  pub add-call-whole : addCall register p .answer ≡ 0 → wholeOf (wordsIn (addCall register p .area)) ≡ wholeOf (wordsIn register) +ℤ unitsOf doubles p
+  add-call-whole = whole register B l p (λ ws. wholeOf ws +ℤ unitsOf doubles p) (λ ws. withdrawn ws p) (λ ws W. withdraw-undoes W p)
 
   pub withdraw-call-whole : withdrawCall register p .answer ≡ 0
-      → wholeOf (wordsIn (withdrawCall register p .area)) ≡ wholeOf (wordsIn register) -ℤ unitsOf p
-  withdraw-call-whole = whole register B l p (λ ws. wholeOf ws -ℤ unitsOf p) (λ ws. added ws p) (λ ws W. add-undoes W p)
+      → wholeOf (wordsIn (withdrawCall register p .area)) ≡ wholeOf (wordsIn register) -ℤ unitsOf doubles p
+  withdraw-call-whole = whole register B l p (λ ws. wholeOf ws -ℤ unitsOf doubles p) (λ ws. added ws p) (λ ws W. add-undoes W p)
 
 -- ---- what each row of the table returns: 4 for another length than registerBytes bytes, and by the words' rows for registerBytes
 module _ (register : List ℕ) (p : ℕ) where
@@ -123,13 +124,13 @@ module _ (register : List ℕ) (p : ℕ) where
       same entries.Entered words = refl
       same (entries.Refused k i) words = refl
 
-  pub add-call-when : length register ≡ registerBytes → (a : Entry) → EntryWhen (wordsIn register) p (wholeOf (wordsIn register) +ℤ unitsOf p) a
+  pub add-call-when : length register ≡ registerBytes → (a : Entry) → EntryWhen (wordsIn register) p (wholeOf (wordsIn register) +ℤ unitsOf doubles p) a
       → addCall register p .answer ≡ answered (entryHeard a) register [] .answer
-  add-call-when = rows (λ ws. wholeOf ws +ℤ unitsOf p)
+  add-call-when = rows (λ ws. wholeOf ws +ℤ unitsOf doubles p)
 
-  pub withdraw-call-when : length register ≡ registerBytes → (a : Entry) → EntryWhen (wordsIn register) p (wholeOf (wordsIn register) -ℤ unitsOf p) a
+  pub withdraw-call-when : length register ≡ registerBytes → (a : Entry) → EntryWhen (wordsIn register) p (wholeOf (wordsIn register) -ℤ unitsOf doubles p) a
       → withdrawCall register p .answer ≡ answered (entryHeard a) register [] .answer
-  withdraw-call-when = rows (λ ws. wholeOf ws -ℤ unitsOf p)
+  withdraw-call-when = rows (λ ws. wholeOf ws -ℤ unitsOf doubles p)
 
   pub add-call-length : (length register ≡ registerBytes → ⊥) → addCall register p ≡ outcome 4 register
   add-call-length = register-refused (λ ws. added ws p) register

@@ -2,12 +2,11 @@
 use mathlib.Core.Path.{_≡_}
 use mathlib.Core.List.{List, [], _∷_}
 use Prim.Native.Nat.{ℕ, suc, _%_, _≤_}
-use lib.Ieee.{Float}
+use lib.Ieee.{Float, toBits}
 use lib.ListN.{length}
 use Rattle.ieee.specs.Accuracy.{FaithfulTo, NearestTo}
 use Rattle.kinds.specs.Limits.{doubles}
 use Rattle.kinds.specs.Outcome.{outcome}
-use Rattle.kinds.specs.Heard.{pattern}
 use Rattle.judge.specs.Table.{Allowed}
 use Rattle.octets.specs.Octets.{packed}
 use Rattle.sums.specs.Sums.{sumOf}
@@ -17,18 +16,18 @@ use Rattle.calls.specs.Calls.{Called, patternsIn, listBytes, sumBytes}
 pub record FaithfulBytes (list : List ℕ) (c : Called) : Type 0 where
   pub sum : Float
   pub rounds : ℕ
-  pub is : c ≡ outcome 0 (packed (pattern sum ∷ rounds ∷ []))
+  pub is : c ≡ outcome 0 (packed (toBits (doubles .format) sum ∷ rounds ∷ []))
   pub faithful : FaithfulTo (doubles .format) (sumOf (doubles .format) (patternsIn list)) sum
   pub most : rounds ≤ suc (doubles .rounds)
 
 -- and of the nearest sum, "(0 for nearest)"
 pub record NearestBytes (list : List ℕ) (c : Called) : Type 0 where
   pub sum : Float
-  pub is : c ≡ outcome 0 (packed (pattern sum ∷ 0 ∷ []))
+  pub is : c ≡ outcome 0 (packed (toBits (doubles .format) sum ∷ 0 ∷ []))
   pub nearest : NearestTo (doubles .format) (sumOf (doubles .format) (patternsIn list)) sum
 
 -- what is accepted: no length is refused, and every number is allowed
-pub record Accepted (list out : List ℕ) : Type 0 where
+pub record RightBytes (list out : List ℕ) : Type 0 where
   pub bytes : length list ≤ listBytes
   pub whole : length list % 8 ≡ 0
   pub sixteen : length out ≡ sumBytes

@@ -13,14 +13,14 @@ use Rattle.units.specs.Rounding.{fl}
 use Rattle.units.specs.Walk.{high}
 use Rattle.units.specs.SignedRounding.{rep-pow, fl-same, fl-within}
 use Rattle.units.specs.Integers.{int-is, int-plus, int-minus, int-mag}
-use Rattle.ieee.specs.Units.{Rounds, Number, negative, whole, nearestFloat, limit}
+use Rattle.ieee.specs.Units.{RoundedTo, Number, negative, whole, nearestFloat, limit}
 use Rattle.ieee.specs.Rounded.{prec-pos}
 use Rattle.ieee.specs.Sum.{value-int, add-nearest, sub-nearest}
 use Rattle.ieee.specs.Overflow.{power-below, nearest-negative, nearest-whole}
 use Rattle.ieee.specs.Nearest.{nearest-number}
 
 module _ {f : Format} {x y : Float} (X : Number f x) (Y : Number f y) (k : ℕ) (K : k ≤ low f + emax f) where
-  nearest : (s : Bool) (z : Whole) → Within z (2 ^ k) → Rounds f s z (nearestFloat f s (int z))
+  nearest : (s : Bool) (z : Whole) → Within z (2 ^ k) → RoundedTo f s z (nearestFloat f s (int z))
   nearest s z h = record {
     number = nearest-number f s (int z) small;
     units = nearest-whole f s (int z) small ∙ fl-same (prec f) (difference (int z)) z (sym (int-is z));
@@ -30,11 +30,11 @@ module _ {f : Format} {x y : Float} (X : Number f x) (Y : Number f y) (k : ℕ) 
       small : natAbs (int z) < limit f
       small = omega (arith, int-mag z, power-below f K)
 
-  pub add-rounds : Within (whole f x ⊕ whole f y) (2 ^ k) → Rounds f (negative x && negative y) (whole f x ⊕ whole f y) (add f x y)
+  pub add-rounds : Within (whole f x ⊕ whole f y) (2 ^ k) → RoundedTo f (negative x && negative y) (whole f x ⊕ whole f y) (add f x y)
   add-rounds h = rw (add-nearest f x y X Y, value-int f x, value-int f y, ← (int-plus (whole f x) (whole f y)))
       (nearest (negative x && negative y) (whole f x ⊕ whole f y) h)
 
-  pub sub-rounds : Within (whole f x ⊖ whole f y) (2 ^ k) → Rounds f (negative x && not (negative y)) (whole f x ⊖ whole f y) (sub f x y)
+  pub sub-rounds : Within (whole f x ⊖ whole f y) (2 ^ k) → RoundedTo f (negative x && not (negative y)) (whole f x ⊖ whole f y) (sub f x y)
   sub-rounds h = rw (sub-nearest f x y X Y, value-int f x, value-int f y, ← (int-minus (whole f x) (whole f y)))
       (nearest (negative x && not (negative y)) (whole f x ⊖ whole f y) h)
 
@@ -45,7 +45,7 @@ module _ {f : Format} {sigma x : Float} (S : Number f sigma) (X : Number f x) (k
   capped : (z : Whole) (j : ℕ) → Within z (2 ^ j) → Within (fl (prec f) z) (2 ^ j)
   capped z j h = fl-within (prec f) (prec-pos f) z (rep-pow (prec f) j) h
 
-  raised : Rounds f (negative sigma && negative x) (whole f sigma ⊕ whole f x) (add f sigma x)
+  raised : RoundedTo f (negative sigma && negative x) (whole f sigma ⊕ whole f x) (add f sigma x)
   raised = add-rounds S X (k + 1) (omega arith) (rw (power, pow-add 2 k 1) (omega (arith, small)))
 
   raised-units : whole f (add f sigma x) ≡ fl (prec f) (nat (2 ^ k) ⊕ whole f x)
@@ -54,7 +54,7 @@ module _ {f : Format} {sigma x : Float} (S : Number f sigma) (X : Number f x) (k
   raised-small : Within (fl (prec f) (nat (2 ^ k) ⊕ whole f x)) (2 * 2 ^ k)
   raised-small = rw (pow-add 2 k 1, mul-comm (2 ^ k) 2) at (capped (nat (2 ^ k) ⊕ whole f x) (k + 1) (rw (pow-add 2 k 1) (omega (arith, small))))
 
-  pub high-rounds : Rounds f (negative (add f sigma x) && not (negative sigma)) (fl (prec f) (nat (2 ^ k) ⊕ whole f x) ⊖ nat (2 ^ k))
+  pub high-rounds : RoundedTo f (negative (add f sigma x) && not (negative sigma)) (fl (prec f) (nat (2 ^ k) ⊕ whole f x) ⊖ nat (2 ^ k))
       (sub f (add f sigma x) sigma)
   high-rounds = rw (raised-units, power) at
       (sub-rounds (raised .number) S (k + 2) (omega arith) (rw (raised-units, power, pow-add 2 k 2) (omega (arith, raised-small))))
@@ -63,7 +63,7 @@ module _ {f : Format} {sigma x : Float} (S : Number f sigma) (X : Number f x) (k
   high-small = rw (pow-add 2 k 2, mul-comm (2 ^ k) 4) at
       (capped (fl (prec f) (nat (2 ^ k) ⊕ whole f x) ⊖ nat (2 ^ k)) (k + 2) (rw (pow-add 2 k 2) (omega (arith, raised-small))))
 
-  pub remainder-rounds : Rounds f (negative x && not (negative (sub f (add f sigma x) sigma))) (whole f x ⊖ high (prec f) k (whole f x))
+  pub remainder-rounds : RoundedTo f (negative x && not (negative (sub f (add f sigma x) sigma))) (whole f x ⊖ high (prec f) k (whole f x))
       (sub f x (sub f (add f sigma x) sigma))
   remainder-rounds = rw (high-rounds .units) at
       (sub-rounds X (high-rounds .number) (k + 3) K (rw (high-rounds .units, pow-add 2 k 3) (omega (arith, small, high-small))))

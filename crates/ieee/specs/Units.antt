@@ -67,7 +67,7 @@ abbrev pub Is : Format → Float → Bool → ℕ → Type 0
 Is f x s n = HasValue x s n (2 ^ low f)
 
 -- x is a number of the format whose units are z rounded; a zero has the sign s
-pub record Rounds (f : Format) (s : Bool) (z : Whole) (x : Float) : Type 0 where
+pub record RoundedTo (f : Format) (s : Bool) (z : Whole) (x : Float) : Type 0 where
   pub number : Number f x
   pub units : whole f x ≡ fl (prec f) z
   pub sign : negative x ≡ signOf s (int z)

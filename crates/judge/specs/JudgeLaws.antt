@@ -12,7 +12,7 @@ use lib.Ieee.Bits.{is-true, is-false}
 use Rattle.units.specs.Powers.{le-or-lt}
 use Rattle.kinds.specs.Limits.{Width}
 use Rattle.kinds.specs.Heard.{Refusal}
-use Rattle.kinds.specs.Hearing.{exactly, placed}
+use Rattle.kinds.specs.Hearing.{exactly, placed, at-place-0}
 use Rattle.kinds.specs.declared.Verdict.{Verdict}
 use Rattle.kinds.specs.declared.Verdict.the-variants.{Good, Refused}
 use Rattle.judge.specs.Judge.{firstFault, judged}
@@ -79,9 +79,9 @@ module _ {W : Width} {area parts : Bool} {ps : List ℕ} where
 
   -- a refusal's number is of the table, its place is one of a list, and is told as the table says
   pub list-refusal : {k i : ℕ} → ListWhen W area parts ps (Refused k i) → Refusal (W .length) k i
-  list-refusal (too-many h) = record { number = lit< tt; place = omega arith; as-told = refl }
-  list-refusal (wrong-area h a) = record { number = lit< tt; place = omega arith; as-told = refl }
-  list-refusal (wrong-parts h a b) = record { number = lit< tt; place = omega arith; as-told = refl }
+  list-refusal (too-many h) = at-place-0 (lit< tt)
+  list-refusal (wrong-area h a) = at-place-0 (lit< tt)
+  list-refusal (wrong-parts h a b) = at-place-0 (lit< tt)
   list-refusal (bad-number P k i F) = go (first-number W ps F)
     where
       go : (k ≡ 2) ⊎ (k ≡ 3) → Refusal (W .length) k i

@@ -3,7 +3,8 @@ use mathlib.Core.Path.{_≡_}
 use mathlib.Core.Bool.{Bool, cond, _||_}
 use Prim.Native.Nat.{ℕ, zero, suc, _≤_, _<_}
 use lib.Dec.{eqb}
-use lib.Ieee.{Float, binary64, toBits}
+use lib.Ieee.{toBits}
+use Rattle.kinds.specs.Limits.{Width}
 use Rattle.kinds.specs.declared.Verdict.{Verdict}
 use Rattle.kinds.specs.declared.Verdict.the-variants as verdicts
 use Rattle.kinds.specs.declared.Step.{Step}
@@ -55,21 +56,20 @@ pub record Refusal (places k i : ℕ) : Type 0 where
   pub place : i ≤ places
   pub as-told : placeOf k i ≡ told k i
 
-abbrev pub pattern : Float → ℕ
-pattern x = toBits binary64 x
-
 abbrev pub verdictHeard : Verdict → Heard
 verdictHeard verdicts.Good = accepted
 verdictHeard (verdicts.Refused k p) = refused k (placeOf k p)
 
-abbrev pub stepHeard : Step → Heard
-stepHeard (steps.More s) = more (pattern (s .sigma)) (pattern (s .t)) (pattern (s .tau)) (s .n) (s .pending) (s .rounds)
-stepHeard (steps.Done x r) = done (pattern x) r
-stepHeard (steps.Refused k p) = refused k (placeOf k p)
+-- a float is heard as its pattern
+abbrev pub stepHeard : Width → Step → Heard
+stepHeard W (steps.More s) =
+    more (toBits (W .format) (s .sigma)) (toBits (W .format) (s .t)) (toBits (W .format) (s .tau)) (s .n) (s .pending) (s .rounds)
+stepHeard W (steps.Done x r) = done (toBits (W .format) x) r
+stepHeard W (steps.Refused k p) = refused k (placeOf k p)
 
-abbrev pub nearestHeard : Nearest → Heard
-nearestHeard (nearests.Sum x) = nearest (pattern x)
-nearestHeard (nearests.Refused k p) = refused k (placeOf k p)
+abbrev pub nearestHeard : Width → Nearest → Heard
+nearestHeard W (nearests.Sum x) = nearest (toBits (W .format) x)
+nearestHeard W (nearests.Refused k p) = refused k (placeOf k p)
 
 abbrev pub partedHeard : Parted → Heard
 partedHeard (parteds.Parts b) = parts b

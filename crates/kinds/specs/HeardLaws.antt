@@ -3,9 +3,10 @@ use mathlib.Core.Path.{_≡_, refl, sym, ap, _∙_}
 use mathlib.Core.Bool.{Bool, true, false, cond}
 use Prim.Native.Nat.{ℕ, zero, suc}
 use lib.Dec.{T}
-use lib.Ieee.{Float, binary64, ofBits, fits}
+use lib.Ieee.{Float, Format, ofBits, toBits, fits}
 use lib.Ieee.Bits.{ofBits-toBits}
 use Rattle.lists.specs.Apart.{apart}
+use Rattle.kinds.specs.Limits.{Width}
 use Rattle.kinds.specs.declared.Step.{Step}
 use Rattle.kinds.specs.declared.Step.the-variants.{More, Done, Refused}
 use Rattle.kinds.specs.declared.Nearest.{Nearest}
@@ -18,7 +19,7 @@ use Rattle.kinds.specs.declared.Sheet.{Sheet}
 use Rattle.kinds.specs.declared.Sheet.the-variants as sheets
 use Rattle.kinds.specs.declared.Verdict.{Verdict}
 use Rattle.kinds.specs.declared.Verdict.the-variants as verdicts
-use Rattle.kinds.specs.Heard.{nowhere, at, refused, tells, placeOf, pattern, stepHeard, nearestHeard, partedHeard, entryHeard, sheetHeard, verdictHeard}
+use Rattle.kinds.specs.Heard.{nowhere, at, refused, tells, placeOf, stepHeard, nearestHeard, partedHeard, entryHeard, sheetHeard, verdictHeard}
 
 place-same : (k p q : ℕ) → placeOf k p ≡ placeOf k q → p ≡ q
 place-same k zero zero e = refl
@@ -43,8 +44,8 @@ refusal answer k l p q e =
     λ i. answer (number i) (place i)
 
 -- a float is its pattern
-pattern-same : {x y : Float} → T (fits binary64 x) → T (fits binary64 y) → pattern x ≡ pattern y → x ≡ y
-pattern-same {x} {y} X Y e = sym (ofBits-toBits binary64 x X) ∙ ap (ofBits binary64) e ∙ ofBits-toBits binary64 y Y
+pattern-same : (f : Format) {x y : Float} → T (fits f x) → T (fits f y) → toBits f x ≡ toBits f y → x ≡ y
+pattern-same f {x} {y} X Y e = sym (ofBits-toBits f x X) ∙ ap (ofBits f) e ∙ ofBits-toBits f y Y
 
 -- ---- the answers without floats
 
@@ -75,35 +76,36 @@ sheet-heard (sheets.Refused k p) (sheets.Refused l q) e = refusal sheets.Refused
 -- ---- the answers with floats
 
 -- the floats of an answer are ones that the format holds
-abbrev pub NearestFits : Nearest → Type 0
-NearestFits (nearests.Sum x) = T (fits binary64 x)
-NearestFits (nearests.Refused k p) = Unit {0}
+abbrev pub NearestFits : Width → Nearest → Type 0
+NearestFits W (nearests.Sum x) = T (fits (W .format) x)
+NearestFits W (nearests.Refused k p) = Unit {0}
 
-abbrev pub StepFits : Step → Type 0
-StepFits (More s) = T (fits binary64 (s .sigma)) × T (fits binary64 (s .t)) × T (fits binary64 (s .tau))
-StepFits (Done x r) = T (fits binary64 x)
-StepFits (Refused k p) = Unit {0}
+abbrev pub StepFits : Width → Step → Type 0
+StepFits W (More s) = T (fits (W .format) (s .sigma)) × T (fits (W .format) (s .t)) × T (fits (W .format) (s .tau))
+StepFits W (Done x r) = T (fits (W .format) x)
+StepFits W (Refused k p) = Unit {0}
 
-pub nearest-heard : (a b : Nearest) → NearestFits a → NearestFits b → nearestHeard a ≡ nearestHeard b → a ≡ b
-nearest-heard (nearests.Sum x) (nearests.Sum y) A B e = ap nearests.Sum (pattern-same A B (cc))
-nearest-heard (nearests.Sum x) (nearests.Refused l q) A B e = apart (cc)
-nearest-heard (nearests.Refused k p) (nearests.Sum y) A B e = apart (cc)
-nearest-heard (nearests.Refused k p) (nearests.Refused l q) A B e = refusal nearests.Refused k l p q e
+module _ (W : Width) where
+  pub nearest-heard : (a b : Nearest) → NearestFits W a → NearestFits W b → nearestHeard W a ≡ nearestHeard W b → a ≡ b
+  nearest-heard (nearests.Sum x) (nearests.Sum y) A B e = ap nearests.Sum (pattern-same (W .format) A B (cc))
+  nearest-heard (nearests.Sum x) (nearests.Refused l q) A B e = apart (cc)
+  nearest-heard (nearests.Refused k p) (nearests.Sum y) A B e = apart (cc)
+  nearest-heard (nearests.Refused k p) (nearests.Refused l q) A B e = refusal nearests.Refused k l p q e
 
-pub step-heard : (a b : Step) → StepFits a → StepFits b → stepHeard a ≡ stepHeard b → a ≡ b
-step-heard (More s) (More t) A B e =
-    let x : s .sigma ≡ t .sigma = pattern-same (A .0) (B .0) (cc) in
-    let y : s .t ≡ t .t = pattern-same (A .1) (B .1) (cc) in
-    let z : s .tau ≡ t .tau = pattern-same (A .2) (B .2) (cc) in
-    let n : s .n ≡ t .n = cc in
-    let b : s .pending ≡ t .pending = cc in
-    let r : s .rounds ≡ t .rounds = cc in
-    λ i. More (record { sigma = x i; t = y i; tau = z i; n = n i; pending = b i; rounds = r i })
-step-heard (More s) (Done y r) A B e = apart (cc)
-step-heard (More s) (Refused l q) A B e = apart (cc)
-step-heard (Done x r) (More t) A B e = apart (cc)
-step-heard (Done x r) (Done y u) A B e = let z : x ≡ y = pattern-same A B (cc) in cc
-step-heard (Done x r) (Refused l q) A B e = apart (cc)
-step-heard (Refused k p) (More t) A B e = apart (cc)
-step-heard (Refused k p) (Done y u) A B e = apart (cc)
-step-heard (Refused k p) (Refused l q) A B e = refusal Refused k l p q e
+  pub step-heard : (a b : Step) → StepFits W a → StepFits W b → stepHeard W a ≡ stepHeard W b → a ≡ b
+  step-heard (More s) (More t) A B e =
+      let x : s .sigma ≡ t .sigma = pattern-same (W .format) (A .0) (B .0) (cc) in
+      let y : s .t ≡ t .t = pattern-same (W .format) (A .1) (B .1) (cc) in
+      let z : s .tau ≡ t .tau = pattern-same (W .format) (A .2) (B .2) (cc) in
+      let n : s .n ≡ t .n = cc in
+      let b : s .pending ≡ t .pending = cc in
+      let r : s .rounds ≡ t .rounds = cc in
+      λ i. More (record { sigma = x i; t = y i; tau = z i; n = n i; pending = b i; rounds = r i })
+  step-heard (More s) (Done y r) A B e = apart (cc)
+  step-heard (More s) (Refused l q) A B e = apart (cc)
+  step-heard (Done x r) (More t) A B e = apart (cc)
+  step-heard (Done x r) (Done y u) A B e = let z : x ≡ y = pattern-same (W .format) A B (cc) in cc
+  step-heard (Done x r) (Refused l q) A B e = apart (cc)
+  step-heard (Refused k p) (More t) A B e = apart (cc)
+  step-heard (Refused k p) (Done y u) A B e = apart (cc)
+  step-heard (Refused k p) (Refused l q) A B e = refusal Refused k l p q e

@@ -1,11 +1,13 @@
 -- A table of refusals is read both ways; a refusal is heard exactly when its row says; and its place is told as the table says. Assumes nothing.
 use mathlib.Core.Path.{_≡_, refl, sym, ap, subst, _∙_}
 use mathlib.Core.Logic.{_⊎_, inl, inr, _↔_}
-use Prim.Native.Nat.{ℕ, zero, suc}
+use Prim.Native.Nat.{ℕ, zero, suc, _<_}
+use native.Mathlib.Omega.{arith}
 use lib.Dec.{T}
 use lib.Ieee.Bits.{is-true}
 use Rattle.lists.specs.Apart.{apart}
-use Rattle.kinds.specs.Heard.{Place, Heard, refused, tells, placeOf, told, Row, stepHeard, nearestHeard, partedHeard, entryHeard, sheetHeard}
+use Rattle.kinds.specs.Limits.{Width}
+use Rattle.kinds.specs.Heard.{Place, Heard, refused, tells, placeOf, told, Row, Refusal, stepHeard, nearestHeard, partedHeard, entryHeard, sheetHeard}
 use Rattle.kinds.specs.declared.Step.{Step}
 use Rattle.kinds.specs.declared.Step.the-variants as steps
 use Rattle.kinds.specs.declared.Nearest.{Nearest}
@@ -27,15 +29,19 @@ placed k zero h = refl
 placed k (suc i) (inl e) = apart (cc)
 placed k (suc i) (inr t) = rw (is-true (tells k) t)
 
--- ---- an answer of which a refusal is heard is that refusal
-pub step-is : (a : Step) (k : ℕ) (p : Place) → stepHeard a ≡ refused k p → (i : ℕ) × (a ≡ steps.Refused k i)
-step-is (steps.More s) k p e = apart (cc)
-step-is (steps.Done x r) k p e = apart (cc)
-step-is (steps.Refused l j) k p e = (j, cc)
+-- a number of the table at place 0 is a refusal of the table
+pub at-place-0 : {places k : ℕ} → k < 32 → Refusal places k 0
+at-place-0 {places} {k} h = record { number = h; place = omega arith; as-told = placed k 0 (inl refl) }
 
-pub nearest-is : (a : Nearest) (k : ℕ) (p : Place) → nearestHeard a ≡ refused k p → (i : ℕ) × (a ≡ nearests.Refused k i)
-nearest-is (nearests.Sum x) k p e = apart (cc)
-nearest-is (nearests.Refused l j) k p e = (j, cc)
+-- ---- an answer of which a refusal is heard is that refusal
+pub step-is : (W : Width) (a : Step) (k : ℕ) (p : Place) → stepHeard W a ≡ refused k p → (i : ℕ) × (a ≡ steps.Refused k i)
+step-is W (steps.More s) k p e = apart (cc)
+step-is W (steps.Done x r) k p e = apart (cc)
+step-is W (steps.Refused l j) k p e = (j, cc)
+
+pub nearest-is : (W : Width) (a : Nearest) (k : ℕ) (p : Place) → nearestHeard W a ≡ refused k p → (i : ℕ) × (a ≡ nearests.Refused k i)
+nearest-is W (nearests.Sum x) k p e = apart (cc)
+nearest-is W (nearests.Refused l j) k p e = (j, cc)
 
 pub parted-is : (a : Parted) (k : ℕ) (p : Place) → partedHeard a ≡ refused k p → (i : ℕ) × (a ≡ parteds.Refused k i)
 parted-is (parteds.Parts b) k p e = apart (cc)

@@ -1,11 +1,10 @@
 -- The lines that the sheet program prints, as bytes, and what is left of the areas that it lends. Definitions only.
-use mathlib.Core.Bool.{Bool, true, false}
 use mathlib.Core.List.{List, [], _∷_, _++_}
 use Prim.Native.Nat.{ℕ}
 use lib.ListN.{length, take, drop}
-use lib.Ieee.{Float}
+use lib.Ieee.{Float, toBits}
 use Rattle.kinds.specs.Limits.{doubles}
-use Rattle.kinds.specs.Heard.{Place, nowhere, at, placeOf, pattern}
+use Rattle.kinds.specs.Heard.{Place, nowhere, at, placeOf}
 use Rattle.kinds.specs.declared.Step.{Step}
 use Rattle.kinds.specs.declared.Step.the-variants as steps
 use Rattle.kinds.specs.declared.Nearest.{Nearest}
@@ -54,21 +53,17 @@ unfoldable pub refusedLine : ℕ → Place → List ℕ
 refusedLine k nowhere = refusedWord ++ decimalOf k ++ lineEnd
 refusedLine k (at p) = refusedWord ++ decimalOf k ++ (atWord ++ decimalOf p) ++ lineEnd
 
--- whether a place is told
-abbrev pub told : Place → Bool
-told nowhere = false
-told (at p) = true
-
 -- of a list of n numbers, from its faithful and its nearest sum. The undivided call answers no state (runs/AnswerNumbers).
 unfoldable pub sumLines : ℕ → Step → Nearest → List ℕ
 sumLines n (steps.More s) near = []
 sumLines n (steps.Refused k p) near = refusedLine k (placeOf k p)
 sumLines n (steps.Done x rounds) (nearests.Refused k p) = refusedLine k (placeOf k p)
-sumLines n (steps.Done x rounds) (nearests.Sum y) = countLine n ++ faithfulLine (pattern x) rounds ++ nearestLine (pattern y)
+sumLines n (steps.Done x rounds) (nearests.Sum y) =
+    countLine n ++ faithfulLine (toBits (doubles .format) x) rounds ++ nearestLine (toBits (doubles .format) y)
 
 -- of a list, with the work area that its walk is lent
 unfoldable pub listLines : List ℕ → List Float → List ℕ
-listLines ps work = sumLines (length ps) (faithfulOf doubles ps work .answer) (nearestOf ps)
+listLines ps work = sumLines (length ps) (faithfulOf doubles ps work .answer) (nearestOf doubles ps)
 
 -- ---- how many bytes are printed, and the areas afterwards
 pub record Printed : Type 0 where

@@ -8,13 +8,14 @@ use lib.Seq.{take-at}
 use lib.Ieee.{Float}
 use Rattle.kinds.specs.Limits.{doubles}
 use Rattle.kinds.specs.Outcome.{outcome}
-use Rattle.kinds.specs.Heard.{placeOf}
+use Rattle.kinds.specs.Heard.{Refusal, placeOf}
 use Rattle.kinds.specs.declared.Sheet.{Sheet}
 use Rattle.kinds.specs.declared.Sheet.the-variants.{Read, Refused}
 use Rattle.octets.specs.Octets.{big}
 use Rattle.octets.specs.EightsLaws.{eights-length}
 use Rattle.sheet.specs.Sheet.{Reading, countOf, patternsOf, readOf}
-use Rattle.sheet.specs.SheetLaws.{Accepted, accepted, accepted-read}
+use Rattle.sheet.specs.SheetLaws.{Readable, readable, readable-read}
+use Rattle.sheet.specs.TableLaws.{sheet-when, sheet-refusal}
 use Rattle.walk.specs.Walk.{faithfulOf}
 use Rattle.numerals.specs.Text.{Placed}
 use Rattle.numerals.specs.TextLaws.{first-end, first-text}
@@ -32,30 +33,33 @@ module _ (sheet numbers : List ℕ) (work : List Float) (text : List ℕ) {answe
   sheet-refused k p s P =
       (λ i. printed (first-end P i) area work (first-text P i)) ∙ ap (λ (a : Sheet). linesAfter a area work text) (sym s) ∙ lines-read
 
+  pub read-refusal : (k p : ℕ) → answer ≡ Refused k p → Refusal (doubles .length) k p
+  read-refusal k p s = sheet-refusal doubles sheet numbers (sheet-when doubles sheet numbers (Refused k p) .0 (ap (λ (r : Reading). r .answer) (sym e) ∙ s))
+
   module _ (n : ℕ) (s : answer ≡ Read n) where
     -- a list that was read, with what its walk leaves
-    pub sheet-read : {r : ℕ} {after : List ℕ} {left : List Float} → left ≡ faithfulOf doubles (take n area) (take n work) .area
+    pub sheet-accepted : {r : ℕ} {after : List ℕ} {left : List Float} → left ≡ faithfulOf doubles (take n area) (take n work) .area
         → Placed (listLines (take n area) (take n work)) 0 text r after
         → printed r area (left ++ drop n work) after ≡ linesOf sheet numbers work text
     unfolding linesAfter
-    sheet-read l P =
+    sheet-accepted l P =
         (λ i. printed (first-end P i) area (l i ++ drop n work) (first-text P i)) ∙ ap (λ (a : Sheet). linesAfter a area work text) (sym s) ∙ lines-read
 
     count : countOf sheet ≡ n
     count =
         let r : readOf doubles sheet numbers ≡ outcome (Read n) area = sym e ∙ ap (λ (a : Sheet). outcome a area) s in
         let c : Read (countOf sheet) ≡ Read n =
-        ap (λ (x : Reading). x .answer) (sym (accepted-read doubles sheet numbers (accepted doubles sheet numbers r)) ∙ r) in
+        ap (λ (x : Reading). x .answer) (sym (readable-read doubles sheet numbers (readable doubles sheet numbers r)) ∙ r) in
         cc
 
-    allowed : Accepted doubles sheet numbers
-    allowed = accepted doubles sheet numbers (sym e ∙ ap (λ (a : Sheet). outcome a area) s)
+    allowed : Readable doubles sheet numbers
+    allowed = readable doubles sheet numbers (sym e ∙ ap (λ (a : Sheet). outcome a area) s)
 
     -- what was read
     pub read-list : take n area ≡ patternsOf n (drop 5 sheet)
     read-list =
         let l : area ≡ patternsOf (countOf sheet) (drop 5 sheet) ++ drop (countOf sheet) numbers =
-        ap (λ (x : Reading). x .area) (e ∙ accepted-read doubles sheet numbers allowed) in
+        ap (λ (x : Reading). x .area) (e ∙ readable-read doubles sheet numbers allowed) in
         rw (l, count) (take-at (patternsOf n (drop 5 sheet)) (drop n numbers) n (eights-length big n (drop 5 sheet)))
 
     pub read-few : n ≤ doubles .length

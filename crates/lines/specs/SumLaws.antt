@@ -3,9 +3,9 @@ use mathlib.Core.Path.{_≡_}
 use mathlib.Core.List.{List, [], _++_}
 use Prim.Native.Nat.{ℕ}
 use lib.ListN.{length}
-use lib.Ieee.{Float}
+use lib.Ieee.{Float, toBits}
 use Rattle.kinds.specs.Limits.{doubles}
-use Rattle.kinds.specs.Heard.{placeOf, pattern}
+use Rattle.kinds.specs.Heard.{placeOf}
 use Rattle.kinds.specs.declared.State.{State}
 use Rattle.kinds.specs.declared.Step.the-variants as steps
 use Rattle.kinds.specs.declared.Nearest.the-variants as nearests
@@ -23,11 +23,11 @@ module _ (ps : List ℕ) (work : List Float) where
   lines-refused k p e = rw e
 
   module _ (x : Float) (rounds : ℕ) (e : faithfulOf doubles ps work .answer ≡ steps.Done x rounds) where
-    pub lines-near-refused : (k p : ℕ) → nearestOf ps ≡ nearests.Refused k p → listLines ps work ≡ refusedLine k (placeOf k p)
+    pub lines-near-refused : (k p : ℕ) → nearestOf doubles ps ≡ nearests.Refused k p → listLines ps work ≡ refusedLine k (placeOf k p)
     unfolding listLines sumLines
     lines-near-refused k p f = rw (e, f)
 
-    pub lines-three : (y : Float) → nearestOf ps ≡ nearests.Sum y
-        → listLines ps work ≡ countLine (length ps) ++ faithfulLine (pattern x) rounds ++ nearestLine (pattern y)
+    pub lines-three : (y : Float) → nearestOf doubles ps ≡ nearests.Sum y
+        → listLines ps work ≡ countLine (length ps) ++ faithfulLine (toBits (doubles .format) x) rounds ++ nearestLine (toBits (doubles .format) y)
     unfolding listLines sumLines
     lines-three y f = rw (e, f)

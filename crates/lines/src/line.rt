@@ -5,13 +5,13 @@ use numerals::pattern;
 use numerals::put;
 ghost use mathlib.Core.Path.{_≡_};
 ghost use mathlib.Core.List.{_++_};
-ghost use Prim.Native.Nat.{_+_, _≤_};
+ghost use Prim.Native.Nat.{suc, _+_, _≤_};
 ghost use lib.ListN.{length};
 ghost use Rattle.kinds.specs.Limits.{doubles};
-ghost use Rattle.kinds.specs.Heard.{placeOf};
+ghost use Rattle.kinds.specs.Heard.{Refusal, placeOf};
 ghost use Rattle.numerals.specs.Text.{Placed};
 ghost use Rattle.numerals.specs.Numerals.{decimalOf};
-ghost use Rattle.lines.specs.Lines.{countLine, faithfulLine, nearestLine, refusedLine, told as Lines·told, longest};
+ghost use Rattle.lines.specs.Lines.{countLine, faithfulLine, nearestLine, refusedLine, longest};
 
 // `count 3`
 pub fn count(text: &mut [u8], end: usize, n: usize) -> usize
@@ -43,7 +43,7 @@ pub fn nearest(text: &mut [u8], end: usize, p: u64) -> usize
 
 // The three lines of a list that was summed, at the start of the text.
 pub fn three(text: &mut [u8], n: usize, sum: u64, rounds: u32, near: u64) -> usize
-    requires { ⌜ (n ≤ doubles .length) × (rounds ≤ 51) × (longest ≤ length (now text)) ⌝ }
+    requires { ⌜ (n ≤ doubles .length) × (rounds ≤ suc (doubles .rounds)) × (longest ≤ length (now text)) ⌝ }
     ensures { λ r. ⌜ Placed (countLine n ++ faithfulLine sum rounds ++ nearestLine near) 0 (now (text .entry)) r (now (text .exit)) ⌝ }
 {
     let counted = count(text, 0, n);
@@ -51,20 +51,13 @@ pub fn three(text: &mut [u8], n: usize, sum: u64, rounds: u32, near: u64) -> usi
     nearest(text, summed, near)
 }
 
-// Whether a place is told: by its number, at place 0 too.
-fn place_told(k: u32, place: u32) -> bool
-    ensures { λ r. ⌜ r ≡ Lines·told (placeOf k place) ⌝ }
-{
-    tells(k) | (0 < place)
-}
-
 // `refused 3 at 1` or `refused 11`, at the start of the text
 pub fn refused(text: &mut [u8], k: u32, place: u32) -> usize
-    requires { ⌜ longest ≤ length (now text) ⌝ }
+    requires { ⌜ Refusal (doubles .length) k place × (longest ≤ length (now text)) ⌝ }
     ensures { λ r. ⌜ Placed (refusedLine k (placeOf k place)) 0 (now (text .entry)) r (now (text .exit)) ⌝ }
 {
     let numbered = decimal(text, 0, b"refused ", k as u64);
-    if place_told(k, place) {
+    if tells(k) {
         let told = decimal(text, numbered, b" at ", place as u64);
         return put(text, told, b"\n");
     }

@@ -17,14 +17,14 @@ module _ {w y : ℕ} (h : y ≤ w) where
   other : y + (w - y) ≡ w
   other = omega arith
 
-  pub joined-is : (a b : ℕ) → 0 < y → a < 2 ^ y → a * 2 ^ (w - y) % 2 ^ w + b / 2 / 2 ^ (y - 1) ≡ a * 2 ^ (w - y) + b / 2 ^ y
-  joined-is a b Y A = λ i. shl-exact y (w - y) w A (le-of-eq other) i + (shr-shr b 1 (y - 1) ∙ ap (λ (x : ℕ). b / 2 ^ x) back) i
+  pub across-is : (a b : ℕ) → 0 < y → a < 2 ^ y → a * 2 ^ (w - y) % 2 ^ w + b / 2 / 2 ^ (y - 1) ≡ a * 2 ^ (w - y) + b / 2 ^ y
+  across-is a b Y A = λ i. shl-exact y (w - y) w A (le-of-eq other) i + (shr-shr b 1 (y - 1) ∙ ap (λ (x : ℕ). b / 2 ^ x) back) i
     where
       back : 1 + (y - 1) ≡ y
       back = omega arith
 
-  pub joined-lt : {a b : ℕ} → a < 2 ^ y → b < 2 ^ w → a * 2 ^ (w - y) + b / 2 ^ y < 2 ^ w
-  joined-lt {a} {b} A B = rw (← (pow-add 2 y (w - y)), other) at (digits-lt A (shr-lt {n = b} (w - y) y (rw whole B)))
+  pub across-lt : {a b : ℕ} → a < 2 ^ y → b < 2 ^ w → a * 2 ^ (w - y) + b / 2 ^ y < 2 ^ w
+  across-lt {a} {b} A B = rw (← (pow-add 2 y (w - y)), other) at (digits-lt A (shr-lt {n = b} (w - y) y (rw whole B)))
 
   -- shifted to the top of a word, or left at its place over a number low
   pub cut-some : (b low W : ℕ) → 0 < W → ltb 0 (b * 2 ^ (w - y) % 2 ^ w + low) ≡ ltb 0 (b % 2 ^ y * W + low)

@@ -39,7 +39,7 @@ fn used(words: &[u64], n: usize) -> usize
 }
 
 // The leading 64 digits of the words a and b, where a has y digits, one or more. No shift is by 64.
-fn joined(a: u64, b: u64, y: u64) -> u64
+fn across(a: u64, b: u64, y: u64) -> u64
     requires { ⌜ (0 < y) × (y ≤ wordBits) × (a < 2 ^ y) ⌝ }
     ensures { λ r. ⌜ r ≡ a * 2 ^ (wordBits - y) + b / 2 ^ y ⌝ }
 {
@@ -75,7 +75,7 @@ pub fn leading(words: &[u64]) -> Head
     let b = words[n - 2];
     let y = size(a);
     Head {
-        digits: joined(a, b, y),
+        digits: across(a, b, y),
         below: 64 * (n - 2) as u64 + y,
         rest: rest(b << (64 - y), words, n - 2),
     }

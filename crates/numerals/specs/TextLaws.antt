@@ -26,9 +26,9 @@ module _ (xs ys area : List ℕ) (place : ℕ) (h : place ≤ length area) where
   paste-paste : paste (paste area place xs (length xs)) (place + length xs) ys (length ys) ≡ paste area place (xs ++ ys) (length (xs ++ ys))
   paste-paste = rw (front, back, take-length ys, take-length (xs ++ ys)) (simp append-assoc)
 
-pub joined : {xs ys area after last : List ℕ} {place r s : ℕ} → place ≤ length area → Placed xs place area r after → Placed ys r after s last
+pub placed-behind : {xs ys area after last : List ℕ} {place r s : ℕ} → place ≤ length area → Placed xs place area r after → Placed ys r after s last
     → Placed (xs ++ ys) place area s last
-joined {xs} {ys} {area} {place = place} h A B = record {
+placed-behind {xs} {ys} {area} {place = place} h A B = record {
   end = B .end ∙ ap (λ (r : ℕ). r + length ys) (A .end) ∙ all xs ys area place h;
   text = B .text ∙ (λ i. paste (A .text i) (A .end i) ys (length ys)) ∙ paste-paste xs ys area place h;
 }

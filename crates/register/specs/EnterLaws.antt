@@ -72,7 +72,7 @@ module _ (p : ℕ) (h : p < 2 ^ 64) where
 
   pub withdrawn-added : (ws : List ℕ) → withdrawn ws p ≡ added ws (opposite (doubles .format) p)
   unfolding q
-  withdrawn-added ws = by-fault ws p q (wholeOf ws -ℤ unitsOf p) fault ∙ elim (ℕ-discrete (faultOf doubles p) 0) [
+  withdrawn-added ws = by-fault ws p q (wholeOf ws -ℤ unitsOf doubles p) fault ∙ elim (ℕ-discrete (faultOf doubles p) 0) [
     | yes e ↦ ap (λ (u : ℤ). enter ws q (wholeOf ws +ℤ u)) (sym (opposite-units p h (fault-0 doubles p .0 e .0)))
-    | no e ↦ whatever ws q (wholeOf ws -ℤ unitsOf p) (wholeOf ws +ℤ unitsOf q) (λ k. e (sym fault ∙ k))
+    | no e ↦ whatever ws q (wholeOf ws -ℤ unitsOf doubles p) (wholeOf ws +ℤ unitsOf doubles q) (λ k. e (sym fault ∙ k))
   ]

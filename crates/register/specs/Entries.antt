@@ -37,8 +37,8 @@ patternOf (withdraw p) = p
 
 -- what a change adds to the whole number
 abbrev pub changeOf : Change → ℤ
-changeOf (add p) = unitsOf p
-changeOf (withdraw p) = negℤ (unitsOf p)
+changeOf (add p) = unitsOf doubles p
+changeOf (withdraw p) = negℤ (unitsOf doubles p)
 
 -- one call: `added` or `withdrawn`, of its pattern
 abbrev pub changed : List ℕ → Change → Changed

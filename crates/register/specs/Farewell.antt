@@ -8,6 +8,7 @@ use lib.IntN.{ℤ, negℤ, _+ℤ_, _-ℤ_, +ℤ-assoc, +ℤ-comm, -ℤ-+ℤ-canc
 use Rattle.units.specs.Whole.{exactSum}
 use Rattle.lists.specs.SignedDigits.{cut-whole}
 use Rattle.words.specs.Words.{wordBits, wordCount, wholeOf, wordsOf}
+use Rattle.kinds.specs.Limits.{doubles}
 use Rattle.addend.specs.Addend.{unitsOf, Held}
 use Rattle.register.specs.Entries.{Change, add, withdraw, patternOf, changeOf, changed, run, AllEntered}
 use Rattle.register.specs.RegisterLaws.{held-after}
@@ -36,13 +37,13 @@ stayed xs ys zs = xs ++ (ys ++ zs)
 pub gone : (xs ys zs : List Change) (p : ℕ) → exactSum (map changeOf (history xs ys zs p)) ≡ exactSum (map changeOf (stayed xs ys zs))
 gone (x ∷ xs) ys zs p = ap (λ (z : ℤ). changeOf x +ℤ z) (gone xs ys zs p)
 gone [] ys zs p =
-    ap (λ (z : ℤ). unitsOf p +ℤ z) (leaves ys)
-    ∙ +ℤ-comm (unitsOf p) (exactSum (map changeOf (ys ++ zs)) -ℤ unitsOf p)
-    ∙ -ℤ-+ℤ-cancel (exactSum (map changeOf (ys ++ zs))) (unitsOf p)
+    ap (λ (z : ℤ). unitsOf doubles p +ℤ z) (leaves ys)
+    ∙ +ℤ-comm (unitsOf doubles p) (exactSum (map changeOf (ys ++ zs)) -ℤ unitsOf doubles p)
+    ∙ -ℤ-+ℤ-cancel (exactSum (map changeOf (ys ++ zs))) (unitsOf doubles p)
   where
-    leaves : (ys : List Change) → exactSum (map changeOf (ys ++ (withdraw p ∷ zs))) ≡ exactSum (map changeOf (ys ++ zs)) -ℤ unitsOf p
-    leaves [] = +ℤ-comm (negℤ (unitsOf p)) (exactSum (map changeOf zs))
-    leaves (y ∷ ys) = ap (λ (z : ℤ). changeOf y +ℤ z) (leaves ys) ∙ sym (+ℤ-assoc (changeOf y) (exactSum (map changeOf (ys ++ zs))) (negℤ (unitsOf p)))
+    leaves : (ys : List Change) → exactSum (map changeOf (ys ++ (withdraw p ∷ zs))) ≡ exactSum (map changeOf (ys ++ zs)) -ℤ unitsOf doubles p
+    leaves [] = +ℤ-comm (negℤ (unitsOf doubles p)) (exactSum (map changeOf zs))
+    leaves (y ∷ ys) = ap (λ (z : ℤ). changeOf y +ℤ z) (leaves ys) ∙ sym (+ℤ-assoc (changeOf y) (exactSum (map changeOf (ys ++ zs))) (negℤ (unitsOf doubles p)))
 
 -- after it the words are those of what stayed
 pub farewell-words : (ws : List ℕ) (xs ys zs : List Change) (p : ℕ) → Held ws → AllEntered ws (history xs ys zs p)

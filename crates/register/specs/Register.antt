@@ -31,10 +31,10 @@ enter ws p z =
     (outcome entries.Entered (wordsOf z))))
 
 abbrev pub added : List ℕ → ℕ → Changed
-added ws p = enter ws p (wholeOf ws +ℤ unitsOf p)
+added ws p = enter ws p (wholeOf ws +ℤ unitsOf doubles p)
 
 abbrev pub withdrawn : List ℕ → ℕ → Changed
-withdrawn ws p = enter ws p (wholeOf ws -ℤ unitsOf p)
+withdrawn ws p = enter ws p (wholeOf ws -ℤ unitsOf doubles p)
 
 -- "On rounding a register: 4, 10." The register doesn't know signs of zero.
 unfoldable pub rounded : List ℕ → Nearest

@@ -98,10 +98,10 @@ module _ {ws : List ℕ} (W : Held ws) where
 
   -- a withdrawal undoes an addition of the same number, and the other way round
   pub withdraw-undoes : (p : ℕ) → added ws p .answer ≡ Entered → withdrawn (added ws p .area) p ≡ outcome Entered ws
-  withdraw-undoes p a = undo p (unitsOf p) (negℤ (unitsOf p)) (+ℤ-negℤ-cancel (wholeOf ws) (unitsOf p)) a
+  withdraw-undoes p a = undo p (unitsOf doubles p) (negℤ (unitsOf doubles p)) (+ℤ-negℤ-cancel (wholeOf ws) (unitsOf doubles p)) a
 
   pub add-undoes : (p : ℕ) → withdrawn ws p .answer ≡ Entered → added (withdrawn ws p .area) p ≡ outcome Entered ws
-  add-undoes p a = undo p (negℤ (unitsOf p)) (unitsOf p) (-ℤ-+ℤ-cancel (wholeOf ws) (unitsOf p)) a
+  add-undoes p a = undo p (negℤ (unitsOf doubles p)) (unitsOf doubles p) (-ℤ-+ℤ-cancel (wholeOf ws) (unitsOf doubles p)) a
 
   still : (p : ℕ) (u : ℤ) → p % top (doubles .format) ≡ 0 → u ≡ pos 0 → enter ws p (wholeOf ws +ℤ u) ≡ outcome Entered ws
   still p u h e =
@@ -110,5 +110,5 @@ module _ {ws : List ℕ} (W : Held ws) where
 
   -- +0 and -0 change nothing
   pub zero-keeps : (c : Change) → patternOf c % top (doubles .format) ≡ 0 → changed ws c ≡ outcome Entered ws
-  zero-keeps (add p) h = still p (unitsOf p) h (zero-value (doubles .format) p h)
-  zero-keeps (withdraw p) h = still p (negℤ (unitsOf p)) h (ap negℤ (zero-value (doubles .format) p h))
+  zero-keeps (add p) h = still p (unitsOf doubles p) h (zero-value (doubles .format) p h)
+  zero-keeps (withdraw p) h = still p (negℤ (unitsOf doubles p)) h (ap negℤ (zero-value (doubles .format) p h))

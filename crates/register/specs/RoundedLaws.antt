@@ -6,12 +6,13 @@ use Prim.Native.Nat.{ℕ, _≤_, _<_}
 use borrow.Author.Tests.{lt-ltb, le-ltb, eq-eqb, ne-eqb}
 use lib.IntN.{natAbs}
 use lib.ListN.{length}
-use lib.Ieee.{binary64}
+use lib.Ieee.{binary64, toBits}
 use Rattle.ieee.specs.Units.{limit, nearestFloat}
 use Rattle.ieee.specs.Overflow.{nearest-finite}
 use Rattle.ieee.specs.Accuracy.{NearestTo}
 use Rattle.ieee.specs.Nearest.{nearest-nearest}
-use Rattle.kinds.specs.Heard.{pattern, nearest, nearestHeard}
+use Rattle.kinds.specs.Heard.{nearest, nearestHeard}
+use Rattle.kinds.specs.Limits.{doubles}
 use Rattle.kinds.specs.declared.Nearest.the-variants.{Sum, Refused}
 use Rattle.words.specs.Words.{wordCount, wholeOf}
 use Rattle.register.specs.Register.{rounded}
@@ -35,5 +36,6 @@ module _ (ws : List ℕ) where
 
     -- "Rounding a register follows the nearest rule.", as a caller hears it
     pub round-nearest : natAbs (wholeOf ws) < limit binary64
-        → let x = nearestFloat binary64 false (wholeOf ws) in (nearestHeard (rounded ws) ≡ nearest (pattern x)) × NearestTo binary64 (wholeOf ws) x
-    round-nearest h = (ap nearestHeard (rounded-sum h), nearest-nearest binary64 false (wholeOf ws) h)
+        → let x = nearestFloat binary64 false (wholeOf ws) in
+        (nearestHeard doubles (rounded ws) ≡ nearest (toBits binary64 x)) × NearestTo binary64 (wholeOf ws) x
+    round-nearest h = (ap (nearestHeard doubles) (rounded-sum h), nearest-nearest binary64 false (wholeOf ws) h)

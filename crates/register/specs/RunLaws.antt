@@ -57,7 +57,7 @@ abs-neg (pos zero) = refl
 abs-neg (pos (suc n)) = refl
 abs-neg (negsuc n) = refl
 
-units-abs : (p : ℕ) → natAbs (unitsOf p) ≡ sizeOf doubles p
+units-abs : (p : ℕ) → natAbs (unitsOf doubles p) ≡ sizeOf doubles p
 units-abs p =
     ap natAbs (value-int (doubles .format) (floatOf doubles p))
     ∙ int-mag (whole (doubles .format) (floatOf doubles p))
@@ -65,7 +65,7 @@ units-abs p =
 
 change-small : (c : Change) → faultOf doubles (patternOf c) ≡ 0 → natAbs (changeOf c) ≤ most doubles
 change-small (add p) e = rw (units-abs p) (fault-0 doubles p .0 e .1)
-change-small (withdraw p) e = rw (abs-neg (unitsOf p), units-abs p) (fault-0 doubles p .0 e .1)
+change-small (withdraw p) e = rw (abs-neg (unitsOf doubles p), units-abs p) (fault-0 doubles p .0 e .1)
 
 module _ (ws : List ℕ) (c : Change) where
   next-bound : faultOf doubles (patternOf c) ≡ 0 → natAbs (wholeOf ws +ℤ changeOf c) ≤ natAbs (wholeOf ws) + most doubles
@@ -147,16 +147,16 @@ all-entered cs h A =
     enters (2 ^ (registerBits - 1)) (inside-small registerBits) zeros cs refl (lt-of-le-of-lt small (few (length cs) h)) A
 
 -- a list added up from zero comes to its exact sum
-pub list-whole : (ps : List ℕ) → length ps < 2 ^ 37 → Allowed doubles ps → wholeOf (run zeros (map add ps)) ≡ exactSum (map unitsOf ps)
+pub list-whole : (ps : List ℕ) → length ps < 2 ^ 37 → Allowed doubles ps → wholeOf (run zeros (map add ps)) ≡ exactSum (map (unitsOf doubles) ps)
 list-whole ps h A =
     run-whole zeros (map add ps) (all-entered (map add ps) (rw (length-map ps add) h) (rw (patterns ps) A))
     ∙ (λ i. zero-whole i +ℤ exactSum (changes ps i))
-    ∙ +ℤ-idl (exactSum (map unitsOf ps))
+    ∙ +ℤ-idl (exactSum (map (unitsOf doubles) ps))
   where
     patterns : (ps : List ℕ) → map patternOf (map add ps) ≡ ps
     patterns [] = refl
     patterns (p ∷ ps) = ap (λ (qs : List ℕ). p ∷ qs) (patterns ps)
 
-    changes : (ps : List ℕ) → map changeOf (map add ps) ≡ map unitsOf ps
+    changes : (ps : List ℕ) → map changeOf (map add ps) ≡ map (unitsOf doubles) ps
     changes [] = refl
-    changes (p ∷ ps) = ap (λ (zs : List ℤ). unitsOf p ∷ zs) (changes ps)
+    changes (p ∷ ps) = ap (λ (zs : List ℤ). unitsOf doubles p ∷ zs) (changes ps)

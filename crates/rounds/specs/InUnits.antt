@@ -16,7 +16,7 @@ use Rattle.units.specs.Integers.{int-same, int-difference, int-plus, int-minus}
 use Rattle.units.specs.Walk as units
 use Rattle.units.specs.Extraction.{extract}
 use Rattle.units.specs.Turns.{tau-under, turn-left, turn-exact, turn-tau}
-use Rattle.ieee.specs.Units.{Number, Rounds, magnitude, negative, value, whole, signOf}
+use Rattle.ieee.specs.Units.{Number, RoundedTo, magnitude, negative, value, whole, signOf}
 use Rattle.ieee.specs.Rounded.{prec-pos}
 use Rattle.ieee.specs.Sum.{value-int, whole-mag}
 use Rattle.ieee.specs.Nearest.{number-rep}
@@ -35,8 +35,8 @@ abbrev pub wholes : Format → List Float → List Whole
 wholes f xs = map (whole f) xs
 
 -- a sum is -0 only where both operands are, so not where the first never is
-pub sum-plus : {f : Format} (x y : Float) {r : Float} → (magnitude f x ≡ 0 → negative x ≡ false) → Rounds f (negative x && negative y) (whole f x ⊕ whole f y) r
-    → magnitude f r ≡ 0 → negative r ≡ false
+pub sum-plus : {f : Format} (x y : Float) {r : Float} → (magnitude f x ≡ 0 → negative x ≡ false)
+    → RoundedTo f (negative x && negative y) (whole f x ⊕ whole f y) r → magnitude f r ≡ 0 → negative r ≡ false
 unfolding whole
 sum-plus {f} x y {r} h R z = R .sign ∙ ap (signOf (negative x && negative y)) zero ∙ go (negative x) (negative y) refl refl
   where
@@ -78,12 +78,12 @@ module _ {f : Format} {M e : ℕ} {sigma : Float} (σ : Scale f M e sigma) where
   inside : {x : Float} → Small f (2 ^ e) x → Within (whole f x) (2 ^ (M + e))
   inside {x} X = omega (arith, whole-mag f x, X .within, pow-mono {i = e} {j = M + e} (omega arith))
 
-  raised-rounds : {x : Float} → Small f (2 ^ e) x → Rounds f (negative sigma && negative x) (whole f sigma ⊕ whole f x) (add f sigma x)
+  raised-rounds : {x : Float} → Small f (2 ^ e) x → RoundedTo f (negative sigma && negative x) (whole f sigma ⊕ whole f x) (add f sigma x)
   raised-rounds {x} X = add-rounds (σ .power .number) (X .number) (M + e + 1) (omega (arith, σ .room))
       (rw (sigma-whole, pow-add 2 (M + e) 1) (omega (arith, inside X)))
 
   high-is : {x : Float} → Small f (2 ^ e) x
-      → Rounds f (negative (add f sigma x) && not (negative sigma)) (fl (prec f) (nat (2 ^ (M + e)) ⊕ whole f x) ⊖ nat (2 ^ (M + e))) (highPart f sigma x)
+      → RoundedTo f (negative (add f sigma x) && not (negative sigma)) (fl (prec f) (nat (2 ^ (M + e)) ⊕ whole f x) ⊖ nat (2 ^ (M + e))) (highPart f sigma x)
   high-is X = high-rounds (σ .power .number) (X .number) (M + e) (σ .room) sigma-whole (inside X)
 
   pub high-units : {x : Float} → Small f (2 ^ e) x → whole f (highPart f sigma x) ≡ units.high (prec f) (M + e) (whole f x)
@@ -97,7 +97,7 @@ module _ {f : Format} {M e : ℕ} {sigma : Float} (σ : Scale f M e sigma) where
   high-small {x} X = record { number = high-is X .number; within = omega (arith, whole-mag f (highPart f sigma x), high-within X) }
 
   remainder-is : {x : Float} → Small f (2 ^ e) x
-      → Rounds f (negative x && not (negative (highPart f sigma x))) (whole f x ⊖ units.high (prec f) (M + e) (whole f x)) (remainderOf f sigma x)
+      → RoundedTo f (negative x && not (negative (highPart f sigma x))) (whole f x ⊖ units.high (prec f) (M + e) (whole f x)) (remainderOf f sigma x)
   remainder-is X = remainder-rounds (σ .power .number) (X .number) (M + e) (σ .room) sigma-whole (inside X)
 
   -- what is left of a number: half a last place of sigma at most, said twice over
@@ -160,7 +160,7 @@ module _ {f : Format} {M e : ℕ} {sigma : Float} (σ : Scale f M e sigma) where
     pub plus : magnitude f tau ≡ 0 → negative tau ≡ false
 
   next-sum : {c : ℕ} {tau x : Float} → Tau c tau → Small f (2 ^ e) x → c < 2 ^ M
-      → Rounds f (negative tau && negative (highPart f sigma x)) (whole f tau ⊕ whole f (highPart f sigma x)) (add f tau (highPart f sigma x))
+      → RoundedTo f (negative tau && negative (highPart f sigma x)) (whole f tau ⊕ whole f (highPart f sigma x)) (add f tau (highPart f sigma x))
   next-sum T X l = add-rounds (T .number) (high-is X .number) (M + e + 1) (omega (arith, σ .room))
       (omega (arith, tau-under (T .units) l, high-within X, pow-add 2 (M + e) 1, pow-mono {i = e} {j = M + e} (omega arith)))
 

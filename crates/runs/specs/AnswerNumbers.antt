@@ -1,5 +1,5 @@
--- What the undivided call answers, whatever list and work area it is handed: never a state; and only a sum that is a number, so that its bits may be read,
--- after at most as many rounds as document 01 says. Assumes nothing.
+-- What the undivided call answers, whatever list and work area it is handed: never a state; only a sum that is a number, so that its bits may be read,
+-- after at most as many rounds as document 01 says; and only a refusal of the table. Assumes nothing.
 use mathlib.Core.Path.{_≡_, refl, sym, ap, subst}
 use mathlib.Core.Bool.{true, not}
 use mathlib.Core.List.{List}
@@ -10,13 +10,14 @@ use lib.Ieee.{Float, isNan}
 use Rattle.ieee.specs.Units.{Number}
 use Rattle.ieee.specs.Finite.{finite-no-nan}
 use Rattle.kinds.specs.Limits.{Width, doubles}
+use Rattle.kinds.specs.Heard.{Refusal}
 use Rattle.kinds.specs.declared.State.{State}
 use Rattle.kinds.specs.declared.Step.{Step}
 use Rattle.kinds.specs.declared.Step.the-variants.{More, Done, Refused}
 use Rattle.kinds.specs.declared.Verdict.{Verdict}
 use Rattle.kinds.specs.declared.Verdict.the-variants as verdicts
 use Rattle.judge.specs.Judge.{judged}
-use Rattle.judge.specs.JudgeLaws.{list-when}
+use Rattle.judge.specs.JudgeLaws.{list-when, list-refusal}
 use Rattle.rounds.specs.Fitting.{Fitting}
 use Rattle.rounds.specs.Instances.{doubles-fit}
 use Rattle.walk.specs.Walk.{Walked, faithfulOf}
@@ -28,7 +29,7 @@ use Rattle.runs.specs.Faithful.{faithful-promised}
 abbrev Ended : Width → Step → Type 0
 Ended W (More s) = ⊥
 Ended W (Done x r) = Number (W .format) x × (r ≤ suc (W .rounds))
-Ended W (Refused k p) = Unit {0}
+Ended W (Refused k p) = Refusal (W .length) k p
 
 faithful-ended : {W : Width} (F : Fitting W) (ps : List ℕ) (work : List Float) → Ended W (faithfulOf W ps work .answer)
 faithful-ended {W} F ps work = by (judged W (eqb (length work) (length ps)) true ps) refl
@@ -39,15 +40,19 @@ faithful-ended {W} F ps work = by (judged W (eqb (length work) (length ps)) true
         subst (Ended W) (sym (S .answer)) (S .faithful .number, S .most)
     by (verdicts.Refused k p) g =
         let w = faithful-refused F ps work (Refused k p) work (opened-refused W _ k p ps work g) k p refl in
-        subst (Ended W) (ap (λ (w : Walked). w .answer) w) tt
+        subst (Ended W) (ap (λ (w : Walked). w .answer) w) (list-refusal (list-when W _ true ps (verdicts.Refused k p) .0 g))
 
 module _ (ps : List ℕ) (work : List Float) where
   -- the undivided call never answers more
   pub faithful-not-more : (s : State) → faithfulOf doubles ps work .answer ≡ More s → ⊥
   faithful-not-more s e = subst (Ended doubles) e (faithful-ended doubles-fit ps work)
 
+  -- a refusal's number is of the table, its place is one of a list, and is told as the table says
+  pub faithful-refusal : (k p : ℕ) → faithfulOf doubles ps work .answer ≡ Refused k p → Refusal (doubles .length) k p
+  faithful-refusal k p e = subst (Ended doubles) e (faithful-ended doubles-fit ps work)
+
   module _ {x : Float} {r : ℕ} (e : faithfulOf doubles ps work .answer ≡ Done x r) where
-    done : Number (doubles .format) x × (r ≤ 51)
+    done : Number (doubles .format) x × (r ≤ suc (doubles .rounds))
     done = subst (Ended doubles) e (faithful-ended doubles-fit ps work)
 
     pub faithful-number : Number (doubles .format) x
@@ -57,5 +62,5 @@ module _ (ps : List ℕ) (work : List Float) where
     faithful-no-nan = finite-no-nan x (done .0 .fini)
 
     -- "hence at most 51"
-    pub faithful-rounds : r ≤ 51
+    pub faithful-rounds : r ≤ suc (doubles .rounds)
     faithful-rounds = done .1

@@ -13,25 +13,25 @@ use Rattle.kinds.specs.declared.Sheet.the-variants.{Read, Refused}
 use Rattle.sheet.specs.Sheet.{sheetOf, readOf}
 use Rattle.sheet.specs.SheetLaws.{sheet-read}
 
-pub doubles-read : (ps area : List ℕ) → length ps ≤ 4094 → Digits 64 ps → length ps ≤ length area
+pub doubles-read : (ps area : List ℕ) → length ps ≤ doubles .length → Digits 64 ps → length ps ≤ length area
     → readOf doubles (sheetOf ps) area ≡ outcome (Read (length ps)) (ps ++ drop (length ps) area)
 doubles-read ps area = sheet-read doubles ps area (lit≤ tt)
 
 -- `01 00000003 4630000000000000 3FF0000000000000 C630000000000000`
-abbrev pub printed : List ℕ
-printed =
+abbrev pub exampleSheet : List ℕ
+exampleSheet =
     1 ∷ 0 ∷ 0 ∷ 0 ∷ 3 ∷ 0x46 ∷ 0x30 ∷ 0 ∷ 0 ∷ 0 ∷ 0 ∷ 0 ∷ 0 ∷ 0x3F ∷ 0xF0 ∷ 0 ∷ 0 ∷ 0 ∷ 0 ∷ 0 ∷ 0 ∷ 0xC6 ∷ 0x30 ∷ 0 ∷ 0 ∷ 0 ∷ 0 ∷ 0 ∷ 0 ∷ []
 
 abbrev pub three : List ℕ
 three = 0x4630000000000000 ∷ 0x3FF0000000000000 ∷ 0xC630000000000000 ∷ []
 
-pub printed-is : sheetOf three ≡ printed
+pub example-is : sheetOf three ≡ exampleSheet
 unfolding sheetOf joined digits
-printed-is = refl
+example-is = refl
 
-pub printed-read : readOf doubles printed (7 ∷ 7 ∷ 7 ∷ 7 ∷ []) ≡ outcome (Read 3) (three ++ (7 ∷ []))
+pub example-read : readOf doubles exampleSheet (7 ∷ 7 ∷ 7 ∷ 7 ∷ []) ≡ outcome (Read 3) (three ++ (7 ∷ []))
 unfolding readOf eights number
-printed-read = refl
+example-read = refl
 
 -- the first of several refusals that hold is told
 pub one-byte : readOf doubles (2 ∷ []) [] ≡ outcome (Refused 11 0) []

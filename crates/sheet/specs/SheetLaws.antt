@@ -85,7 +85,7 @@ module _ (W : Width) (bytes area : List ℕ) where
 -- ---- a sheet that is read
 
 -- what holds of it
-pub record Accepted (W : Width) (bytes area : List ℕ) : Type 0 where
+pub record Readable (W : Width) (bytes area : List ℕ) : Type 0 where
   pub header : 5 ≤ length bytes
   pub version : versionOf bytes ≡ 1
   pub few : countOf bytes ≤ W .length
@@ -104,9 +104,9 @@ twice : (b : Bool) → T (not (not b)) → T b
 twice true t = tt
 twice false t = t
 
-pub accepted : (W : Width) (bytes area : List ℕ) {n : ℕ} {after : List ℕ} → readOf W bytes area ≡ outcome (Read n) after → Accepted W bytes area
+pub readable : (W : Width) (bytes area : List ℕ) {n : ℕ} {after : List ℕ} → readOf W bytes area ≡ outcome (Read n) after → Readable W bytes area
 unfolding readOf
-accepted W bytes area e =
+readable W bytes area e =
     let n = countOf bytes in
     let p1 = passed area 11 (ltb (length bytes) 5) e in
     let p2 = passed area 12 (not (eqb (versionOf bytes) 1)) (p1 .1) in
@@ -124,9 +124,9 @@ accepted W bytes area e =
       room = nltb→le (length area) n (p6 .0);
     }
 
-pub accepted-read : (W : Width) (bytes area : List ℕ) → Accepted W bytes area
+pub readable-read : (W : Width) (bytes area : List ℕ) → Readable W bytes area
     → readOf W bytes area ≡ outcome (Read (countOf bytes)) (patternsOf (countOf bytes) (drop 5 bytes) ++ drop (countOf bytes) area)
-accepted-read W bytes area A = read-all W bytes area (A .header) (A .version) (A .few) (A .exact) (A .room)
+readable-read W bytes area A = read-all W bytes area (A .header) (A .version) (A .few) (A .exact) (A .room)
 
 -- k bytes at the front, read and written again
 front-back : (k : ℕ) (bs : List ℕ) → Digits 8 bs → k ≤ length bs → bigEndian k (big (take k bs)) ≡ take k bs
@@ -149,9 +149,9 @@ pub read-is-sheet : (W : Width) (bytes area : List ℕ) {n : ℕ} {after : List 
     → Digits 8 bytes → readOf W bytes area ≡ outcome (Read n) after → (bytes ≡ sheetOf (take n after)) × (n ≡ length (take n after))
 unfolding sheetOf
 read-is-sheet W bytes area {n} {after} B e =
-    let A : Accepted W bytes area = accepted W bytes area e in
+    let A : Readable W bytes area = readable W bytes area e in
     let ps = patternsOf (countOf bytes) (drop 5 bytes) in
-    let r : outcome (Read (countOf bytes)) (ps ++ drop (countOf bytes) area) ≡ outcome (Read n) after = sym (accepted-read W bytes area A) ∙ e in
+    let r : outcome (Read (countOf bytes)) (ps ++ drop (countOf bytes) area) ≡ outcome (Read n) after = sym (readable-read W bytes area A) ∙ e in
     let a : Read (countOf bytes) ≡ Read n = ap (λ (x : Reading). x .answer) r in
     let c : countOf bytes ≡ n = cc in
     let l : ps ++ drop (countOf bytes) area ≡ after = ap (λ (x : Reading). x .area) r in
@@ -192,6 +192,6 @@ pub sheet-read : (W : Width) (ps area : List ℕ) → W .length < 2 ^ 32 → len
 sheet-read W ps area w few D room =
     let c : countOf (sheetOf ps) ≡ length ps = sheet-count ps (omega arith) in
     let l : length (sheetOf ps) ≡ 5 + 8 * length ps = sheet-length ps in
-    let A : Accepted W (sheetOf ps) area =
+    let A : Readable W (sheetOf ps) area =
     record { header = omega arith; version = sheet-version ps; few = omega arith; exact = omega arith; room = omega arith } in
-    accepted-read W (sheetOf ps) area A ∙ rw (c, sheet-body ps, patterns-body ps D)
+    readable-read W (sheetOf ps) area A ∙ rw (c, sheet-body ps, patterns-body ps D)

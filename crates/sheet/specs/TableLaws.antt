@@ -6,11 +6,12 @@ use mathlib.Core.List.{List}
 use Prim.Native.Nat.{ℕ, _+_, _*_, _≤_}
 use native.Mathlib.Decide.{ℕ-discrete}
 use native.Mathlib.Omega.{arith}
+use lib.Dec.{lit<}
 use lib.ListN.{length}
 use Rattle.units.specs.Powers.{le-or-lt}
 use Rattle.lists.specs.Apart.{apart}
-use Rattle.kinds.specs.Heard.{Place, refused, Row, sheetHeard}
-use Rattle.kinds.specs.Hearing.{exactly, placed, sheet-is, hears}
+use Rattle.kinds.specs.Heard.{Place, refused, Row, Refusal, sheetHeard}
+use Rattle.kinds.specs.Hearing.{exactly, at-place-0, sheet-is, hears}
 use Rattle.kinds.specs.Limits.{Width}
 use Rattle.kinds.specs.Outcome.{outcome}
 use Rattle.kinds.specs.OutcomeLaws.{determined}
@@ -78,15 +79,15 @@ module _ (W : Width) (bytes area : List ℕ) where
   pub read-determined : {r q : Sheet} {xs ys : List ℕ} → outcome r xs ≡ readOf W bytes area → outcome q ys ≡ readOf W bytes area → (r ≡ q) × (xs ≡ ys)
   read-determined = determined (readOf W bytes area)
 
-  -- what is heard of a refusal: its number and no place
-  zeros : {k i : ℕ} → SheetWhen W bytes area (Refused k i) → i ≡ 0
-  zeros (no-header h) = refl
-  zeros (other-version h v) = refl
-  zeros (too-many B m) = refl
-  zeros (too-short B f s) = refl
-  zeros (too-long B f l) = refl
-  zeros (no-room B f x s) = refl
+  -- a refusal's number is of the table, and none tells a place
+  pub sheet-refusal : {k i : ℕ} → SheetWhen W bytes area (Refused k i) → Refusal (W .length) k i
+  sheet-refusal (no-header h) = at-place-0 (lit< tt)
+  sheet-refusal (other-version h v) = at-place-0 (lit< tt)
+  sheet-refusal (too-many B m) = at-place-0 (lit< tt)
+  sheet-refusal (too-short B f s) = at-place-0 (lit< tt)
+  sheet-refusal (too-long B f l) = at-place-0 (lit< tt)
+  sheet-refusal (no-room B f x s) = at-place-0 (lit< tt)
 
   pub sheet-heard : (k : ℕ) (p : Place) → (sheetHeard (readOf W bytes area .answer) ≡ refused k p) ↔ Row (λ k i. SheetWhen W bytes area (Refused k i)) k p
   sheet-heard = hears sheetHeard Refused (λ k i. refl) (readOf W bytes area .answer) (sheet-is (readOf W bytes area .answer))
-      (λ k i. SheetWhen W bytes area (Refused k i)) (λ k i. sheet-when (Refused k i)) (λ k i h. placed k i (inl (zeros h)))
+      (λ k i. SheetWhen W bytes area (Refused k i)) (λ k i. sheet-when (Refused k i)) (λ k i h. sheet-refusal h .as-told)

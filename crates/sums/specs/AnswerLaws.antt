@@ -17,7 +17,7 @@ use Rattle.ieee.specs.Units.{value, nearestFloat}
 use Rattle.lists.specs.Digits.{number}
 use Rattle.lists.specs.TwosComplement.{signed-low, signed-high}
 use Rattle.words.specs.Words.{wordBits, registerBits, wholeOf}
-use Rattle.kinds.specs.Limits.{doubles}
+use Rattle.kinds.specs.Limits.{Width}
 use Rattle.kinds.specs.Outcome.{outcome}
 use Rattle.kinds.specs.declared.Verdict.{Verdict}
 use Rattle.kinds.specs.declared.Verdict.the-variants as verdicts
@@ -27,17 +27,17 @@ use Rattle.judge.specs.Judge.{zeroSign}
 use Rattle.sums.specs.Sums.{sumOf, nearestAfter, parts, addUp, partsAfter}
 use Rattle.sums.specs.PartsLaws.{remaining, parts-left}
 
-module _ (ps : List ℕ) where
+module _ (W : Width) (ps : List ℕ) where
   pub nearest-good : {v : Verdict} → v ≡ verdicts.Good
-      → nearestAfter v ps ≡ nearests.Sum (nearestFloat (doubles .format) (zeroSign ps) (sumOf (doubles .format) ps))
+      → nearestAfter W v ps ≡ nearests.Sum (nearestFloat (W .format) (zeroSign ps) (sumOf (W .format) ps))
   unfolding nearestAfter
   nearest-good e = rw e
 
-  pub nearest-refused : {v : Verdict} (k p : ℕ) → v ≡ verdicts.Refused k p → nearestAfter v ps ≡ nearests.Refused k p
+  pub nearest-refused : {v : Verdict} (k p : ℕ) → v ≡ verdicts.Refused k p → nearestAfter W v ps ≡ nearests.Refused k p
   unfolding nearestAfter
   nearest-refused k p e = rw e
 
-  pub parts-refused : {v : Verdict} (area : List Float) (k p : ℕ) → v ≡ verdicts.Refused k p → outcome (parteds.Refused k p) area ≡ partsAfter v ps area
+  pub parts-refused : {v : Verdict} (area : List Float) (k p : ℕ) → v ≡ verdicts.Refused k p → outcome (parteds.Refused k p) area ≡ partsAfter W v ps area
   unfolding partsAfter
   parts-refused area k p e = rw e
 
@@ -55,18 +55,18 @@ whole-zero ws = elim (le-or-lt (2 ^ (registerBits - 1)) u) [
     some h = ne-eqb u 0 (λ (e : u ≡ 0). not-le-of-lt (pow-pos (registerBits - 1)) (rw e at h))
 
 -- ---- the parts of an allowed list, from the words and the area that are left
-pub parts-answer : {v : Verdict} (ps ws : List ℕ) (area xs : List Float) (z b : Bool) → v ≡ verdicts.Good → z ≡ zeroSign ps
-    → xs ≡ parts (doubles .format) (length area) z (sumOf (doubles .format) ps)
-    → wholeOf ws ≡ remaining (doubles .format) (length area) z (sumOf (doubles .format) ps) → b ≡ eqb (number wordBits ws) 0
-    → outcome (parteds.Parts b) xs ≡ partsAfter v ps area
+pub parts-answer : (W : Width) {v : Verdict} (ps ws : List ℕ) (area xs : List Float) (z b : Bool) → v ≡ verdicts.Good → z ≡ zeroSign ps
+    → xs ≡ parts (W .format) (length area) z (sumOf (W .format) ps)
+    → wholeOf ws ≡ remaining (W .format) (length area) z (sumOf (W .format) ps) → b ≡ eqb (number wordBits ws) 0
+    → outcome (parteds.Parts b) xs ≡ partsAfter W v ps area
 unfolding partsAfter
-parts-answer ps ws area xs z b e zs x w n = rw (e, ← zs) (λ i. record { answer = parteds.Parts (adds i); area = x i })
+parts-answer W ps ws area xs z b e zs x w n = rw (e, ← zs) (λ i. record { answer = parteds.Parts (adds i); area = x i })
   where
     S : ℤ
-    S = sumOf (doubles .format) ps
+    S = sumOf (W .format) ps
 
-    same : wholeOf ws ≡ S -ℤ exactSum (map (value (doubles .format)) (parts (doubles .format) (length area) z S))
-    same = w ∙ sym (parts-left (doubles .format) (length area) z S)
+    same : wholeOf ws ≡ S -ℤ exactSum (map (value (W .format)) (parts (W .format) (length area) z S))
+    same = w ∙ sym (parts-left (W .format) (length area) z S)
 
-    adds : b ≡ addUp (doubles .format) (parts (doubles .format) (length area) z S) S
+    adds : b ≡ addUp (W .format) (parts (W .format) (length area) z S) S
     adds = n ∙ whole-zero ws ∙ ap (λ (r : ℤ). eqb (natAbs r) 0) same

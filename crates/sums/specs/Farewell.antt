@@ -23,7 +23,7 @@ use Rattle.sums.specs.AnswerLaws.{nearest-good}
 
 -- qs is a list of what stayed: an accepted list with the exact sum of the history without p
 pub farewell-rounds : (xs ys zs : List Change) (p : ℕ) (qs : List ℕ) → AllEntered zeros (history xs ys zs p) → ListWhen doubles true true qs Good
-    → exactSum (map changeOf (stayed xs ys zs)) ≡ sumOf (doubles .format) qs → rounded (run zeros (history xs ys zs p)) ≡ nearestOf qs
+    → exactSum (map changeOf (stayed xs ys zs)) ≡ sumOf (doubles .format) qs → rounded (run zeros (history xs ys zs p)) ≡ nearestOf doubles qs
 farewell-rounds xs ys zs p qs A G e =
     let f = doubles .format in
     let cs = history xs ys zs p in
@@ -32,4 +32,4 @@ farewell-rounds xs ys zs p qs A G e =
     let small : natAbs (wholeOf (run zeros cs)) < limit f = rw whole (sum-below-limit (list-passed G .few) (list-allowed G)) in
     rounded-sum (run zeros cs) (run-held zeros cs zeros-held .long) small
     ∙ ap (λ (z : ℤ). Sum (nearestFloat f false z)) whole
-    ∙ sym (nearest-good qs (list-when doubles true true qs Good .1 G))
+    ∙ sym (nearest-good doubles qs (list-when doubles true true qs Good .1 G))

@@ -11,9 +11,9 @@ use lib.Ieee.{Float, Format, toBits}
 use Rattle.ieee.specs.Units.{value, nearestFloat, limit}
 use Rattle.ieee.specs.Accuracy.{NearestTo}
 use Rattle.ieee.specs.Nearest.{nearest-nearest}
-use Rattle.kinds.specs.Limits.{doubles}
+use Rattle.kinds.specs.Limits.{Width, doubles}
 use Rattle.kinds.specs.Outcome.{Outcome, outcome}
-use Rattle.kinds.specs.Heard.{pattern, nearestHeard, nearest}
+use Rattle.kinds.specs.Heard.{nearestHeard, nearest}
 use Rattle.kinds.specs.declared.Verdict.{Verdict}
 use Rattle.kinds.specs.declared.Verdict.the-variants as verdicts
 use Rattle.kinds.specs.declared.Nearest.{Nearest}
@@ -62,60 +62,64 @@ unfolding parts nearestFloat toBits value
 parts-zero zero z S e s = refl
 parts-zero (suc k) z S e s = rw (e, s) (ap (λ (xs : List ℕ). 0 ∷ xs) (parts-zero k false (pos 0) refl refl))
 
-module _ (ps : List ℕ) where
-  abbrev S : ℤ
-  S = sumOf (doubles .format) ps
-
-  nearest-from : (v : Verdict) → nearest-verdict (nearestAfter v ps) ≡ v
+-- a refusal is given exactly when its row of the table says
+module _ (W : Width) (ps : List ℕ) where
+  nearest-from : (v : Verdict) → nearest-verdict (nearestAfter W v ps) ≡ v
   unfolding nearestAfter
   nearest-from verdicts.Good = refl
   nearest-from (verdicts.Refused k i) = refl
 
-  -- a refusal is given exactly when its row of the table says
-  pub nearest-refusals : (k i : ℕ) → (nearestOf ps ≡ nearests.Refused k i) ↔ ListWhen doubles true true ps (verdicts.Refused k i)
+  pub nearest-refusals : (k i : ℕ) → (nearestOf W ps ≡ nearests.Refused k i) ↔ ListWhen W true true ps (verdicts.Refused k i)
   nearest-refusals k i = (
-    λ e. list-when doubles true true ps (verdicts.Refused k i) .0 (sym (nearest-from (judged doubles true true ps)) ∙ ap nearest-verdict e),
-    λ G. nearest-refused ps k i (list-when doubles true true ps (verdicts.Refused k i) .1 G),
+    λ e. list-when W true true ps (verdicts.Refused k i) .0 (sym (nearest-from (judged W true true ps)) ∙ ap nearest-verdict e),
+    λ G. nearest-refused W ps k i (list-when W true true ps (verdicts.Refused k i) .1 G),
   )
 
-  module _ (G : ListWhen doubles true true ps verdicts.Good) where
-    -- "the double nearest S, ties to even significand", for every list that isn't refused
-    pub nearest-promised : let x = nearestFloat (doubles .format) (zeroSign ps) S in
-        (nearestHeard (nearestOf ps) ≡ nearest (pattern x)) × NearestTo (doubles .format) S x
-    nearest-promised = (
-      ap nearestHeard (nearest-good ps (list-when doubles true true ps verdicts.Good .1 G)),
-      nearest-nearest (doubles .format) (zeroSign ps) S (sum-below-limit (list-passed G .few) (list-allowed G)),
-    )
-
-    -- "A zero S gives +0."
-    pub nearest-zero : S ≡ pos 0 → nearestHeard (nearestOf ps) ≡ nearest 0
-    nearest-zero s = nearest-promised .0 ∙ ap nearest (zero-pattern (zeroSign ps) S refl s)
-
   module _ (area : List Float) where
-    parts-from : (v : Verdict) → parts-verdict (partsAfter v ps area .answer) ≡ v
+    parts-from : (v : Verdict) → parts-verdict (partsAfter W v ps area .answer) ≡ v
     unfolding partsAfter
     parts-from verdicts.Good = refl
     parts-from (verdicts.Refused k i) = refl
 
-    pub parts-refusals : (k i : ℕ) → (partsOf ps area ≡ outcome (parteds.Refused k i) area) ↔ ListWhen doubles true (fitting area) ps (verdicts.Refused k i)
+    pub parts-refusals : (k i : ℕ)
+        → (partsOf W ps area ≡ outcome (parteds.Refused k i) area) ↔ ListWhen W true (fitting W area) ps (verdicts.Refused k i)
     parts-refusals k i = (
-      λ e. list-when doubles true (fitting area) ps (verdicts.Refused k i) .0 (
-          sym (parts-from (judged doubles true (fitting area) ps)) ∙ ap (λ (r : Outcome Parted Float). parts-verdict (r .answer)) e
+      λ e. list-when W true (fitting W area) ps (verdicts.Refused k i) .0 (
+          sym (parts-from (judged W true (fitting W area) ps)) ∙ ap (λ (r : Outcome Parted Float). parts-verdict (r .answer)) e
           ),
-      λ G. sym (parts-refused ps area k i (list-when doubles true (fitting area) ps (verdicts.Refused k i) .1 G)),
+      λ G. sym (parts-refused W ps area k i (list-when W true (fitting W area) ps (verdicts.Refused k i) .1 G)),
     )
 
+-- ---- what is answered otherwise. The sum of an allowed list of doubles is below their limit.
+module _ (ps : List ℕ) where
+  abbrev S : ℤ
+  S = sumOf (doubles .format) ps
+
+  module _ (G : ListWhen doubles true true ps verdicts.Good) where
+    -- "the double nearest S, ties to even significand", for every list that isn't refused
+    pub nearest-promised : let x = nearestFloat (doubles .format) (zeroSign ps) S in
+        (nearestHeard doubles (nearestOf doubles ps) ≡ nearest (toBits (doubles .format) x)) × NearestTo (doubles .format) S x
+    nearest-promised = (
+      ap (nearestHeard doubles) (nearest-good doubles ps (list-when doubles true true ps verdicts.Good .1 G)),
+      nearest-nearest (doubles .format) (zeroSign ps) S (sum-below-limit (list-passed G .few) (list-allowed G)),
+    )
+
+    -- "A zero S gives +0."
+    pub nearest-zero : S ≡ pos 0 → nearestHeard doubles (nearestOf doubles ps) ≡ nearest 0
+    nearest-zero s = nearest-promised .0 ∙ ap nearest (zero-pattern (zeroSign ps) S refl s)
+
+  module _ (area : List Float) where
     -- what an accepted call leaves
     abbrev left : List Float
     left = parts (doubles .format) (length area) (zeroSign ps) S
 
-    pub parts-promised : ListWhen doubles true (fitting area) ps verdicts.Good
-        → (partsOf ps area ≡ outcome (parteds.Parts (addUp (doubles .format) left S)) left)
+    pub parts-promised : ListWhen doubles true (fitting doubles area) ps verdicts.Good
+        → (partsOf doubles ps area ≡ outcome (parteds.Parts (addUp (doubles .format) left S)) left)
         × EachNearest (doubles .format) S left × NonOverlapping (doubles .format) left
     unfolding partsAfter
     parts-promised G =
         let l = sum-below-limit (list-passed G .few) (list-allowed G) in (
-          rw (list-when doubles true (fitting area) ps verdicts.Good .1 G),
+          rw (list-when doubles true (fitting doubles area) ps verdicts.Good .1 G),
           parts-nearest (doubles .format) (length area) (zeroSign ps) S l,
           parts-apart (doubles .format) (length area) (zeroSign ps) S l,
         )

@@ -8,7 +8,7 @@ use lib.ListN.{length}
 use lib.Ieee.{Float, Format, ofBits}
 use Rattle.units.specs.Whole.{exactSum}
 use Rattle.ieee.specs.Units.{value, nearestFloat}
-use Rattle.kinds.specs.Limits.{doubles}
+use Rattle.kinds.specs.Limits.{Width}
 use Rattle.kinds.specs.Outcome.{Outcome, outcome}
 use Rattle.kinds.specs.declared.Verdict.{Verdict}
 use Rattle.kinds.specs.declared.Verdict.the-variants as verdicts
@@ -23,12 +23,12 @@ abbrev pub sumOf : Format → List ℕ → ℤ
 sumOf f ps = exactSum (map (λ (p : ℕ). value f (ofBits f p)) ps)
 
 -- ---- "Nearest: the double nearest S, ties to even significand. A zero S gives +0."
-unfoldable pub nearestAfter : Verdict → List ℕ → Nearest
-nearestAfter verdicts.Good ps = nearests.Sum (nearestFloat (doubles .format) (zeroSign ps) (sumOf (doubles .format) ps))
-nearestAfter (verdicts.Refused k p) ps = nearests.Refused k p
+unfoldable pub nearestAfter : Width → Verdict → List ℕ → Nearest
+nearestAfter W verdicts.Good ps = nearests.Sum (nearestFloat (W .format) (zeroSign ps) (sumOf (W .format) ps))
+nearestAfter W (verdicts.Refused k p) ps = nearests.Refused k p
 
-abbrev pub nearestOf : List ℕ → Nearest
-nearestOf ps = nearestAfter (judged doubles true true ps) ps
+abbrev pub nearestOf : Width → List ℕ → Nearest
+nearestOf W ps = nearestAfter W (judged W true true ps) ps
 
 -- ---- "Parts: f1 is nearest to S, each next part nearest to S less the parts before, zeros +0." z is the sign of a zero first part
 unfoldable pub parts : Format → ℕ → Bool → ℤ → List Float
@@ -40,16 +40,16 @@ abbrev pub addUp : Format → List Float → ℤ → Bool
 addUp f xs S = eqb (natAbs (S -ℤ exactSum (map (value f) xs))) 0
 
 -- the answer, and the parts slice afterwards
-unfoldable pub partsAfter : Verdict → List ℕ → List Float → Outcome Parted Float
-partsAfter verdicts.Good ps area =
-    let S = sumOf (doubles .format) ps in
-    let xs = parts (doubles .format) (length area) (zeroSign ps) S in
-    outcome (parteds.Parts (addUp (doubles .format) xs S)) xs
-partsAfter (verdicts.Refused k p) ps area = outcome (parteds.Refused k p) area
+unfoldable pub partsAfter : Width → Verdict → List ℕ → List Float → Outcome Parted Float
+partsAfter W verdicts.Good ps area =
+    let S = sumOf (W .format) ps in
+    let xs = parts (W .format) (length area) (zeroSign ps) S in
+    outcome (parteds.Parts (addUp (W .format) xs S)) xs
+partsAfter W (verdicts.Refused k p) ps area = outcome (parteds.Refused k p) area
 
 -- the length that a parts slice may have
-abbrev pub fitting : List Float → Bool
-fitting area = leb 1 (length area) && leb (length area) (doubles .parts)
+abbrev pub fitting : Width → List Float → Bool
+fitting W area = leb 1 (length area) && leb (length area) (W .parts)
 
-abbrev pub partsOf : List ℕ → List Float → Outcome Parted Float
-partsOf ps area = partsAfter (judged doubles true (fitting area) ps) ps area
+abbrev pub partsOf : Width → List ℕ → List Float → Outcome Parted Float
+partsOf W ps area = partsAfter W (judged W true (fitting W area) ps) ps area

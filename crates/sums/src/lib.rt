@@ -5,16 +5,17 @@ use kinds::Parted;
 use kinds::Verdict;
 use words::WORDS;
 
-mod exact;
+pub mod exact;
 mod split;
 
 ghost use mathlib.Core.Path.{_≡_};
+ghost use Rattle.kinds.specs.Limits.{doubles};
 ghost use Rattle.kinds.specs.Outcome.{outcome};
 ghost use Rattle.sums.specs.Sums.{nearestOf, partsOf};
 
 // "Nearest: the double nearest S, ties to even significand."
 pub fn nearest(list: &[u64]) -> Nearest
-    ensures { λ r. ⌜ r ≡ nearestOf (now (list .entry)) ⌝ }
+    ensures { λ r. ⌜ r ≡ nearestOf doubles (now (list .entry)) ⌝ }
 {
     match judge::judge(list, true, true) {
         Verdict::Refused(k, place) => Nearest::Refused(k, place),
@@ -29,7 +30,7 @@ pub fn nearest(list: &[u64]) -> Nearest
 
 // "Parts: f1 is nearest to S, each next part nearest to S less the parts before, zeros +0. The answer also says whether the parts add up to S."
 pub fn parts(list: &[u64], area: &mut [f64]) -> Parted
-    ensures { λ r. ⌜ outcome r (now (area .exit)) ≡ partsOf (now (list .entry)) (now (area .entry)) ⌝ }
+    ensures { λ r. ⌜ outcome r (now (area .exit)) ≡ partsOf doubles (now (list .entry)) (now (area .entry)) ⌝ }
 {
     let count = area.len();
     let fits = (1 <= count) & (count <= Doubles::PARTS);

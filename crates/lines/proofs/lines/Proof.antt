@@ -3,7 +3,7 @@ use mathlib.Core.Path.{_≡_}
 use Prim.Native.Nat.{_-_}
 use native.Mathlib.Omega.{arith}
 use lib.ListN.{length-take}
-use Rattle.lines.specs.LinesLaws.{sheet-refused, sheet-read, read-few, read-room}
+use Rattle.lines.specs.LinesLaws.{sheet-refused, read-refusal, sheet-accepted, read-few, read-room}
 use borrow.Author.Needs.{needs}
 use Rattle.lines.proofs.lines.Statement.{statement}
 use Rattle.lines.proofs.lines.Tie as tie
@@ -15,7 +15,11 @@ enum-known-k : tie.Need-enum-known-k
 enum-known-k c = search needs
 
 refused-requires : tie.Need-refused-requires
-refused-requires c κs = search needs
+refused-requires c κs =
+    let k = c .before .before in
+    let r = k .before .before .before .before in
+    let a = r .before .before .before .before .before .before .args in
+    (read-refusal (a .sheet .now) (a .numbers .now) (a .work .now) (a .text .now) (r .read .ensures) _ _ (k .k .given .1), search needs)
 
 enum-known-n : tie.Need-enum-known-n
 enum-known-n c = search needs
@@ -87,7 +91,7 @@ returns-2 c =
     let a = r .before .before .before .before .before .before .args in
     let z : n .n .given .0 .0 - 0 ≡ n .n .given .0 .0 = omega arith in
     let e = rw z at (s .summed .ensures) in
-    rw z (sheet-read (a .sheet .now) (a .numbers .now) (a .work .now) (a .text .now) (r .read .ensures) _ (n .n .given .1) (e .0) (e .1))
+    rw z (sheet-accepted (a .sheet .now) (a .numbers .now) (a .work .now) (a .text .now) (r .read .ensures) _ (n .n .given .1) (e .0) (e .1))
 
 pub lines-spec : {M : Type 1} → statement M
 lines-spec =

@@ -2,9 +2,10 @@
 use mathlib.Core.Path.{sym, ap, _∙_}
 use borrow.Author.Needs.{needs}
 use native.Mathlib.Omega.{arith}
+use Rattle.kinds.specs.Limits.{doubles}
 use Rattle.walk.specs.Walk.{Walked}
-use Rattle.sums.specs.AnswerNumbers.{nearest-no-nan}
-use Rattle.runs.specs.AnswerNumbers.{faithful-no-nan, faithful-rounds}
+use Rattle.sums.specs.AnswerNumbers.{nearest-no-nan, nearest-refusal}
+use Rattle.runs.specs.AnswerNumbers.{faithful-no-nan, faithful-rounds, faithful-refusal}
 use Rattle.numerals.specs.TextLaws.{nothing}
 use Rattle.lines.specs.SumLaws.{lines-more, lines-refused, lines-near-refused, lines-three}
 use Rattle.lines.proofs.summed.Statement.{statement}
@@ -20,7 +21,11 @@ enum-known-k : tie.Need-enum-known-k
 enum-known-k c = search needs
 
 refused-requires : tie.Need-refused-requires
-refused-requires c κs = search needs
+refused-requires c κs =
+    let k = c .before .before in
+    let f = k .before .before .before .before in
+    let a = f .before .before .before .before .before .args in
+    (faithful-refusal (a .list .now) (a .work .now) _ _ (ap (λ (w : Walked). w .answer) (sym (f .faithful .ensures)) ∙ k .k .given .1), search needs)
 
 enum-known-sum : tie.Need-enum-known-sum
 enum-known-sum c = search needs
@@ -32,7 +37,12 @@ enum-known-k-2 : tie.Need-enum-known-k-2
 enum-known-k-2 c = search needs
 
 refused-requires-2 : tie.Need-refused-requires-2
-refused-requires-2 c κs = search needs
+refused-requires-2 c κs =
+    let k = c .before .before in
+    let n = k .before .before in
+    let f = n .before .before .before .before .before .before in
+    let a = f .before .before .before .before .before .args in
+    (nearest-refusal doubles (a .list .now) _ _ (sym (n .nearest .ensures) ∙ k .k2 .given .1), search needs)
 
 enum-known-near : tie.Need-enum-known-near
 enum-known-near c = search needs

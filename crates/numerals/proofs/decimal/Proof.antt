@@ -2,7 +2,7 @@
 use Prim.Native.Nat.{_≤_}
 use native.Mathlib.Omega.{arith}
 use lib.ListN.{length}
-use Rattle.numerals.specs.TextLaws.{joined}
+use Rattle.numerals.specs.TextLaws.{placed-behind}
 use Rattle.numerals.specs.NumeralLaws.{front-decimal}
 use borrow.Author.Needs.{needs}
 use Rattle.numerals.proofs.decimal.Statement.{statement}
@@ -42,7 +42,7 @@ returns c =
     let s = p .before .before .before .before in
     let e = front-decimal (s .args .n) (d .decimal .result) (d .decimal .last .1 .0) (d .decimal .ensures .1 .0) (d .decimal .ensures .1 .1) in
     let h : s .args .end ≤ length (s .args .text .now) = omega (arith, s .pre) in
-    joined h (p .put .ensures) (rw e at (q .put2 .ensures))
+    placed-behind h (p .put .ensures) (rw e at (q .put2 .ensures))
 
 pub decimal-spec : {M : Type 1} → statement M
 decimal-spec =

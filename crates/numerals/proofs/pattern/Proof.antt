@@ -2,7 +2,7 @@
 use Prim.Native.Nat.{_≤_}
 use native.Mathlib.Omega.{arith}
 use lib.ListN.{length}
-use Rattle.numerals.specs.TextLaws.{joined}
+use Rattle.numerals.specs.TextLaws.{placed-behind}
 use borrow.Author.Needs.{needs}
 use Rattle.numerals.proofs.pattern.Statement.{statement}
 use Rattle.numerals.proofs.pattern.Tie as tie
@@ -32,7 +32,7 @@ returns c =
     let p = d .before .before .before .before in
     let s = p .before .before .before .before in
     let h : s .args .end ≤ length (s .args .text .now) = omega (arith, s .pre) in
-    joined h (p .put .ensures) (rw (d .capitals .ensures) at (q .put2 .ensures))
+    placed-behind h (p .put .ensures) (rw (d .capitals .ensures) at (q .put2 .ensures))
 
 pub pattern-spec : {M : Type 1} → statement M
 pattern-spec =

@@ -50,7 +50,7 @@ returns : tie.Need-returns
 returns c =
     let j = c .before .before .before in
     let ps = j .before .before .args .list .now in
-    sym (nearest-refused ps _ _ (sym (j .judge .ensures) ∙ c .before .k .given .1))
+    sym (nearest-refused doubles ps _ _ (sym (j .judge .ensures) ∙ c .before .k .given .1))
 
 returns-2 : tie.Need-returns-2
 returns-2 c =
@@ -61,7 +61,7 @@ returns-2 c =
     let e = sym (j .judge .ensures) ∙ t .before .before .enum-told .given .1 in
     let v = list-when doubles true true ps Good .0 e in
     let w = total-whole (sumOf (doubles .format) ps) (sum-below-limit (list-passed v .few) (list-allowed v)) (t .total .ensures) in
-    ap Sum (c .nearest-double .ensures ∙ (λ i. nearestFloat (doubles .format) (z .zero-sign .ensures i) (w i))) ∙ sym (nearest-good ps e)
+    ap Sum (c .nearest-double .ensures ∙ (λ i. nearestFloat (doubles .format) (z .zero-sign .ensures i) (w i))) ∙ sym (nearest-good doubles ps e)
 
 pub nearest-spec : {M : Type 1} → statement M
 nearest-spec =

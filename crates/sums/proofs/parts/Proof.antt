@@ -57,7 +57,7 @@ returns : tie.Need-returns
 returns c =
     let j = c .before .before .before in
     let g = j .before .before .before in
-    parts-refused (g .args .list .now) (g .args .area .now) _ _ (sym (j .judge .ensures) ∙ c .before .k .given .1)
+    parts-refused doubles (g .args .list .now) (g .args .area .now) _ _ (sym (j .judge .ensures) ∙ c .before .k .given .1)
 
 same-length : tie.Need-same-length
 same-length c = search needs
@@ -75,7 +75,7 @@ returns-2 c =
     let v = list-when doubles true _ ps Good .0 e in
     let w = total-whole (sumOf (doubles .format) ps) (sum-below-limit (list-passed v .few) (list-allowed v)) (t .total .ensures) in
     let zero = z .zero-sign .result in
-    parts-answer ps (s .split .last .0) area (s .split .last .1 .0) zero (c .is-zero .result) e (z .zero-sign .ensures)
+    parts-answer doubles ps (s .split .last .0) area (s .split .last .1 .0) zero (c .is-zero .result) e (z .zero-sign .ensures)
     (s .split .ensures .0 ∙ ap (λ (y : ℤ). parts (doubles .format) (length area) zero y) w)
     (s .split .ensures .1 ∙ ap (λ (y : ℤ). remaining (doubles .format) (length area) zero y) w)
     (c .is-zero .ensures)

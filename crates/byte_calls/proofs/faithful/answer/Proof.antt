@@ -4,13 +4,13 @@ use mathlib.Core.Path.{sym, ap, _∙_}
 use mathlib.Core.List.{[]}
 use Prim.Native.Nat.{ℕ}
 use borrow.Author.Needs.{needs}
+use Rattle.kinds.specs.Limits.{doubles}
 use Rattle.kinds.specs.Outcome.{outcome}
 use Rattle.kinds.specs.Heard.{Heard, stepHeard}
 use Rattle.walk.specs.Walk.{Walked}
-use Rattle.runs.specs.AnswerNumbers.{faithful-no-nan, faithful-not-more}
+use Rattle.runs.specs.AnswerNumbers.{faithful-no-nan, faithful-not-more, faithful-refusal}
 use Rattle.calls.specs.Calls.{answered}
 use Rattle.calls.specs.CallsLaws.{answered-done, answered-refused}
-use Rattle.calls.specs.RefusalLaws.{faithful-refusal}
 use Rattle.byte_calls.proofs.faithful.answer.Statement.{statement}
 use Rattle.byte_calls.proofs.faithful.answer.Tie as tie
 
@@ -64,7 +64,7 @@ returns c =
     let a = start .args in
     let e = sym (ap (λ (w : Walked). w .answer) (after-faithful .faithful .ensures)) ∙ after-x .x .given .1 in
     ap (outcome 0) (after-answer .answer .ensures)
-    ∙ sym (answered-done (a .out .now) [] _ _) ∙ ap (λ (x : Heard). answered x (a .out .now) []) (sym (ap stepHeard e))
+    ∙ sym (answered-done (a .out .now) [] _ _) ∙ ap (λ (x : Heard). answered x (a .out .now) []) (sym (ap (stepHeard doubles) e))
 
 same-length-3 : tie.Need-same-length-3
 same-length-3 c = search needs
@@ -78,7 +78,7 @@ returns-2 c =
     let e = sym (ap (λ (w : Walked). w .answer) (after-faithful .faithful .ensures)) ∙ after-number .number .given .1 in
     ap (λ (n : ℕ). outcome n (a .out .now)) (c .refusal .ensures)
     ∙ sym (answered-refused (a .out .now) [] (after-number .number .given .0 .0) (after-number .number .given .0 .1 .0))
-    ∙ ap (λ (x : Heard). answered x (a .out .now) []) (sym (ap stepHeard e))
+    ∙ ap (λ (x : Heard). answered x (a .out .now) []) (sym (ap (stepHeard doubles) e))
 
 same-length-4 : tie.Need-same-length-4
 same-length-4 c = search needs

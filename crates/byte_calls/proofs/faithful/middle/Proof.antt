@@ -1,9 +1,8 @@
 -- `byte_calls::faithful::middle` meets its contract: 512 places hold the list. Assumes nothing.
-use mathlib.Core.Path.{sym, _∙_}
-use Prim.Native.Nat.{ℕ}
+use mathlib.Core.Path.{sym}
 use borrow.Author.Needs.{needs}
 use lib.Ieee.{ofBits, binary64}
-use Rattle.calls.specs.CallsLaws.{own-front, front-length}
+use Rattle.calls.specs.CallsLaws.{front-length, front-bytes, front-own}
 use Rattle.byte_calls.proofs.faithful.middle.Statement.{statement}
 use Rattle.byte_calls.proofs.faithful.middle.Tie as tie
 
@@ -24,9 +23,7 @@ slice-aggregate-within-2 c =
 within-requires : tie.Need-within-requires
 within-requires c κs =
     let start = c .before .before .before .before .before in
-    let f = start .pre .0 in
-    let l = front-length {A = ℕ} f 0 in
-    (f .whole ∙ rw l, own-front _ 512 (f .few) ∙ rw l, start .pre .1)
+    (front-bytes (start .pre .0), front-own (start .pre .0), start .pre .1)
 
 same-length : tie.Need-same-length
 same-length c = search needs

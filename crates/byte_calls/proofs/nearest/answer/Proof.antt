@@ -3,12 +3,12 @@ use mathlib.Core.Path.{sym, ap, _∙_}
 use mathlib.Core.List.{[]}
 use Prim.Native.Nat.{ℕ}
 use borrow.Author.Needs.{needs}
+use Rattle.kinds.specs.Limits.{doubles}
 use Rattle.kinds.specs.Outcome.{outcome}
 use Rattle.kinds.specs.Heard.{Heard, nearestHeard}
-use Rattle.sums.specs.AnswerNumbers.{nearest-no-nan}
+use Rattle.sums.specs.AnswerNumbers.{nearest-no-nan, nearest-refusal}
 use Rattle.calls.specs.Calls.{answered}
 use Rattle.calls.specs.CallsLaws.{answered-nearest, answered-refused}
-use Rattle.calls.specs.RefusalLaws.{nearest-refusal}
 use Rattle.byte_calls.proofs.nearest.answer.Statement.{statement}
 use Rattle.byte_calls.proofs.nearest.answer.Tie as tie
 
@@ -36,7 +36,7 @@ refusal-requires c κs =
     let after-number = c .before in
     let after-nearest = after-number .before .before in
     let start = after-nearest .before .before .before in
-    nearest-refusal (start .args .numbers .now) _ _ (sym (after-nearest .nearest .ensures) ∙ after-number .number .given .1)
+    nearest-refusal doubles (start .args .numbers .now) _ _ (sym (after-nearest .nearest .ensures) ∙ after-number .number .given .1)
 
 same-length : tie.Need-same-length
 same-length c = search needs
@@ -50,7 +50,7 @@ returns c =
     let a = start .args in
     let e = sym (after-nearest .nearest .ensures) ∙ after-x .x .given .1 in
     ap (outcome 0) (after-answer .answer .ensures)
-    ∙ sym (answered-nearest (a .out .now) [] _) ∙ ap (λ (x : Heard). answered x (a .out .now) []) (sym (ap nearestHeard e))
+    ∙ sym (answered-nearest (a .out .now) [] _) ∙ ap (λ (x : Heard). answered x (a .out .now) []) (sym (ap (nearestHeard doubles) e))
 
 returns-2 : tie.Need-returns-2
 returns-2 c =
@@ -61,7 +61,7 @@ returns-2 c =
     let e = sym (after-nearest .nearest .ensures) ∙ after-number .number .given .1 in
     ap (λ (n : ℕ). outcome n (a .out .now)) (c .refusal .ensures)
     ∙ sym (answered-refused (a .out .now) [] (after-number .number .given .0 .0) (after-number .number .given .0 .1 .0))
-    ∙ ap (λ (x : Heard). answered x (a .out .now) []) (sym (ap nearestHeard e))
+    ∙ ap (λ (x : Heard). answered x (a .out .now) []) (sym (ap (nearestHeard doubles) e))
 
 pub answer-spec : {M : Type 1} → statement M
 answer-spec =

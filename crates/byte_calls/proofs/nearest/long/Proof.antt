@@ -1,8 +1,7 @@
 -- `byte_calls::nearest::long` meets its contract: 4094 places hold the list. Assumes nothing.
-use mathlib.Core.Path.{sym, _∙_}
-use Prim.Native.Nat.{ℕ}
+use mathlib.Core.Path.{sym}
 use borrow.Author.Needs.{needs}
-use Rattle.calls.specs.CallsLaws.{front-length}
+use Rattle.calls.specs.CallsLaws.{front-length, front-bytes}
 use Rattle.byte_calls.proofs.nearest.long.Statement.{statement}
 use Rattle.byte_calls.proofs.nearest.long.Tie as tie
 
@@ -15,8 +14,7 @@ slice-aggregate-within c = sym (front-length (c .before .before .before .pre .0)
 within-requires : tie.Need-within-requires
 within-requires c κs =
     let start = c .before .before .before .before in
-    let f = start .pre .0 in
-    (f .whole ∙ rw (front-length {A = ℕ} f 0), start .pre .1)
+    (front-bytes (start .pre .0), start .pre .1)
 
 same-length : tie.Need-same-length
 same-length c = search needs

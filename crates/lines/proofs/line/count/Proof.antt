@@ -3,7 +3,7 @@ use Prim.Native.Nat.{_≤_}
 use native.Mathlib.Omega.{arith}
 use lib.ListN.{length}
 use Rattle.lines.specs.Lines.{countLine}
-use Rattle.numerals.specs.TextLaws.{joined}
+use Rattle.numerals.specs.TextLaws.{placed-behind}
 use borrow.Author.Needs.{needs}
 use Rattle.lines.proofs.line.count.Statement.{statement}
 use Rattle.lines.proofs.line.count.Tie as tie
@@ -30,7 +30,7 @@ returns c =
     let d = p .before .before .before .before .before in
     let s = d .before .before .before .before in
     let h : s .args .end ≤ length (s .args .text .now) = omega (arith, s .pre) in
-    joined h (d .decimal .ensures) (p .put .ensures)
+    placed-behind h (d .decimal .ensures) (p .put .ensures)
 
 pub count-spec : {M : Type 1} → statement M
 count-spec =

@@ -3,7 +3,7 @@ use Prim.Native.Nat.{_≤_}
 use native.Mathlib.Omega.{arith}
 use lib.ListN.{length}
 use Rattle.lines.specs.Lines.{faithfulLine}
-use Rattle.numerals.specs.TextLaws.{joined}
+use Rattle.numerals.specs.TextLaws.{placed-behind}
 use Rattle.lines.specs.LineLaws.{hex-length}
 use borrow.Author.Needs.{needs}
 use Rattle.lines.proofs.line.faithful.Statement.{statement}
@@ -41,7 +41,7 @@ returns c =
     let p = d .before .before .before .before .before in
     let s = p .before .before .before .before in
     let h : s .args .end ≤ length (s .args .text .now) = omega (arith, s .pre) in
-    joined h (joined h (p .pattern .ensures) (d .decimal .ensures)) (q .put .ensures)
+    placed-behind h (placed-behind h (p .pattern .ensures) (d .decimal .ensures)) (q .put .ensures)
 
 pub faithful-spec : {M : Type 1} → statement M
 faithful-spec =

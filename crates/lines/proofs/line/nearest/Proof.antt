@@ -3,7 +3,7 @@ use Prim.Native.Nat.{_≤_}
 use native.Mathlib.Omega.{arith}
 use lib.ListN.{length}
 use Rattle.lines.specs.Lines.{nearestLine}
-use Rattle.numerals.specs.TextLaws.{joined}
+use Rattle.numerals.specs.TextLaws.{placed-behind}
 use Rattle.lines.specs.LineLaws.{hex-length}
 use borrow.Author.Needs.{needs}
 use Rattle.lines.proofs.line.nearest.Statement.{statement}
@@ -31,7 +31,7 @@ returns c =
     let d = p .before .before .before .before .before in
     let s = d .before .before .before .before in
     let h : s .args .end ≤ length (s .args .text .now) = omega (arith, s .pre) in
-    joined h (d .pattern .ensures) (p .put .ensures)
+    placed-behind h (d .pattern .ensures) (p .put .ensures)
 
 pub nearest-spec : {M : Type 1} → statement M
 nearest-spec =

@@ -1,8 +1,8 @@
 -- `lines::line::refused` meets its contract: its pieces, one behind the other, are the line, with a place where one is told. Assumes nothing.
 use mathlib.Core.Path.{sym, _∙_}
 use native.Mathlib.Omega.{arith}
-use Rattle.numerals.specs.TextLaws.{joined}
-use Rattle.lines.specs.LineLaws.{word-length, line-told, line-untold}
+use Rattle.numerals.specs.TextLaws.{placed-behind}
+use Rattle.lines.specs.LineLaws.{word-length, line-told, line-silent}
 use borrow.Author.Needs.{needs}
 use Rattle.lines.proofs.line.refused.Statement.{statement}
 use Rattle.lines.proofs.line.refused.Tie as tie
@@ -13,8 +13,8 @@ slice-aggregate-decimal c = search needs
 decimal-requires : tie.Need-decimal-requires
 decimal-requires c κs = let s = c .before .before .before in omega (arith, word-length (s .args .k) (s .fits .k .fits))
 
-place-told-requires : tie.Need-place-told-requires
-place-told-requires c κs = search needs
+tells-requires : tie.Need-tells-requires
+tells-requires c κs = search needs
 
 slice-aggregate-decimal-2 : tie.Need-slice-aggregate-decimal-2
 slice-aggregate-decimal-2 c = search needs
@@ -45,8 +45,8 @@ returns c =
     let t = e .before .before .before in
     let d = t .before .before .before .before in
     let s = d .before .before .before .before in
-    rw (line-told (s .args .k) (s .args .place) (sym (t .before .place-told .ensures) ∙ t .if1 .taken))
-    (joined (omega arith) (joined (omega arith) (d .decimal .ensures) (e .decimal2 .ensures)) (p .put .ensures))
+    rw (line-told (s .pre .0) (sym (t .before .tells .ensures) ∙ t .if1 .taken))
+    (placed-behind (omega arith) (placed-behind (omega arith) (d .decimal .ensures) (e .decimal2 .ensures)) (p .put .ensures))
 
 slice-aggregate-put-2 : tie.Need-slice-aggregate-put-2
 slice-aggregate-put-2 c = search needs
@@ -66,8 +66,8 @@ returns-2 c =
     let t = p .before .before .before in
     let d = t .before .before .before .before in
     let s = d .before .before .before .before in
-    rw (line-untold (s .args .k) (s .args .place) (sym (t .before .place-told .ensures) ∙ t .if1 .left))
-    (joined (omega arith) (d .decimal .ensures) (p .put2 .ensures))
+    rw (line-silent (s .pre .0) (sym (t .before .tells .ensures) ∙ t .if1 .left))
+    (placed-behind (omega arith) (d .decimal .ensures) (p .put2 .ensures))
 
 pub refused-spec : {M : Type 1} → statement M
 refused-spec =
@@ -75,7 +75,7 @@ refused-spec =
     (tie.spec
     slice-aggregate-decimal
     decimal-requires
-    place-told-requires
+    tells-requires
     slice-aggregate-decimal-2
     decimal-requires-2
     slice-aggregate-put

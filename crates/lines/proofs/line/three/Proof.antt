@@ -1,7 +1,7 @@
 -- `lines::line::three` meets its contract: the lines one behind the other, of which 72 bytes hold the longest. Assumes nothing.
 use borrow.Author.Needs.{needs}
 use native.Mathlib.Omega.{arith}
-use Rattle.numerals.specs.TextLaws.{joined}
+use Rattle.numerals.specs.TextLaws.{placed-behind}
 use Rattle.lines.specs.LineLaws.{count-length, faithful-length, counted-length, rounds-length}
 use Rattle.lines.proofs.line.three.Statement.{statement}
 use Rattle.lines.proofs.line.three.Tie as tie
@@ -33,7 +33,7 @@ returns c =
     let n = c .before .before in
     let f = n .before .before .before .before in
     let k = f .before .before .before .before in
-    joined (omega arith) (joined (omega arith) (k .count .ensures) (f .faithful .ensures)) (n .nearest .ensures)
+    placed-behind (omega arith) (placed-behind (omega arith) (k .count .ensures) (f .faithful .ensures)) (n .nearest .ensures)
 
 pub three-spec : {M : Type 1} → statement M
 three-spec = tie.close (tie.spec count-requires faithful-requires nearest-requires same-length returns)

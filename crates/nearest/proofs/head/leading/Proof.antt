@@ -1,4 +1,4 @@
--- `leading::head::leading` meets its contract: the head is that of the words in use, one or two at the top. Assumes nothing.
+-- `nearest::head::leading` meets its contract: the head is that of the words in use, one or two at the top. Assumes nothing.
 use borrow.Author.Needs.{needs}
 use Prim.Native.Nat.{_-_, _^_, _≤_, _<_}
 use native.Mathlib.Omega.{arith}
@@ -47,8 +47,8 @@ upper c =
     let u = c .before .before .before .before .used in
     rw (c .size .ensures) (size-of-word (u .ensures .last (omega arith)) (c .before .shared-slice-known4 .given (u .result - 1) .fits))
 
-joined-requires : tie.Need-joined-requires
-joined-requires c κs = upper c
+across-requires : tie.Need-across-requires
+across-requires c κs = upper c
 
 mul-t15 : tie.Need-mul-t15
 mul-t15 c = search needs
@@ -71,7 +71,7 @@ returns-2 c =
     let l = s .before .before .before .before in
     let ws = l .before .before .args .words .now in
     let D : Digits wordBits ws = record { below = λ i. s .before .shared-slice-known4 .given i .fits } in
-    rw (c .before .joined .ensures, c .rest .ensures)
+    rw (c .before .across .ensures, c .rest .ensures)
     (head-two ws (l .used .result) D (l .used .ensures) (s .before .before .before .if1 .left) (s .size .result) (s .size .ensures))
 
 pub leading-spec : {M : Type 1} → statement M
@@ -87,7 +87,7 @@ leading-spec =
     mul-b
     shared-slice-read-b
     size-requires
-    joined-requires
+    across-requires
     mul-t15
     add-t16
     sub-rest

@@ -1,4 +1,4 @@
--- `leading::head::rest` meets its contract: something is below exactly where a word is in use. Assumes nothing.
+-- `nearest::head::rest` meets its contract: something is below exactly where a word is in use. Assumes nothing.
 use borrow.Author.Tests.{lt-ltb}
 use borrow.Author.Needs.{needs}
 use mathlib.Core.Path.{_≡_, sym}

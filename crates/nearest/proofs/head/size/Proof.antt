@@ -1,4 +1,4 @@
--- `leading::head::size` meets its contract: 64 less the leading zeros. Assumes nothing.
+-- `nearest::head::size` meets its contract: 64 less the leading zeros. Assumes nothing.
 use borrow.Author.Needs.{needs}
 use lib.Count.{leading-le}
 use Rattle.lists.specs.LeadingZeros.{size-is}

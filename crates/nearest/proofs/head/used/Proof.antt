@@ -1,4 +1,4 @@
--- `leading::head::used` meets its contract. The loop's invariant: the words from the k-th on are zero. Assumes nothing.
+-- `nearest::head::used` meets its contract. The loop's invariant: the words from the k-th on are zero. Assumes nothing.
 use borrow.Author.Needs.{needs}
 use mathlib.Core.Path.{_≡_, _∙_}
 use Prim.Native.Nat.{_-_, _≤_}

@@ -1,4 +1,4 @@
--- `leading::magnitude::negate` meets its contract. The loop's invariant: the words so far, the register's and the carry add up to a power of two.
+-- `nearest::magnitude::negate` meets its contract. The loop's invariant: the words so far, the register's and the carry add up to a power of two.
 -- Assumes nothing.
 use borrow.Author.Needs.{needs}
 use borrow.Author.Tests.{ltb-true, ltb-false}

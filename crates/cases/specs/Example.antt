@@ -14,7 +14,6 @@ use Rattle.lists.specs.Digits.{number}
 use Rattle.ieee.specs.Units.{value, magnitude, nearestFloat}
 use Rattle.kinds.specs.Limits.{doubles}
 use Rattle.kinds.specs.Outcome.{outcome}
-use Rattle.kinds.specs.Heard.{pattern}
 use Rattle.kinds.specs.declared.Step.the-variants.{Done}
 use Rattle.kinds.specs.declared.Nearest.the-variants.{Sum}
 use Rattle.kinds.specs.declared.Sheet.the-variants.{Read}
@@ -31,8 +30,7 @@ use Rattle.sums.specs.AnswerLaws.{nearest-good}
 use Rattle.octets.specs.Octets.{eights}
 use Rattle.sheet.specs.Sheet.{Reading, readOf}
 use Rattle.sheet.specs.SheetLaws.{read-all}
-use Rattle.sheet.specs.Instances.{three}
-use Rattle.sheet.specs.Instances as sheets
+use Rattle.sheet.specs.Instances.{three, exampleSheet}
 use Rattle.lines.specs.Lines.{countLine, faithfulLine, nearestLine, listLines, printed, linesAfter, linesOf}
 use Rattle.lines.specs.SumLaws.{lines-three}
 use Rattle.lines.specs.Instances.{exampleLines, three-lines}
@@ -40,8 +38,8 @@ use Rattle.lines.specs.Instances.{exampleLines, three-lines}
 abbrev one : Float
 one = ofBits binary64 0x3FF0000000000000
 
-abbrev zeros : List Float
-zeros = ofBits binary64 0 ∷ ofBits binary64 0 ∷ ofBits binary64 0 ∷ []
+abbrev threeZeros : List Float
+threeZeros = ofBits binary64 0 ∷ ofBits binary64 0 ∷ ofBits binary64 0 ∷ []
 
 -- the list is accepted with every work area of its length
 allowed : judged doubles true true three ≡ Good
@@ -51,22 +49,22 @@ allowed = refl
 good : (xs : List Float) → length xs ≡ 3 → judged doubles (eqb (length xs) 3) true three ≡ Good
 good xs h = ap (λ (b : Bool). judged doubles b true three) (eq-eqb (length xs) 3 h) ∙ allowed
 
-run : (xs : List Float) → W.roundsFrom doubles 1 51 (W.openedAfter doubles Good three xs) ≡ outcome (Done one 2) zeros
+run : (xs : List Float) → W.roundsFrom doubles 1 51 (W.openedAfter doubles Good three xs) ≡ outcome (Done one 2) threeZeros
 unfolding
     W.openedAfter W.steppedAfter W.taken W.rising W.roundsFrom R.turned R.roundOf R.fresh R.scaled R.finished R.closed
     N.soundSigma N.atMost N.soundNumbers N.soundPending N.badPlace N.sound N.gated remainders gathered lastSum largest powerOf ceil
     nearestFloat value ofBits toBits add sub mul le eq
 run xs = refl
 
-walked-three : (xs : List Float) → length xs ≡ 3 → W.faithfulOf doubles three xs ≡ outcome (Done one 2) zeros
+walked-three : (xs : List Float) → length xs ≡ 3 → W.faithfulOf doubles three xs ≡ outcome (Done one 2) threeZeros
 walked-three xs h = ap (λ (v : Verdict). W.roundsFrom doubles 1 51 (W.openedAfter doubles v three xs)) (good xs h) ∙ run xs
 
 -- ---- the two sums, and their lines
-nearest-three : S.nearestOf three ≡ Sum one
+nearest-three : S.nearestOf doubles three ≡ Sum one
 unfolding S.nearestAfter nearestFloat value ofBits
-nearest-three = nearest-good three allowed
+nearest-three = nearest-good doubles three allowed
 
-one-pattern : pattern one ≡ 0x3FF0000000000000
+one-pattern : toBits binary64 one ≡ 0x3FF0000000000000
 unfolding ofBits toBits
 one-pattern = refl
 
@@ -78,12 +76,12 @@ three-printed xs h =
 
 -- ---- "For the sheet .. it prints all of"
 module _ (numbers : List ℕ) (work : List Float) (text : List ℕ) (h : 3 ≤ length numbers) (k : 3 ≤ length work) where
-  read-three : readOf doubles sheets.printed numbers ≡ outcome (Read 3) (three ++ drop 3 numbers)
+  read-three : readOf doubles exampleSheet numbers ≡ outcome (Read 3) (three ++ drop 3 numbers)
   unfolding eights number
-  read-three = read-all doubles sheets.printed numbers (omega arith) refl (omega arith) refl h
+  read-three = read-all doubles exampleSheet numbers (omega arith) refl (omega arith) refl h
 
-  pub example-printed : linesOf sheets.printed numbers work text
-      ≡ printed 68 (three ++ drop 3 numbers) (zeros ++ drop 3 work) (exampleLines ++ drop 68 text)
+  pub example-printed : linesOf exampleSheet numbers work text
+      ≡ printed 68 (three ++ drop 3 numbers) (threeZeros ++ drop 3 work) (exampleLines ++ drop 68 text)
   unfolding linesAfter
   example-printed =
       let l = three-printed (take 3 work) (length-take-le 3 work k) in

@@ -32,7 +32,7 @@ module _ {ws : List ℕ} (W : Held ws) where
       cut-plus wordBits wordCount (lit< tt) (negℤ u) (wholeOf ws +ℤ u) ∙ ap wordsOf (+ℤ-negℤ-cancel (wholeOf ws) u) ∙ cut-whole wordBits wordCount (lit< tt) W
 
   pub in-range : (p : ℕ) → faultOf doubles p ≡ 0
-      → inside registerBits (wholeOf ws +ℤ unitsOf p) ≡ not (leaves p (signBit ws) (signBit (wordsOf (wholeOf ws +ℤ unitsOf p))))
+      → inside registerBits (wholeOf ws +ℤ unitsOf doubles p) ≡ not (leaves p (signBit ws) (signBit (wordsOf (wholeOf ws +ℤ unitsOf doubles p))))
   in-range p e =
       let a = fault-0 doubles p .0 e in
       let small : sizeOf doubles p ≤ 2 ^ (registerBits - 1) = le-trans (rw most-doubles at (a .1)) (lit≤ tt) in
@@ -46,12 +46,12 @@ module _ {ws : List ℕ} (W : Held ws) where
       ]
 
 -- ---- so an addition of p that left the words es is entered, or is refused and undone
-module _ {ws es : List ℕ} (W : Held ws) (p : ℕ) (e : faultOf doubles p ≡ 0) (s : es ≡ wordsOf (wholeOf ws +ℤ unitsOf p)) where
-  out : (b : Bool) → leaves p (signBit ws) (signBit es) ≡ b → inside registerBits (wholeOf ws +ℤ unitsOf p) ≡ not b
+module _ {ws es : List ℕ} (W : Held ws) (p : ℕ) (e : faultOf doubles p ≡ 0) (s : es ≡ wordsOf (wholeOf ws +ℤ unitsOf doubles p)) where
+  out : (b : Bool) → leaves p (signBit ws) (signBit es) ≡ b → inside registerBits (wholeOf ws +ℤ unitsOf doubles p) ≡ not b
   out b l = in-range W p e ∙ ap not (rw s at l)
 
   pub stayed : leaves p (signBit ws) (signBit es) ≡ false → outcome Entered es ≡ added ws p
-  stayed l = rw s (sym (enter-in ws p (wholeOf ws +ℤ unitsOf p) (W .long) e (out false l)))
+  stayed l = rw s (sym (enter-in ws p (wholeOf ws +ℤ unitsOf doubles p) (W .long) e (out false l)))
 
-  pub left : {vs : List ℕ} → leaves p (signBit ws) (signBit es) ≡ true → vs ≡ wordsOf (wholeOf es -ℤ unitsOf p) → outcome (Refused 9 0) vs ≡ added ws p
-  left l v = rw (v, s, undone W (unitsOf p)) (sym (enter-out ws p (wholeOf ws +ℤ unitsOf p) (W .long) e (out true l)))
+  pub left : {vs : List ℕ} → leaves p (signBit ws) (signBit es) ≡ true → vs ≡ wordsOf (wholeOf es -ℤ unitsOf doubles p) → outcome (Refused 9 0) vs ≡ added ws p
+  left l v = rw (v, s, undone W (unitsOf doubles p)) (sym (enter-out ws p (wholeOf ws +ℤ unitsOf doubles p) (W .long) e (out true l)))

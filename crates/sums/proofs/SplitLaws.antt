@@ -37,11 +37,11 @@ module _ {part : Float} (z : Bool) (S : ℤ) (l : natAbs S < limit (doubles .for
   left-below = lt-of-le-of-lt (left-smaller (doubles .format) z S l) l
 
   -- the words after the withdrawal
-  pub part-left : {ws : List ℕ} → ws ≡ wordsOf (S -ℤ unitsOf (toBits (doubles .format) part))
+  pub part-left : {ws : List ℕ} → ws ≡ wordsOf (S -ℤ unitsOf doubles (toBits (doubles .format) part))
       → (wholeOf ws ≡ S -ℤ value (doubles .format) (nearestFloat (doubles .format) z S)) × (natAbs (wholeOf ws) < limit (doubles .format))
   part-left {ws} w = (whole, rw whole left-below)
     where
-      units : unitsOf (toBits (doubles .format) part) ≡ value (doubles .format) (nearestFloat (doubles .format) z S)
+      units : unitsOf doubles (toBits (doubles .format) part) ≡ value (doubles .format) (nearestFloat (doubles .format) z S)
       units = ap (value (doubles .format)) (part-back ∙ e)
 
       whole : wholeOf ws ≡ S -ℤ value (doubles .format) (nearestFloat (doubles .format) z S)
@@ -66,7 +66,7 @@ splitting-begins area z l b =
 
 module _ {n : ℕ} {z : Bool} {S : ℤ} {ws : List ℕ} {area : List Float} {sign : Bool} {i : ℕ} (I : Splitting n z S ws area sign i) where
   pub splitting-goes-on : {part : Float} (es : List ℕ) → i < n → part ≡ nearestFloat (doubles .format) sign (wholeOf ws) → length es ≡ wordCount
-      → es ≡ wordsOf (wholeOf ws -ℤ unitsOf (toBits (doubles .format) part)) → Splitting n z S es (set area i part) false (i + 1)
+      → es ≡ wordsOf (wholeOf ws -ℤ unitsOf doubles (toBits (doubles .format) part)) → Splitting n z S es (set area i part) false (i + 1)
   splitting-goes-on {part} es h e l w = record {
     long = l;
     wide = length-set area i part ∙ I .wide;
