@@ -6,6 +6,7 @@ pub mod PartsLaws
 pub mod SumLaws
 pub mod AnswerLaws
 pub mod SplitLaws
+pub mod PartsMeaning
 pub mod Promised
 pub mod AnswerNumbers
 pub mod Farewell
