@@ -7,4 +7,5 @@ pub mod Range
 pub mod RegisterLaws
 pub mod RunLaws
 pub mod Farewell
+pub mod AnyHistory
 pub mod RoundedLaws
