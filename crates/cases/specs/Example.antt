@@ -38,8 +38,8 @@ use Rattle.lines.specs.Instances.{exampleLines, three-lines}
 abbrev one : Float
 one = ofBits binary64 0x3FF0000000000000
 
-abbrev zeros : List Float
-zeros = ofBits binary64 0 ∷ ofBits binary64 0 ∷ ofBits binary64 0 ∷ []
+abbrev threeZeros : List Float
+threeZeros = ofBits binary64 0 ∷ ofBits binary64 0 ∷ ofBits binary64 0 ∷ []
 
 -- the list is accepted with every work area of its length
 allowed : judged doubles true true three ≡ Good
@@ -49,14 +49,14 @@ allowed = refl
 good : (xs : List Float) → length xs ≡ 3 → judged doubles (eqb (length xs) 3) true three ≡ Good
 good xs h = ap (λ (b : Bool). judged doubles b true three) (eq-eqb (length xs) 3 h) ∙ allowed
 
-run : (xs : List Float) → W.roundsFrom doubles 1 51 (W.openedAfter doubles Good three xs) ≡ outcome (Done one 2) zeros
+run : (xs : List Float) → W.roundsFrom doubles 1 51 (W.openedAfter doubles Good three xs) ≡ outcome (Done one 2) threeZeros
 unfolding
     W.openedAfter W.steppedAfter W.taken W.rising W.roundsFrom R.turned R.roundOf R.fresh R.scaled R.finished R.closed
     N.soundSigma N.atMost N.soundNumbers N.soundPending N.badPlace N.sound N.gated remainders gathered lastSum largest powerOf ceil
     nearestFloat value ofBits toBits add sub mul le eq
 run xs = refl
 
-walked-three : (xs : List Float) → length xs ≡ 3 → W.faithfulOf doubles three xs ≡ outcome (Done one 2) zeros
+walked-three : (xs : List Float) → length xs ≡ 3 → W.faithfulOf doubles three xs ≡ outcome (Done one 2) threeZeros
 walked-three xs h = ap (λ (v : Verdict). W.roundsFrom doubles 1 51 (W.openedAfter doubles v three xs)) (good xs h) ∙ run xs
 
 -- ---- the two sums, and their lines
@@ -81,7 +81,7 @@ module _ (numbers : List ℕ) (work : List Float) (text : List ℕ) (h : 3 ≤ l
   read-three = read-all doubles exampleSheet numbers (omega arith) refl (omega arith) refl h
 
   pub example-printed : linesOf exampleSheet numbers work text
-      ≡ printed 68 (three ++ drop 3 numbers) (zeros ++ drop 3 work) (exampleLines ++ drop 68 text)
+      ≡ printed 68 (three ++ drop 3 numbers) (threeZeros ++ drop 3 work) (exampleLines ++ drop 68 text)
   unfolding linesAfter
   example-printed =
       let l = three-printed (take 3 work) (length-take-le 3 work k) in

@@ -6,12 +6,10 @@ use Prim.Native.Nat.{ℕ, _-_, _^_}
 use lib.ListN.{replicate}
 use Rattle.kinds.specs.Outcome.{outcome}
 use Rattle.kinds.specs.Heard.{nowhere, at, refused, done, nearest, parts, accepted}
+use Rattle.register.specs.Entries.{zeros}
 use Rattle.cases.specs.Calls.{Case, beforehand, faithfulSum, nearestSum, sumInParts, add, withdraw, round}
 
--- the register of zeros; the one after 1 was withdrawn from it: "words 0 to 15 zero, word 16 = 2^64 - 2^50, the rest all ones"
-abbrev zeros : List ℕ
-zeros = replicate 33 0
-
+-- the register of zeros after 1 was withdrawn from it: "words 0 to 15 zero, word 16 = 2^64 - 2^50, the rest all ones"
 abbrev lessOne : List ℕ
 lessOne = replicate 16 0 ++ ((2 ^ 64 - 2 ^ 50) ∷ replicate 16 (2 ^ 64 - 1))
 

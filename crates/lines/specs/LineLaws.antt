@@ -2,7 +2,7 @@
 use mathlib.Core.Path.{_≡_, refl, ap, _∙_}
 use mathlib.Core.Bool.{true, false}
 use mathlib.Core.List.{_++_}
-use Prim.Native.Nat.{ℕ, _+_, _^_, _≤_, _<_}
+use Prim.Native.Nat.{ℕ, suc, _+_, _^_, _≤_, _<_}
 use native.Mathlib.Omega.{arith}
 use lib.ListN.{length, length-append}
 use Rattle.kinds.specs.Limits.{doubles}
@@ -27,7 +27,7 @@ faithful-length p rounds = simp (length-append, hex-length) (omega arith)
 pub counted-length : (n : ℕ) → n ≤ doubles .length → length (decimalOf n) ≤ 4
 counted-length n h = decimal-length 3 n (omega arith)
 
-pub rounds-length : (rounds : ℕ) → rounds ≤ 51 → length (decimalOf rounds) ≤ 2
+pub rounds-length : (rounds : ℕ) → rounds ≤ suc (doubles .rounds) → length (decimalOf rounds) ≤ 2
 rounds-length rounds h = decimal-length 1 rounds (omega arith)
 
 -- a refusal's number or place

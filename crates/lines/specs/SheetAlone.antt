@@ -2,7 +2,7 @@
 use mathlib.Core.Path.{_≡_, refl, sym, ap, _∙_}
 use mathlib.Core.Bool.{true}
 use mathlib.Core.List.{List, _++_}
-use Prim.Native.Nat.{ℕ, _≤_}
+use Prim.Native.Nat.{ℕ, suc, _≤_}
 use native.Mathlib.Omega.{arith}
 use lib.Dec.{eqb}
 use lib.ListN.{length, take, drop}
@@ -28,6 +28,11 @@ use Rattle.lines.specs.Lines.{sumLines, listLines, Printed, linesAfter, 
 use Rattle.lines.specs.LinesLaws.{read-few, read-list}
 
 -- ---- the undivided call's answer is the same with every work area of the same length
+
+-- what it answers once the list is judged
+abbrev answerAfter : List ℕ → List Float → Verdict → Step
+answerAfter ps zs v = roundsFrom doubles (blocksOf doubles (length ps)) (suc (doubles .rounds)) (openedAfter doubles v ps zs) .answer
+
 faithful-same : (ps : List ℕ) (xs ys : List Float) → length xs ≡ length ys → faithfulOf doubles ps xs .answer ≡ faithfulOf doubles ps ys .answer
 unfolding openedAfter
 faithful-same ps xs ys l = by (judged doubles (eqb (length xs) (length ps)) true ps) refl
@@ -41,9 +46,7 @@ faithful-same ps xs ys l = by (judged doubles (eqb (length xs) (length ps)) true
         sym (ap (λ (w : Walked). w .answer) (faithful-refused doubles-fit ps zs (steps.Refused k p) zs (opened-refused doubles _ k p ps zs e) k p refl))
 
     by : (v : Verdict) → judged doubles (eqb (length xs) (length ps)) true ps ≡ v → faithfulOf doubles ps xs .answer ≡ faithfulOf doubles ps ys .answer
-    by verdicts.Good e =
-        ap (λ (v : Verdict). roundsFrom doubles (blocksOf doubles (length ps)) 51 (openedAfter doubles v ps xs) .answer) e
-        ∙ sym (ap (λ (v : Verdict). roundsFrom doubles (blocksOf doubles (length ps)) 51 (openedAfter doubles v ps ys) .answer) (sym other ∙ e))
+    by verdicts.Good e = ap (answerAfter ps xs) e ∙ sym (ap (answerAfter ps ys) (sym other ∙ e))
     by (verdicts.Refused k p) e = refusal xs k p e ∙ sym (refusal ys k p (sym other ∙ e))
 
 list-same : (ps : List ℕ) (xs ys : List Float) → length xs ≡ length ys → listLines ps xs ≡ listLines ps ys

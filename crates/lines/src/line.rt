@@ -5,7 +5,7 @@ use numerals::pattern;
 use numerals::put;
 ghost use mathlib.Core.Path.{_≡_};
 ghost use mathlib.Core.List.{_++_};
-ghost use Prim.Native.Nat.{_+_, _≤_};
+ghost use Prim.Native.Nat.{suc, _+_, _≤_};
 ghost use lib.ListN.{length};
 ghost use Rattle.kinds.specs.Limits.{doubles};
 ghost use Rattle.kinds.specs.Heard.{Refusal, placeOf};
@@ -43,7 +43,7 @@ pub fn nearest(text: &mut [u8], end: usize, p: u64) -> usize
 
 // The three lines of a list that was summed, at the start of the text.
 pub fn three(text: &mut [u8], n: usize, sum: u64, rounds: u32, near: u64) -> usize
-    requires { ⌜ (n ≤ doubles .length) × (rounds ≤ 51) × (longest ≤ length (now text)) ⌝ }
+    requires { ⌜ (n ≤ doubles .length) × (rounds ≤ suc (doubles .rounds)) × (longest ≤ length (now text)) ⌝ }
     ensures { λ r. ⌜ Placed (countLine n ++ faithfulLine sum rounds ++ nearestLine near) 0 (now (text .entry)) r (now (text .exit)) ⌝ }
 {
     let counted = count(text, 0, n);

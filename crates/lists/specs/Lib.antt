@@ -12,7 +12,6 @@ pub mod WordShifts
 pub mod DigitLaws
 pub mod LowestDigits
 pub mod LeadingDigits
-pub mod TwoDigits
 pub mod CarryLaws
 pub mod TwosComplement
 pub mod SignedDigits

@@ -3,7 +3,6 @@ pub mod Register
 pub mod Signs
 pub mod Entries
 pub mod EnterLaws
-pub mod Range
 pub mod RegisterLaws
 pub mod RunLaws
 pub mod Farewell

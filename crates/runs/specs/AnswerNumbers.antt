@@ -52,7 +52,7 @@ module _ (ps : List ℕ) (work : List Float) where
   faithful-refusal k p e = subst (Ended doubles) e (faithful-ended doubles-fit ps work)
 
   module _ {x : Float} {r : ℕ} (e : faithfulOf doubles ps work .answer ≡ Done x r) where
-    done : Number (doubles .format) x × (r ≤ 51)
+    done : Number (doubles .format) x × (r ≤ suc (doubles .rounds))
     done = subst (Ended doubles) e (faithful-ended doubles-fit ps work)
 
     pub faithful-number : Number (doubles .format) x
@@ -62,5 +62,5 @@ module _ (ps : List ℕ) (work : List Float) where
     faithful-no-nan = finite-no-nan x (done .0 .fini)
 
     -- "hence at most 51"
-    pub faithful-rounds : r ≤ 51
+    pub faithful-rounds : r ≤ suc (doubles .rounds)
     faithful-rounds = done .1

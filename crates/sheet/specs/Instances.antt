@@ -13,7 +13,7 @@ use Rattle.kinds.specs.declared.Sheet.the-variants.{Read, Refused}
 use Rattle.sheet.specs.Sheet.{sheetOf, readOf}
 use Rattle.sheet.specs.SheetLaws.{sheet-read}
 
-pub doubles-read : (ps area : List ℕ) → length ps ≤ 4094 → Digits 64 ps → length ps ≤ length area
+pub doubles-read : (ps area : List ℕ) → length ps ≤ doubles .length → Digits 64 ps → length ps ≤ length area
     → readOf doubles (sheetOf ps) area ≡ outcome (Read (length ps)) (ps ++ drop (length ps) area)
 doubles-read ps area = sheet-read doubles ps area (lit≤ tt)
 

@@ -5,7 +5,6 @@ pub mod FirstPlace
 pub mod PartsLaws
 pub mod SumLaws
 pub mod AnswerLaws
-pub mod SplitLaws
 pub mod PartsMeaning
 pub mod Promised
 pub mod AnswerNumbers

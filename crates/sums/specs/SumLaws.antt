@@ -2,7 +2,7 @@
 -- Assumes nothing.
 use mathlib.Core.Path.{_≡_, sym, ap, _∙_}
 use mathlib.Core.List.{List, [], _∷_, map, map-append}
-use Prim.Native.Nat.{ℕ, _+_, _*_, _^_, _≤_, _<_}
+use Prim.Native.Nat.{ℕ, _+_, _-_, _*_, _^_, _≤_, _<_}
 use native.Mathlib.Nat.{le-trans, le-of-suc-le, lt-of-le-of-lt, lt-of-lt-of-le, mul-le-mul-right}
 use lib.Dec.{T, lit<, lit≤, lt→ltb}
 use lib.IntN.{ℤ, pos, negsuc, _+ℤ_, natAbs, +ℤ-assoc, +ℤ-idl, +ℤ-idr}
@@ -72,9 +72,9 @@ module _ {ps : List ℕ} (few : length ps ≤ doubles .length) (C : Allowed doub
 pub whole-words : (z : ℤ) → natAbs z < limit (doubles .format) → wholeOf (wordsOf z) ≡ z
 whole-words z l = whole-cut wordBits wordCount (lit< tt) z (is-true (inside registerBits z) (fits z (lt-of-lt-of-le l (lit≤ tt))))
   where
-    fits : (z : ℤ) → natAbs z < 2 ^ 2111 → T (inside registerBits z)
-    fits (pos n) h = lt→ltb n (2 ^ 2111) h
-    fits (negsuc n) h = lt→ltb n (2 ^ 2111) (le-of-suc-le h)
+    fits : (z : ℤ) → natAbs z < 2 ^ (registerBits - 1) → T (inside registerBits z)
+    fits (pos n) h = lt→ltb n (2 ^ (registerBits - 1)) h
+    fits (negsuc n) h = lt→ltb n (2 ^ (registerBits - 1)) (le-of-suc-le h)
 
 -- the words of zeros and a list's sum stand for that sum
 pub total-whole : {ws : List ℕ} (S : ℤ) → natAbs S < limit (doubles .format) → ws ≡ wordsOf (wholeOf (replicate wordCount 0) +ℤ S) → wholeOf ws ≡ S

@@ -5,7 +5,7 @@ use kinds::Parted;
 use kinds::Verdict;
 use words::WORDS;
 
-mod exact;
+pub mod exact;
 mod split;
 
 ghost use mathlib.Core.Path.{_≡_};

@@ -10,7 +10,7 @@ use Rattle.addend.specs.Addend.{Held}
 use Rattle.register.specs.Signs.{signBit, leaves}
 use Rattle.addend.specs.RegisterWords.{held}
 use Rattle.register.specs.EnterLaws.{enter-long, enter-bad}
-use Rattle.register.specs.Range.{left, stayed}
+use Rattle.register.proofs.TopBits.{left, stayed}
 use Rattle.register.proofs.add.Statement.{statement}
 use Rattle.register.proofs.add.Tie as tie
 

@@ -1,7 +1,7 @@
 -- `addend::place::shifted` meets its contract: a shifted number lies in two adjacent words. Assumes nothing.
 use borrow.Author.Needs.{needs}
 use native.Mathlib.Omega.{arith}
-use Rattle.lists.specs.TwoDigits.{two-shifted}
+use Rattle.addend.proofs.TwoDigits.{two-shifted}
 use Rattle.words.specs.Words.{wordBits}
 use Rattle.addend.proofs.place.shifted.Statement.{statement}
 use Rattle.addend.proofs.place.shifted.Tie as tie

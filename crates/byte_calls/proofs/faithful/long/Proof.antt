@@ -1,6 +1,7 @@
 -- `byte_calls::faithful::long` meets its contract: 4094 places hold the list. Assumes nothing.
 use mathlib.Core.Path.{sym, _∙_}
 use Prim.Native.Nat.{ℕ}
+use Rattle.kinds.specs.Limits.{doubles}
 use borrow.Author.Needs.{needs}
 use lib.Ieee.{ofBits, binary64}
 use Rattle.calls.specs.CallsLaws.{own-front, front-length}
@@ -26,7 +27,7 @@ within-requires c κs =
     let start = c .before .before .before .before .before in
     let f = start .pre .0 in
     let l = front-length {A = ℕ} f 0 in
-    (f .whole ∙ rw l, own-front _ 4094 (f .few) ∙ rw l, start .pre .1)
+    (f .whole ∙ rw l, own-front _ (doubles .length) (f .few) ∙ rw l, start .pre .1)
 
 same-length : tie.Need-same-length
 same-length c = search needs

@@ -8,7 +8,7 @@ use Rattle.lists.specs.DigitLaws.{number-lt}
 use Rattle.words.specs.Words.{wordBits, wordCount, registerBits}
 use Rattle.nearest.specs.HeadLaws.{below-most}
 use Rattle.nearest.specs.Bits.{headBits}
-use Rattle.nearest.specs.BitsLaws.{bits-positive, not-zero, bits-negative}
+use Rattle.nearest.proofs.RegisterBits.{bits-positive, not-zero, bits-negative}
 use Rattle.nearest.proofs.bits.nearest_bits.Statement.{statement}
 use Rattle.nearest.proofs.bits.nearest_bits.Tie as tie
 

@@ -5,7 +5,7 @@ use Prim.Native.Nat.{_-_}
 use native.Mathlib.Omega.{arith}
 use lib.ListN.{length}
 use Rattle.words.specs.Words.{wholeOf}
-use Rattle.sums.specs.SplitLaws.{Splitting, splitting-begins, splitting-goes-on, splitting-ends, part-no-nan, part-finite}
+use Rattle.sums.proofs.SplitLaws.{Splitting, splitting-begins, splitting-goes-on, splitting-ends, part-no-nan, part-finite}
 use Rattle.sums.proofs.split.split.Statement.{statement}
 use Rattle.sums.proofs.split.split.Tie as tie
 

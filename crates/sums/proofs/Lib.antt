@@ -1,0 +1,2 @@
+-- What the proof of one function cites.
+pub mod SplitLaws
