@@ -1,13 +1,13 @@
 -- What document 01 says of the bytes of a C sum. Definitions only.
 use mathlib.Core.Path.{_≡_}
 use mathlib.Core.List.{List, [], _∷_}
-use Prim.Native.Nat.{ℕ, suc, _%_, _≤_}
+use Prim.Native.Nat.{ℕ, suc, _+_, _*_, _%_, _≤_, _<_}
 use lib.Ieee.{Float, toBits}
 use lib.ListN.{length}
 use Rattle.ieee.specs.Accuracy.{FaithfulTo, NearestTo}
 use Rattle.kinds.specs.Limits.{doubles}
 use Rattle.kinds.specs.Outcome.{outcome}
-use Rattle.judge.specs.Table.{Allowed}
+use Rattle.judge.specs.Table.{Allowed, First}
 use Rattle.octets.specs.Octets.{packed}
 use Rattle.sums.specs.Sums.{sumOf}
 use Rattle.calls.specs.Calls.{Called, patternsIn, listBytes, sumBytes}
@@ -32,3 +32,11 @@ pub record RightBytes (list out : List ℕ) : Type 0 where
   pub whole : length list % 8 ≡ 0
   pub sixteen : length out ≡ sumBytes
   pub allowed : Allowed doubles (patternsIn list)
+
+-- rules C3 and C6: the code of a sum, a row for each, in the scope's own figures
+pub data SumCode (list out : List ℕ) : ℕ → Type 0 where
+  too-long : 32752 < length list → SumCode list out 1
+  not-whole : length list ≤ 32752 → (length list % 8 ≡ 0 → ⊥) → SumCode list out 4
+  wrong-out : length list ≤ 32752 → length list % 8 ≡ 0 → (length out ≡ 16 → ⊥) → SumCode list out 4
+  bad-number : length list ≤ 32752 → length list % 8 ≡ 0 → length out ≡ 16 → (k i : ℕ) → First doubles (patternsIn list) k i → SumCode list out (k + 32 * (i + 1))
+  summed : RightBytes list out → SumCode list out 0

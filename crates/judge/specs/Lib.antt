@@ -4,4 +4,5 @@ pub mod Table
 pub mod FaultLaws
 pub mod FaultlessLaws
 pub mod FirstFaultLaws
+pub mod AllowedLaws
 pub mod JudgeLaws

@@ -56,3 +56,12 @@ AllEntered ws (c ∷ cs) = (changed ws c .answer ≡ Entered) × AllEntered (cha
 
 abbrev pub zeros : List ℕ
 zeros = replicate wordCount 0
+
+-- ---- the calls of a history that aren't refused, each judged where it stands
+abbrev pub keep : Entry → Change → List Change → List Change
+keep Entered c cs = c ∷ cs
+keep (Refused k i) c cs = cs
+
+unfoldable pub enteredOf : List ℕ → List Change → List Change
+enteredOf ws [] = []
+enteredOf ws (c ∷ cs) = keep (changed ws c .answer) c (enteredOf (changed ws c .area) cs)

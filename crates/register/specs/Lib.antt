@@ -6,4 +6,5 @@ pub mod EnterLaws
 pub mod RegisterLaws
 pub mod RunLaws
 pub mod Farewell
+pub mod AnyHistory
 pub mod RoundedLaws

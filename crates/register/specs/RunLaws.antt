@@ -146,17 +146,18 @@ all-entered cs h A =
     let small : natAbs (wholeOf zeros) + length cs * most doubles ≤ length cs * most doubles = omega (arith, ap natAbs zero-whole) in
     enters (2 ^ (registerBits - 1)) (inside-small registerBits) zeros cs refl (lt-of-le-of-lt small (few (length cs) h)) A
 
--- a list added up from zero comes to its exact sum
+-- ---- a list added up from zero
+pub patterns : (ps : List ℕ) → map patternOf (map add ps) ≡ ps
+patterns [] = refl
+patterns (p ∷ ps) = ap (λ (qs : List ℕ). p ∷ qs) (patterns ps)
+
+pub changes : (ps : List ℕ) → map changeOf (map add ps) ≡ map (unitsOf doubles) ps
+changes [] = refl
+changes (p ∷ ps) = ap (λ (zs : List ℤ). unitsOf doubles p ∷ zs) (changes ps)
+
+-- it comes to its exact sum
 pub list-whole : (ps : List ℕ) → length ps < 2 ^ 37 → Allowed doubles ps → wholeOf (run zeros (map add ps)) ≡ exactSum (map (unitsOf doubles) ps)
 list-whole ps h A =
     run-whole zeros (map add ps) (all-entered (map add ps) (rw (length-map ps add) h) (rw (patterns ps) A))
     ∙ (λ i. zero-whole i +ℤ exactSum (changes ps i))
     ∙ +ℤ-idl (exactSum (map (unitsOf doubles) ps))
-  where
-    patterns : (ps : List ℕ) → map patternOf (map add ps) ≡ ps
-    patterns [] = refl
-    patterns (p ∷ ps) = ap (λ (qs : List ℕ). p ∷ qs) (patterns ps)
-
-    changes : (ps : List ℕ) → map changeOf (map add ps) ≡ map (unitsOf doubles) ps
-    changes [] = refl
-    changes (p ∷ ps) = ap (λ (zs : List ℤ). unitsOf doubles p ∷ zs) (changes ps)

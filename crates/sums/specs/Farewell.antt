@@ -1,20 +1,25 @@
 -- The farewell and the sum: rounding a register from which a number was withdrawn gives the nearest sum of what stayed. Assumes nothing.
 use mathlib.Core.Path.{_≡_, sym, ap, _∙_}
-use mathlib.Core.List.{List, map}
+use mathlib.Core.List.{List, [], _∷_, _++_, map, map-append, append-nil}
 use mathlib.Core.Bool.{true, false}
-use Prim.Native.Nat.{ℕ, _<_}
+use Prim.Native.Nat.{ℕ, _+_, _≤_, _<_}
+use native.Mathlib.Nat.{lt-of-le-of-lt}
+use native.Mathlib.Omega.{arith}
+use lib.Dec.{lit<}
+use lib.ListN.{length, length-append, length-map}
 use lib.IntN.{ℤ, natAbs, _+ℤ_, +ℤ-idl}
 use Rattle.units.specs.Whole.{exactSum}
 use Rattle.ieee.specs.Units.{limit, nearestFloat}
 use Rattle.kinds.specs.Limits.{doubles}
 use Rattle.kinds.specs.declared.Nearest.the-variants.{Sum}
 use Rattle.kinds.specs.declared.Verdict.the-variants.{Good}
-use Rattle.judge.specs.Table.{ListWhen}
+use Rattle.judge.specs.Table.{Allowed, ListWhen, allowed}
+use Rattle.judge.specs.AllowedLaws.{allowed-none, allowed-first, allowed-rest, allowed-more, allowed-join, allowed-left, allowed-right}
 use Rattle.judge.specs.JudgeLaws.{list-when, list-passed, list-allowed}
 use Rattle.words.specs.Words.{wholeOf}
 use Rattle.register.specs.Register.{rounded}
-use Rattle.register.specs.Entries.{Change, changeOf, run, AllEntered, zeros}
-use Rattle.register.specs.RunLaws.{run-whole, zero-whole, zeros-held}
+use Rattle.register.specs.Entries.{Change, add, withdraw, patternOf, changeOf, run, AllEntered, zeros}
+use Rattle.register.specs.RunLaws.{run-whole, zero-whole, zeros-held, all-entered, patterns, changes}
 use Rattle.register.specs.RoundedLaws.{rounded-sum}
 use Rattle.register.specs.Farewell.{history, stayed, gone, run-held}
 use Rattle.sums.specs.Sums.{sumOf, nearestOf}
@@ -33,3 +38,41 @@ farewell-rounds xs ys zs p qs A G e =
     rounded-sum (run zeros cs) (run-held zeros cs zeros-held .long) small
     ∙ ap (λ (z : ℤ). Sum (nearestFloat f false z)) whole
     ∙ sym (nearest-good doubles qs (list-when doubles true true qs Good .1 G))
+
+-- ---- an accepted list split at the leaver: all of it joins, then p leaves. Nothing else has to be asked: what stayed is accepted too.
+module _ (ps qs : List ℕ) (p : ℕ) (G : ListWhen doubles true true (ps ++ (p ∷ qs)) Good) where
+  allowed-all : Allowed doubles (ps ++ (p ∷ qs))
+  allowed-all = list-allowed G
+
+  -- the calls
+  abbrev pub joined-and-left : List Change
+  joined-and-left = history (map add ps) (map add qs) [] p
+
+  calls-length : length joined-and-left ≡ length (ps ++ (p ∷ qs)) + 1
+  calls-length = simp (length-append, length-map) (omega arith)
+
+  short : length joined-and-left ≤ 4095
+  short = omega (arith, calls-length, list-passed G .few)
+
+  calls-patterns : Allowed doubles (map patternOf joined-and-left)
+  calls-patterns =
+      rw (map-append patternOf (map add ps) (add p ∷ (map add qs ++ (withdraw p ∷ []))), map-append patternOf (map add qs) (withdraw p ∷ []), patterns ps, patterns qs)
+      (allowed-join ps (allowed-left ps (p ∷ qs) allowed-all)
+      (allowed-more (allowed-first rest) (allowed-join qs (allowed-rest rest) (allowed-more (allowed-first rest) allowed-none))))
+    where
+      rest : Allowed doubles (p ∷ qs)
+      rest = allowed-right ps (p ∷ qs) allowed-all
+
+  stayed-sum : exactSum (map changeOf (stayed (map add ps) (map add qs) [])) ≡ sumOf (doubles .format) (ps ++ qs)
+  stayed-sum = rw (append-nil (map add qs), ← (map-append add ps qs)) (ap exactSum (changes (ps ++ qs)))
+
+  stayed-good : ListWhen doubles true true (ps ++ qs) Good
+  stayed-good = allowed
+      (record { few = omega (arith, list-passed G .few, length-append ps (p ∷ qs), length-append ps qs); right-area = tt; right-parts = tt })
+      (allowed-join ps (allowed-left ps (p ∷ qs) allowed-all) (allowed-rest (allowed-right ps (p ∷ qs) allowed-all)))
+
+  pub farewell-list : rounded (run zeros joined-and-left) ≡ nearestOf doubles (ps ++ qs)
+  farewell-list =
+      farewell-rounds (map add ps) (map add qs) [] p (ps ++ qs)
+      (all-entered joined-and-left (lt-of-le-of-lt short (lit< tt)) calls-patterns)
+      stayed-good stayed-sum

@@ -5,6 +5,7 @@ pub mod FirstPlace
 pub mod PartsLaws
 pub mod SumLaws
 pub mod AnswerLaws
+pub mod PartsMeaning
 pub mod Promised
 pub mod AnswerNumbers
 pub mod Farewell

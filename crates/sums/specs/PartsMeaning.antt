@@ -1,0 +1,66 @@
+-- The parts in the scope's words: how many there may be, when the answer says that they add up, and that a part which is zero is +0. Assumes nothing.
+use mathlib.Core.Path.{_≡_, refl, sym, ap, _∙_}
+use mathlib.Core.Logic.{_↔_}
+use mathlib.Core.Bool.{Bool, true, false, _&&_}
+use mathlib.Core.List.{List, map}
+use Prim.Native.Nat.{ℕ, zero, suc, _≤_, _<_}
+use native.Mathlib.Nat.{lt-of-le-of-lt}
+use native.Mathlib.Omega.{arith}
+use borrow.Author.Tests.{eqb-true, eq-eqb, leb-true, le-leb}
+use lib.Dec.{leb, eqb}
+use lib.IntN.{ℤ, pos, negsuc, natAbs, _+ℤ_, _-ℤ_, -ℤ-+ℤ-cancel, +ℤ-negℤ-cancel, +ℤ-idl}
+use lib.ListN.{length}
+use lib.Ieee.{Float, Format, prec}
+use Rattle.units.specs.Whole.{nat, _≈_, exactSum}
+use Rattle.units.specs.Rounding.{rnd, fl}
+use Rattle.units.specs.SignedRounding.{fl-nat, fl-zero}
+use Rattle.ieee.specs.Units.{negative, magnitude, value, nearestFloat, limit}
+use Rattle.ieee.specs.Finite.{is-units}
+use Rattle.ieee.specs.Overflow.{nearest-is, nearest-negative}
+use Rattle.ieee.specs.Rounded.{prec-pos}
+use Rattle.lists.specs.Each.{Each}
+use Rattle.kinds.specs.Limits.{doubles}
+use Rattle.sums.specs.Sums.{parts, addUp, fitting}
+use Rattle.sums.specs.PartsLaws.{left-smaller}
+
+-- ---- rule L10: 1 to 8 parts
+both : (a b : Bool) → (a && b) ≡ true → (a ≡ true) × (b ≡ true)
+both true true e = (refl, refl)
+both true false e = let z : _≡_ {A = ℕ} 0 1 = cc in absurd (omega arith)
+both false b e = let z : _≡_ {A = ℕ} 0 1 = cc in absurd (omega arith)
+
+pub fitting-when : (area : List Float) → (fitting doubles area ≡ true) ↔ ((1 ≤ length area) × (length area ≤ 8))
+fitting-when area = (
+  λ e. let h = both (leb 1 (length area)) (leb (length area) 8) e in (leb-true 1 (length area) (h .0), leb-true (length area) 8 (h .1)),
+  λ h. rw (le-leb 1 (length area) (h .0), le-leb (length area) 8 (h .1)),
+)
+
+-- ---- rule S5: the answer says that the parts add up exactly when their exact sum is S
+no-distance : (z : ℤ) → natAbs z ≡ 0 → z ≡ pos 0
+no-distance (pos n) e = ap pos e
+no-distance (negsuc n) e = absurd (omega arith)
+
+pub add-up-when : (f : Format) (xs : List Float) (S : ℤ) → (addUp f xs S ≡ true) ↔ (exactSum (map (value f) xs) ≡ S)
+add-up-when f xs S = (
+  λ e.
+      let E = exactSum (map (value f) xs) in
+      let d = no-distance (S -ℤ E) (eqb-true (natAbs (S -ℤ E)) 0 e) in
+      sym (sym (-ℤ-+ℤ-cancel S E) ∙ ap (λ (z : ℤ). z +ℤ E) d ∙ +ℤ-idl E),
+  λ e. rw e (eq-eqb (natAbs (S -ℤ S)) 0 (ap natAbs (sym (ap (λ (z : ℤ). z -ℤ S) (+ℤ-idl S)) ∙ +ℤ-negℤ-cancel (pos 0) S))),
+)
+
+-- ---- rule S4: a part that is zero is +0, where a zero sum is
+module _ (f : Format) where
+  head-plus : (S : ℤ) → natAbs S < limit f → magnitude f (nearestFloat f false S) ≡ 0 → negative (nearestFloat f false S) ≡ false
+  head-plus (pos zero) l z = nearest-negative f false (pos 0) l
+  head-plus (pos (suc n)) l z = nearest-negative f false (pos (suc n)) l
+  head-plus (negsuc n) l z =
+      let x = nearestFloat f false (negsuc n) in
+      let m : magnitude f x ≡ rnd (prec f) (suc n) = is-units f x true (rnd (prec f) (suc n)) (nearest-is f false (negsuc n) l) .1 in
+      let w : fl (prec f) (nat (suc n)) ≈ nat 0 = rw (fl-nat (prec f) (prec-pos f) (suc n)) (omega (arith, m)) in
+      absurd (omega (arith, fl-zero (prec f) (prec-pos f) (nat (suc n)) w))
+
+  pub parts-plus : (k : ℕ) (S : ℤ) → natAbs S < limit f → Each (λ x. magnitude f x ≡ 0 → negative x ≡ false) (parts f k false S)
+  unfolding parts
+  parts-plus zero S l = tt
+  parts-plus (suc k) S l = (head-plus S l, parts-plus k (S -ℤ value f (nearestFloat f false S)) (lt-of-le-of-lt (left-smaller f false S l) l))
