@@ -38,5 +38,6 @@ pub data SumCode (list out : List ℕ) : ℕ → Type 0 where
   too-long : 32752 < length list → SumCode list out 1
   not-whole : length list ≤ 32752 → (length list % 8 ≡ 0 → ⊥) → SumCode list out 4
   wrong-out : length list ≤ 32752 → length list % 8 ≡ 0 → (length out ≡ 16 → ⊥) → SumCode list out 4
-  bad-number : length list ≤ 32752 → length list % 8 ≡ 0 → length out ≡ 16 → (k i : ℕ) → First doubles (patternsIn list) k i → SumCode list out (k + 32 * (i + 1))
+  bad-number : length list ≤ 32752 → length list % 8 ≡ 0 → length out ≡ 16 → (k i : ℕ) → First doubles (patternsIn list) k i
+      → SumCode list out (k + 32 * (i + 1))
   summed : RightBytes list out → SumCode list out 0

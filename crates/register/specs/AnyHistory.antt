@@ -89,4 +89,5 @@ module _ (ws : List ℕ) (xs ys zs : List Change) (p : ℕ) where
       ) in
       sym (run-entered ws (history xs ys zs p))
       ∙ ap (run ws) e
-      ∙ farewell-words ws (enteredOf ws xs) (enteredOf with-p ys) (enteredOf without-p zs) p H (subst (AllEntered ws) e (all-entered-of ws (history xs ys zs p)))
+      ∙ farewell-words ws (enteredOf ws xs) (enteredOf with-p ys) (enteredOf without-p zs) p H
+      (subst (AllEntered ws) e (all-entered-of ws (history xs ys zs p)))

@@ -56,7 +56,12 @@ module _ (ps qs : List ℕ) (p : ℕ) (G : ListWhen doubles true true (ps ++ (p 
 
   calls-patterns : Allowed doubles (map patternOf joined-and-left)
   calls-patterns =
-      rw (map-append patternOf (map add ps) (add p ∷ (map add qs ++ (withdraw p ∷ []))), map-append patternOf (map add qs) (withdraw p ∷ []), patterns ps, patterns qs)
+      rw (
+        map-append patternOf (map add ps) (add p ∷ (map add qs ++ (withdraw p ∷ []))),
+        map-append patternOf (map add qs) (withdraw p ∷ []),
+        patterns ps,
+        patterns qs,
+      )
       (allowed-join ps (allowed-left ps (p ∷ qs) allowed-all)
       (allowed-more (allowed-first rest) (allowed-join qs (allowed-rest rest) (allowed-more (allowed-first rest) allowed-none))))
     where
