@@ -28,7 +28,6 @@ class Made:
 SHEET_PROGRAM = Made("target/bin/sum_sheet", "sum_sheet", ("check", "sum_sheet"))
 ARCHIVE = Made("target/staticlib/libexports.a", "exports", ("staticlib", "exports"))
 NATIVE = Made("target/native/libkewohiata.a", "exports", ("staticlib", "exports"), lambda path: native.archive("exports", path))
-FIRST = "1 to 3 minutes where nothing is proved yet"
 
 
 # ---- the sources
@@ -111,7 +110,7 @@ def lock():
 
 
 def rebuild(made, why):
-    say(f"{why}: {made.command} proves and builds it, {FIRST}")
+    say(f"{why}: {made.command} proves and builds it, which takes minutes where nothing is proved yet")
     began, summed = time.monotonic(), digest(made)  # of the sources before: what changes while they are proved is seen next time
     if not os.path.exists(made.path):
         stamp = os.path.join(ROOT, "target", "stamp", made.crate)

@@ -42,7 +42,7 @@ ENVIRONMENTS = {
     "both, upward": USUAL | UP | FLUSH | ZEROED,
 }
 GOOD = {"as usual", "with flags raised"}
-ENVIRONMENT, NEAREST, ADD, WITHDRAW, FAITHFUL, LIST_NEAREST, WORDS_ROUND, PARTS, WALK = range(9)
+ENVIRONMENT, NEAREST, ADD, WITHDRAW, FAITHFUL, LIST_NEAREST, WORDS_ROUND, PARTS, WALK, READ = range(10)
 
 TINY = [exact.ONE, 0x36EB6, exact.ONE | exact.SIGN]
 LISTS = 150
@@ -162,6 +162,8 @@ def wanted(call, numbers):
         return [exact.nearest_sum(numbers)]
     if call == WORDS_ROUND:
         return [whole(numbers, 1).round()]
+    if call == READ:
+        return (numbers + [0] * 32)[:32] + [len(numbers)]
     if call == PARTS:
         parts, all_of_it = exact.sum_in_parts(numbers, exact.PARTS)
         return parts + [int(all_of_it)]
@@ -170,7 +172,7 @@ def wanted(call, numbers):
 
 def check_calls(name, program, prefix, some):
     """The calls on whole numbers answer the same everywhere; the walk's are counted where they are wrong."""
-    calls = [NEAREST, ADD, WITHDRAW] + ([LIST_NEAREST, WORDS_ROUND, PARTS] if has_arrays() else [])
+    calls = [NEAREST, ADD, WITHDRAW] + ([LIST_NEAREST, WORDS_ROUND, PARTS, READ] if has_arrays() else [])
     right = {(call, k): wanted(call, numbers) for call in calls for k, numbers in enumerate(some)}
     for what, control in ENVIRONMENTS.items():
         asked = [(call, k) for call in calls for k in range(len(some))]

@@ -3,12 +3,13 @@
 
     python3 tests/examples.py        exit status 1 on a difference
 
-In a block marked console, a line with a dollar is a command and the lines behind it are what it prints. A block marked python is run too, and the block marked
-text behind it is what it prints; a block marked c is compiled. Needs what `rt check sum_sheet` and `rt staticlib exports` build, and builds it where it is
-missing.
+In a block marked console, a line with a dollar is a command and the lines behind it are what it prints. A block marked sh has commands alone, which have to
+succeed; scripts/test, which runs this, isn't run again, nor a compiler that isn't there. A block marked python is run too, and the block marked text behind it
+is what it prints; a block marked c is compiled. Needs what `rt check sum_sheet` and `rt staticlib exports` build, and builds it where it is missing.
 """
 import os
 import re
+import shutil
 import subprocess
 import sys
 
@@ -50,6 +51,15 @@ def commands(block):
         yield command, lines
 
 
+def lines_of(block):
+    """The commands of a block that has nothing else, but for the gate's own; those that need a compiler of x86-64 where there is none."""
+    lines = [line.split("  #")[0].strip() for line in block.splitlines()]
+    for k, line in enumerate(lines):
+        compiler = [other for other in lines[: k + 1] if other.startswith("gcc ") and (other is line or other.split()[-1] == line.split()[0])]
+        if line and line != "scripts/test" and (not compiler or (shutil.which("gcc") and kit.machine() == "x86_64")):
+            yield line
+
+
 def compiled(text):
     """The status of the kit's compiler on a C text, with every warning an error."""
     os.makedirs(PLACE, exist_ok=True)
@@ -68,6 +78,10 @@ def check_page(page):
             for command, lines in commands(text):
                 COUNTS["commands"] += 1
                 same(f"{page}: {command}", printed(["bash", "-c", command]), lines)
+        elif kind == "sh":
+            for command_line in lines_of(text):
+                COUNTS["commands"] += 1
+                same(f"{page}: {command_line}", subprocess.run(["bash", "-c", command_line], cwd=ROOT, stdout=subprocess.PIPE, check=False).returncode, 0)
         elif kind == "python":
             COUNTS["programs"] += 1
             shown = blocks[k + 1][1] if blocks[k + 1][0] == "text" else "a block marked text"
@@ -98,7 +112,7 @@ def main():
     for page in PAGES:
         check_page(page)
     check_examples()
-    same("the pages show commands and programs", COUNTS["commands"] >= 9 and COUNTS["programs"] == 2, True)
+    same("the pages show commands and programs", COUNTS["commands"] >= 12 and COUNTS["programs"] == 2, True)
     for name, got, expected in DIFFERENCES[:9]:
         print(f"examples: {name}: printed\n{got}\nand should\n{expected}")
     print(f"examples: {', '.join(f'{n} {what}' for what, n in COUNTS.items())}, {len(DIFFERENCES)} differences")

@@ -7,7 +7,7 @@
 long read(int file, void *bytes, size_t count);
 long write(int file, const void *bytes, size_t count);
 
-enum { MOST = 4095, VALUES = 33 };
+enum { MOST = KEWOHIATA_LIST_MOST, VALUES = 33 };
 
 static uint64_t list[MOST], values[VALUES];
 
@@ -52,6 +52,21 @@ static uint32_t parted(size_t n)
     memcpy(values, area, KEWOHIATA_PARTS_MOST * sizeof area[0]);
     return code;
 }
+
+/* the list as a sheet, read back: as many patterns as there are values, but for the last, which is the count */
+static uint32_t sheet_read(size_t n)
+{
+    static uint8_t sheet[KEWOHIATA_SHEET_BYTES_MOST];
+    static uint64_t patterns[KEWOHIATA_LIST_MOST];
+    sheet[0] = 1;
+    for (size_t i = 0; i < 4; i++)
+        sheet[1 + i] = (uint8_t)(n >> (24 - 8 * i));
+    for (size_t i = 0; i < 8 * n; i++)
+        sheet[KEWOHIATA_SHEET_HEADER + i] = (uint8_t)(list[i / 8] >> (56 - 8 * (i % 8)));
+    uint32_t code = kewohiata_sheet_read(sheet, KEWOHIATA_SHEET_HEADER + 8 * n, patterns, KEWOHIATA_LIST_MOST, values + VALUES - 1, KEWOHIATA_VALUE);
+    memcpy(values, patterns, (n < VALUES - 1 ? n : VALUES - 1) * sizeof patterns[0]);
+    return code;
+}
 #endif
 
 static uint32_t call(uint64_t which, size_t n)
@@ -67,6 +82,7 @@ static uint32_t call(uint64_t which, size_t n)
     case 6: return rounded(n);
     case 7: return parted(n);
     case 8: return kewohiata_walk_faithful(list, n, area, n, values, KEWOHIATA_FAITHFUL);
+    case 9: return sheet_read(n);
 #endif
     default: return UINT32_MAX;
     }
