@@ -8,7 +8,7 @@
  *
  * Floating-point environment. The calls of the walk add doubles: kewohiata_faithful, kewohiata_walk_open, kewohiata_walk_step and kewohiata_walk_faithful.
  * They need the calling thread to round to nearest, to keep subnormal results (no flush-to-zero) and to read subnormal operands as they are (no
- * denormals-as-zero), with inexact and underflow not trapped; else they may return 0 with a wrong sum. A program that was linked with -Ofast or -ffast-math
+ * denormals-as-zero), and to trap no floating-point exception; else they may return 0 with a wrong sum. A program that was linked with -Ofast or -ffast-math
  * may start with both switched on: ask kewohiata_environment once per thread, before the first of these calls. All other calls work on whole numbers, make
  * doubles by their bits, and answer the same in every environment: nearest, parts, registers, sheets.
  *
