@@ -1,6 +1,13 @@
 """The measured times as tables of ratios, in Markdown."""
 import textwrap
 
+# what bench/results.md begins with
+HEAD = """# The tables of one run
+
+Written by `bench/run --record`; docs/PERFORMANCE.md says what is compared and what follows.
+
+"""
+
 # the sums in the order of sums.c, and then fsum.py's: a name for the tables, and what it is
 SUMS = (
     ("naive", "the naive sum, a loop in C"),
