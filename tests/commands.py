@@ -225,6 +225,11 @@ def check_built(room, words, out, asked):
     link = os.path.join(room.folder, "bin", f"linked-{os.path.basename(words[0])}")
     os.symlink(os.path.join(room.root, words[0]), link)
     built_again("through a link", False, path=link)
+    with open(os.path.join(room.root, "crates.txt"), "ab") as f:
+        f.write(b"\xff\n")  # which nothing is ready for: an error that nobody catches is no refusal
+    got = room.ran(*words)
+    expect(f"{words[0]}: a fault of its own", got[:2] == (2, "") and len(got[2]) == 1 and got[2][0].startswith(f"{words[0]}: UnicodeDecodeError: "), got)
+    room.write("crates.txt", CRATES)
     shutil.rmtree(target)
     room.write("target", "a file where a folder has to be\n")
     got = room.ran(*words)
