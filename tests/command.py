@@ -73,7 +73,7 @@ def told(error):
 
 
 def run(main):
-    """Ends with the status that main answers, or with a line and status 2. The error of a closed output can't be told there, and a line on standard error is."""
+    """Ends with the status that main answers, or with a line on standard error and status 2."""
     try:
         status = main()
     except SystemExit as error:

@@ -267,7 +267,8 @@ def check_install():
             there = {os.path.relpath(os.path.join(folder, name), prefix) for folder, _, some in os.walk(prefix) for name in some}
             expect(f"scripts/install {more}", done.returncode == 0 and told == there == names, done, there)
         said = read(os.path.join(prefix, "include", "kewohiata.txt"))
-        expect("which back end", all(word in said for word in ("lib/libkewohiata.a, for x86-64", f"{own}/libkewohiata.a, for {machine}", "clang version")), said)
+        wanted = ("lib/libkewohiata.a, for x86-64", f"{own}/libkewohiata.a, for {machine}", "clang version")
+        expect("which back end", all(words in said for words in wanted), said)
         if shutil.which("pkg-config"):
             asked = ["pkg-config", "--with-path=" + os.path.join(prefix, "lib", "pkgconfig"), "--cflags", "--libs", "kewohiata"]
             told = subprocess.run(asked, capture_output=True, text=True, check=False).stdout.split()
