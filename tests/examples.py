@@ -1,28 +1,30 @@
 #!/usr/bin/env python3
-"""Runs what README.md and examples/README.md show, and compares what it prints; the C example, and scripts/sum's exit statuses.
+"""Runs what README.md and examples/README.md show, and compares what it prints; and the C examples.
 
     python3 tests/examples.py        exit status 1 on a difference
 
-In a block marked console, a line with a dollar is a command and the lines behind it are what it prints. A block marked python is run too, and the block marked
-text behind it is what it prints; a block marked c is compiled. Needs what `rt check sum_sheet` and `rt staticlib exports` build, and builds it where it is
-missing.
+In a block marked console, a line with a dollar is a command and the lines behind it are what it prints. A block marked sh has commands alone, which have to
+succeed; scripts/test, which runs this, isn't run again, nor a compiler that isn't there. A block marked python is run too, and the block marked text behind it
+is what it prints; a block marked c is compiled. Needs what `rt check sum_sheet` and `rt staticlib exports` build, and builds it where it is missing.
 """
 import os
 import re
+import shutil
 import subprocess
 import sys
 
 sys.dont_write_bytecode = True
+import built  # noqa: E402
+import command  # noqa: E402
 import kit  # noqa: E402
 
 ROOT = os.path.dirname(os.path.dirname(os.path.abspath(__file__)))
 PLACE = os.path.join(ROOT, "target", "example")
 PAGES = ["README.md", "examples/README.md"]
 BLOCK = re.compile(r"^```(\w+)\n(.*?)^```$", re.S | re.M)
-EXAMPLE = "tests/sheets/example.sheet"
 
 DIFFERENCES = []
-COUNTS = {"commands": 0, "programs": 0, "statuses": 0}
+COUNTS = {"commands": 0, "programs": 0, "examples": 0}
 
 
 def same(name, got, expected):
@@ -49,6 +51,15 @@ def commands(block):
         yield command, lines
 
 
+def lines_of(block):
+    """The commands of a block that has nothing else, but for the gate's own; those that need a compiler of x86-64 where there is none."""
+    lines = [line.split("  #")[0].strip() for line in block.splitlines()]
+    for k, line in enumerate(lines):
+        compiler = [other for other in lines[: k + 1] if other.startswith("gcc ") and (other is line or other.split()[-1] == line.split()[0])]
+        if line and line != "scripts/test" and (not compiler or (shutil.which("gcc") and kit.machine() == "x86_64")):
+            yield line
+
+
 def compiled(text):
     """The status of the kit's compiler on a C text, with every warning an error."""
     os.makedirs(PLACE, exist_ok=True)
@@ -67,6 +78,10 @@ def check_page(page):
             for command, lines in commands(text):
                 COUNTS["commands"] += 1
                 same(f"{page}: {command}", printed(["bash", "-c", command]), lines)
+        elif kind == "sh":
+            for command_line in lines_of(text):
+                COUNTS["commands"] += 1
+                same(f"{page}: {command_line}", subprocess.run(["bash", "-c", command_line], cwd=ROOT, stdout=subprocess.PIPE, check=False).returncode, 0)
         elif kind == "python":
             COUNTS["programs"] += 1
             shown = blocks[k + 1][1] if blocks[k + 1][0] == "text" else "a block marked text"
@@ -76,47 +91,28 @@ def check_page(page):
             same(f"{page}: the C text", compiled(text), 0)
 
 
-def check_leaver():
-    """The C example prints what lies beside it, and a turned character of that would be seen."""
-    got, expected = printed(["scripts/example"]), read("examples/leaver.out")
-    same("scripts/example", got, expected)
+def check_example(name):
+    """A C example prints what lies beside it, and a turned character of that would be seen."""
+    got, expected = printed(["scripts/example", name]), read(f"examples/{name}.out")
+    COUNTS["examples"] += same(f"scripts/example {name}", got, expected)
     same("a wrong line passes", [i for i in range(len(expected)) if got == expected[:i] + "#" + expected[i + 1 :]], [])
 
 
-# ---- scripts/sum
-def ended(words, stdin=None, **environment):
-    """The status and standard output of scripts/sum, and whether it said a line of its own."""
-    command = [sys.executable, "scripts/sum", *words]
-    with open(os.path.join(ROOT, stdin or os.devnull), "rb") as sheet:
-        process = subprocess.run(command, cwd=ROOT, stdin=sheet, capture_output=True, env={**os.environ, **environment}, check=False)
-    return process.returncode, process.stdout.decode(), process.stderr.startswith(b"scripts/sum: ") and process.stderr.count(b"\n") == 1
-
-
-def check_statuses():
-    lines = read("tests/sheets/example.out")
-    without = {"PATH": os.path.dirname(sys.executable) + "-none", "RATTLE_HOME": ""}
-    for name, got, expected in [
-        ("sums", ended([EXAMPLE]), (0, lines, False)),
-        ("standard input", ended(["-"], EXAMPLE), (0, lines, False)),
-        ("refused", ended(["tests/sheets/nan_third.sheet"]), (1, "refused 2 at 2\n", False)),
-        ("nothing on standard input", ended(["-"]), (1, "refused 11\n", False)),
-        ("no file", ended(["no such file"]), (2, "", True)),
-        ("a folder", ended(["tests"]), (2, "", True)),
-        ("no kit", ended([EXAMPLE], **without), (2, "", True)),
-        ("another kit", ended([EXAMPLE], RATTLE_HOME=ROOT), (2, "", True)),
-        ("no word", ended([])[:2], (2, "")),
-        ("two words", ended([EXAMPLE, EXAMPLE])[:2], (2, "")),
-    ]:
-        COUNTS["statuses"] += 1
-        same(f"scripts/sum: {name}", got, expected)
+def check_examples():
+    """Every C file of examples/. Those over the calls on arrays need an archive that has them."""
+    names = sorted(name[:-2] for name in os.listdir(os.path.join(ROOT, "examples")) if name.endswith(".c"))
+    same("without a name it is leaver", printed(["scripts/example"]), read("examples/leaver.out"))
+    arrays = built.has(built.need(built.ARCHIVE), "kewohiata_words_round")
+    for name in names if arrays else ["leaver"]:
+        check_example(name)
 
 
 def main():
+    command.asked(__doc__)
     for page in PAGES:
         check_page(page)
-    check_leaver()
-    check_statuses()
-    same("the pages show commands and programs", COUNTS["commands"] >= 9 and COUNTS["programs"] == 2, True)
+    check_examples()
+    same("the pages show commands and programs", COUNTS["commands"] >= 12 and COUNTS["programs"] == 2, True)
     for name, got, expected in DIFFERENCES[:9]:
         print(f"examples: {name}: printed\n{got}\nand should\n{expected}")
     print(f"examples: {', '.join(f'{n} {what}' for what, n in COUNTS.items())}, {len(DIFFERENCES)} differences")
