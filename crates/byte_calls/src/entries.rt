@@ -10,7 +10,7 @@ ghost use Rattle.calls.specs.Calls.{registerBytes, answered, addCall, withdrawC
 ghost use Rattle.words.specs.Words.{wordCount};
 ghost use Rattle.calls.specs.Inner.{EntryRefusal};
 
-// "the register's 264 bytes"
+// rule C5
 const BYTES: usize = SIZE * WORDS;
 
 // What was entered in the words goes to the register's bytes; a refusal leaves them.

@@ -19,13 +19,13 @@ use Rattle.register.specs.Register.{Changed, added, withdrawn}
 abbrev pub Called : Type 0
 Called = Outcome ℕ ℕ
 
--- ---- "The call returns 0, or the refusal number plus 32·(place + 1) where a place is told and plus 0 where none is."
+-- ---- rule C3: what a place adds to a code
 abbrev pub placeCode : Place → ℕ
 placeCode nowhere = 0
 placeCode (at p) = 32 * (p + 1)
 
--- What is heard, as a call returns and leaves it, with the lent bytes before and the words of a register afterwards: "An accepted sum writes 16 bytes: the
--- pattern, then the rounds (0 for nearest); an accepted register call changes only the register's 264 bytes." The last three are heard of no call here.
+-- What is heard, as a call returns and leaves it, with the lent bytes before and the words of a register afterwards: rules C3 to C5. The last three are heard
+-- of no call here.
 unfoldable pub answered : Heard → List ℕ → List ℕ → Called
 answered (refused k p) before words = outcome (k + placeCode p) before
 answered (done x rounds) before words = outcome 0 (packed (x ∷ rounds ∷ []))
@@ -46,7 +46,7 @@ abbrev pub registerBytes : ℕ
 registerBytes = 8 * wordCount
 
 -- ---- the sums
--- "A list above 32,752 bytes is refusal 1; other lengths that aren't a multiple of 8, and wrong lengths of the 16 or 264 bytes, are refusal 4." 0 is no fault.
+-- rule C6; 0 is no fault
 abbrev pub lengthFault : ℕ → ℕ → ℕ
 lengthFault list out = cond (ltb listBytes list) 1 (cond (not (eqb (list % 8) 0)) 4 (cond (not (eqb out sumBytes)) 4 0))
 
@@ -62,7 +62,7 @@ sumCall heardOf list out =
     let fault = lengthFault (length list) (length out) in
     cond (eqb fault 0) (summed heardOf list out) (outcome fault out)
 
--- "The exported faithful sum is lent no work area and keeps its own."
+-- rule C7
 abbrev pub own : ℕ → List Float
 own n = replicate n (ofBits (doubles .format) 0)
 

@@ -16,7 +16,7 @@ use Rattle.calls.specs.Calls.{Called, placeCode, answered, lengthFault, 
 pub call-determined : {r q : ℕ} {xs ys : List ℕ} (c : Called) → outcome r xs ≡ c → outcome q ys ≡ c → (r ≡ q) × (xs ≡ ys)
 call-determined c p q = determined c p q
 
--- ---- "Every refusal writes nothing to any lent area."
+-- ---- rule A1
 answer-leaves : (h : Heard) (before words : List ℕ) → (answered h before words .answer ≡ 0 → ⊥) → answered h before words .area ≡ before
 unfolding answered
 answer-leaves (refused k p) before words n = refl

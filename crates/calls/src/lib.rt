@@ -11,10 +11,10 @@ ghost use Rattle.kinds.specs.Limits.{doubles};
 ghost use Rattle.octets.specs.Octets.{packed};
 ghost use Rattle.calls.specs.Calls.{placeCode, sumBytes, lengthFault};
 
-// The bytes of a sum: "16 bytes: the pattern, then the rounds"
+// The bytes of a sum: rule C4.
 pub const SUM: usize = 2 * SIZE;
 
-// "the refusal number plus 32·(place + 1) where a place is told and plus 0 where none is"
+// The code of a refusal: rule C3.
 pub fn refusal(number: u32, place: u32) -> u32
     requires { ⌜ Refusal (doubles .length) number place ⌝ }
     ensures { λ r. ⌜ r ≡ number + placeCode (placeOf number place) ⌝ }
@@ -25,7 +25,7 @@ pub fn refusal(number: u32, place: u32) -> u32
     number
 }
 
-// "A list above 32,752 bytes is refusal 1; other lengths that aren't a multiple of 8, and wrong lengths of the 16 .. bytes, are refusal 4." 0 for neither.
+// Rule C6: 1 or 4, or 0 for neither.
 pub fn lengths(list: &[u8], out: &[u8]) -> u32
     ensures { λ r. ⌜ r ≡ lengthFault (length (now (list .entry))) (length (now (out .entry))) ⌝ }
 {

@@ -1,5 +1,5 @@
--- Calls at document 01's bounds, beyond its twelve cases: a table of the same kind. Definitions only. The limits are written once, in the definition of a
--- width; these rows hold it to document 01's numbers. Patterns: 2^8 is 4070000000000000, 64 4050000000000000, 1 3FF0000000000000, 2^-60 3C30000000000000.
+-- Calls at the scope's bounds, beyond its twelve cases: a table of the same kind. Definitions only. The limits are written once, in the definition of a
+-- width; these rows hold it to the scope's numbers. Patterns: 2^8 is 4070000000000000, 64 4050000000000000, 1 3FF0000000000000, 2^-60 3C30000000000000.
 use mathlib.Core.Bool.{true}
 use mathlib.Core.List.{List, [], _∷_, _++_}
 use Prim.Native.Nat.{ℕ, _+_, _^_}
@@ -17,13 +17,13 @@ carrying t = record { sigma = 0x4070000000000000; t = t; tau = 0; n = 1; pending
 
 unfoldable pub bounds : List Case
 bounds =
-    -- "rounds closed 0 to 50": the 51st round may close and go on, and its state is not sound
+    -- rules WS4 and WS11: the 51st round may close and go on, and its state is not sound
     record {
       call = step (opened 1 1 50) (0x3C30000000000000 ∷ []) 0;
       expected = outcome (more 0x3C50000000000000 0 0 1 1 51) (0x3C30000000000000 ∷ []);
     }
     ∷ record { call = step (opened 1 1 51) (0x3C30000000000000 ∷ []) 0; expected = outcome (refused 8 nowhere) (0x3C30000000000000 ∷ []) }
-    -- "t and tau are finite, of magnitude at most 2^1012"
+    -- rule WS7
     ∷ record {
       call = step (carrying 0x7F30000000000000) (0x3FF0000000000000 ∷ []) 0;
       expected = outcome (done 0x7F30000000000000 1) (0 ∷ []);
@@ -32,18 +32,18 @@ bounds =
       call = step (carrying 0x7F30000000000001) (0x3FF0000000000000 ∷ []) 0;
       expected = outcome (refused 8 nowhere) (0x3FF0000000000000 ∷ []);
     }
-    -- "n is 1 to 4,094": the last of 64 blocks; and one number more, in an area of that length
+    -- rule WS3: the last of 64 blocks; and one number more, in an area of that length
     ∷ record {
       call = step (opened 4094 (2 ^ 63 + 1) 0) (replicate 4094 0) 63;
       expected = outcome (more 0x4070000000000000 0 0 4094 1 0) (replicate 4094 0);
     }
     ∷ record { call = step (opened 4095 1 0) (replicate 4095 0) 0; expected = outcome (refused 8 nowhere) (replicate 4095 0) }
-    -- "Blocks hold 64 numbers": block 0 of 65 leaves the last place
+    -- rule L8: block 0 of 65 leaves the last place
     ∷ record {
       call = step (opened 65 3 0) (replicate 65 0x3FF0000000000000) 0;
       expected = outcome (more 0x4070000000000000 0 0x4050000000000000 65 2 0) (replicate 64 0 ++ (0x3FF0000000000000 ∷ []));
     }
-    -- "block number at or above B"; "block already taken in this round"; and an area of another length
+    -- rules R6 and R7; and an area of another length, rule R4
     ∷ record {
       call = step (opened 65 2 0) (replicate 65 0x3FF0000000000000) 2;
       expected = outcome (refused 6 nowhere) (replicate 65 0x3FF0000000000000);
@@ -53,28 +53,28 @@ bounds =
       expected = outcome (refused 7 nowhere) (replicate 65 0x3FF0000000000000);
     }
     ∷ record { call = step (opened 65 2 0) (replicate 64 0) 0; expected = outcome (refused 4 nowhere) (replicate 64 0) }
-    -- "magnitude at most 2^1000 (pattern 7E70000000000000 and its negative are allowed)": sigma is 2^1002
+    -- rule L5, both ends: sigma is 2^1002
     ∷ record {
       call = opening (0x7E70000000000000 ∷ 0xFE70000000000000 ∷ []);
       expected = outcome (more 0x7E90000000000000 0 0 2 1 0) (0x7E70000000000000 ∷ 0xFE70000000000000 ∷ []);
     }
     ∷ record { call = opening (0 ∷ 0xFE70000000000001 ∷ []); expected = outcome (refused 3 (at 1)) (beforehand ∷ beforehand ∷ []) }
-    -- "or the magnitude of t' is at least 2^(2M+1) eps sigma": t' is 2^-46 at sigma = 4 and M = 2, and that is enough
+    -- rule W3's second test: t' is 2^-46 at sigma = 4 and M = 2, and that is enough
     ∷ record {
       call = faithfulSum (0x3FF0000000000000 ∷ 0xBFEFFFFFFFFFFF80 ∷ []);
       expected = outcome (done 0x3D10000000000000 1) (0 ∷ 0 ∷ []);
     }
-    -- "if sigma is at most 2^-1022": it is, and t' is one unit
+    -- rule W3's first test: sigma is 2^-1022, and t' is one unit
     ∷ record {
       call = faithfulSum (0x0004000000000000 ∷ 0x8003FFFFFFFFFFFF ∷ []);
       expected = outcome (done 1 1) (0 ∷ 0 ∷ []);
     }
-    -- "T is the work area added up from +0 in rising order": 2^-53 takes in neither of two 2^-106, which together it would
+    -- T of rule W3: 2^-53 takes in neither of two 2^-106, which together it would
     ∷ record {
       call = faithfulSum (0x3FF0000000000000 ∷ 0x3CA0000000000000 ∷ 0x3950000000000000 ∷ 0x3950000000000000 ∷ []);
       expected = outcome (done 0x3FF0000000000000 1) (0 ∷ 0x3CA0000000000000 ∷ 0x3950000000000000 ∷ 0x3950000000000000 ∷ []);
     }
-    -- "Parts: 1 to 8"
+    -- rules L10 and R5
     ∷ record { call = sumInParts [] 8; expected = outcome (parts true) (replicate 8 0) }
     ∷ record { call = sumInParts [] 9; expected = outcome (refused 5 nowhere) (replicate 9 0) }
     ∷ []

@@ -1,4 +1,4 @@
--- Document 01's sheet through the program's lines, computed: whatever its areas held, they are the three lines of document 01. Assumes nothing.
+-- Rule P5's sheet through the program's lines, computed: whatever its areas held, they are the rule's three lines. Assumes nothing.
 use mathlib.Core.Path.{_≡_, refl, ap, _∙_}
 use mathlib.Core.Bool.{Bool, true}
 use mathlib.Core.List.{List, [], _∷_, _++_}
@@ -74,7 +74,7 @@ three-printed xs h =
     ∙ (λ i. countLine 3 ++ faithfulLine (one-pattern i) 2 ++ nearestLine (one-pattern i))
     ∙ three-lines
 
--- ---- "For the sheet .. it prints all of"
+-- ---- rule P5
 module _ (numbers : List ℕ) (work : List Float) (text : List ℕ) (h : 3 ≤ length numbers) (k : 3 ≤ length work) where
   read-three : readOf doubles exampleSheet numbers ≡ outcome (Read 3) (three ++ drop 3 numbers)
   unfolding eights number

@@ -1,4 +1,4 @@
--- Document 01's twelve sums and registers, and calls at its bounds.
+-- The scope's twelve sums and registers, and calls at its bounds.
 pub mod Calls
 pub mod Table
 pub mod Bounds

@@ -1,5 +1,5 @@
--- The table. Definitions only. A number of document 01 is written by its pattern: 1 is 3FF0000000000000, -1 BFF0000000000000, -0 8000000000000000,
--- 2^-53 3CA0000000000000, 2^100 4630000000000000, 2^-1074 1. After a faithful sum the area holds the last remainders, of which document 01 says nothing here.
+-- The table of rules T1 to T12, one as rule K7 wants. Definitions only. Numbers are written by their patterns: 1 is 3FF0000000000000, -1 BFF0000000000000,
+-- -0 8000000000000000, 2^-53 3CA0000000000000, 2^100 4630000000000000, 2^-1074 1. After a faithful sum the area holds the last remainders.
 use mathlib.Core.Bool.{true}
 use mathlib.Core.List.{List, [], _∷_, _++_}
 use Prim.Native.Nat.{ℕ, _-_, _^_}
@@ -26,18 +26,18 @@ justNot = replicate 31 (2 ^ 64 - 1) ++ ((2 ^ 64 - 2 ^ 60 - 1) ∷ (2 ^ 50 - 1) �
 
 unfoldable pub table : List Case
 table =
-    -- 1
+    -- rule T1
     record { call = faithfulSum []; expected = outcome (done 0 0) [] }
-    -- 2
+    -- rule T2
     ∷ record { call = faithfulSum (0x3FF0000000000000 ∷ []); expected = outcome (done 0x3FF0000000000000 1) (0 ∷ []) }
-    -- 3
+    -- rule T3
     ∷ record {
       call = faithfulSum (0x8000000000000000 ∷ 0x8000000000000000 ∷ []);
       expected = outcome (done 0 0) (0x8000000000000000 ∷ 0x8000000000000000 ∷ []);
     }
-    -- 4
+    -- rule T4
     ∷ record { call = faithfulSum (0x3FF0000000000000 ∷ 0xBFF0000000000000 ∷ []); expected = outcome (done 0 1) (0 ∷ 0 ∷ []) }
-    -- 5, "faithful and nearest 1; two parts 1 and 2^-53, exact"; the faithful sum's rounds are the walk's
+    -- rule T5; the faithful sum's rounds are the walk's
     ∷ record {
       call = faithfulSum (0x3FF0000000000000 ∷ 0x3CA0000000000000 ∷ []);
       expected = outcome (done 0x3FF0000000000000 1) (0 ∷ 0x3CA0000000000000 ∷ []);
@@ -47,28 +47,28 @@ table =
       call = sumInParts (0x3FF0000000000000 ∷ 0x3CA0000000000000 ∷ []) 2;
       expected = outcome (parts true) (0x3FF0000000000000 ∷ 0x3CA0000000000000 ∷ []);
     }
-    -- 6, "faithful 1, nearest 3FF0000000000001"; the faithful sum's rounds are the walk's
+    -- rule T6, which tells rule E1's error; the faithful sum's rounds are the walk's
     ∷ record {
       call = faithfulSum (0x3FF0000000000000 ∷ 0x3CA0000000000000 ∷ 1 ∷ []);
       expected = outcome (done 0x3FF0000000000000 1) (0 ∷ 0x3CA0000000000000 ∷ 1 ∷ []);
     }
     ∷ record { call = nearestSum (0x3FF0000000000000 ∷ 0x3CA0000000000000 ∷ 1 ∷ []); expected = outcome (nearest 0x3FF0000000000001) [] }
-    -- 7
+    -- rule T7
     ∷ record {
       call = faithfulSum (0x4630000000000000 ∷ 0x3FF0000000000000 ∷ 0xC630000000000000 ∷ []);
       expected = outcome (done 0x3FF0000000000000 2) (0 ∷ 0 ∷ 0 ∷ []);
     }
-    -- 8
+    -- rule T8
     ∷ record { call = faithfulSum (1 ∷ 1 ∷ []); expected = outcome (done 2 1) (0 ∷ 0 ∷ []) }
-    -- 9, "refusal 3, place 0"
+    -- rule T9
     ∷ record { call = faithfulSum (0x7E70000000000001 ∷ []); expected = outcome (refused 3 (at 0)) (beforehand ∷ []) }
     ∷ record { call = nearestSum (0x7E70000000000001 ∷ []); expected = outcome (refused 3 (at 0)) [] }
-    -- 10
+    -- rule T10
     ∷ record { call = withdraw zeros 0x3FF0000000000000; expected = outcome accepted lessOne }
     ∷ record { call = add lessOne 0x3FF0000000000000; expected = outcome accepted zeros }
-    -- 11
+    -- rule T11
     ∷ record { call = add largest 1; expected = outcome (refused 9 nowhere) largest }
-    -- 12
+    -- rule T12
     ∷ record { call = round tooLarge; expected = outcome (refused 10 nowhere) [] }
     ∷ record { call = round justNot; expected = outcome (nearest 0x7FEFFFFFFFFFFFFF) [] }
     ∷ []

@@ -1,4 +1,4 @@
--- Document 01's promises about the C sums, said of the definitions that their contracts cite: what an accepted sum is, with which code a bad number is told,
+-- The scope's promises about the C sums, said of the definitions that their contracts cite: what an accepted sum is, with which code a bad number is told,
 -- and that 0 is returned exactly when the lengths are right and every number is allowed. Assumes nothing.
 use mathlib.Core.Path.{_≡_, refl, sym, ap, _∙_}
 use mathlib.Core.Logic.{_⊎_, inl, inr, _↔_}

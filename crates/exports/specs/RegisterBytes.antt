@@ -100,7 +100,7 @@ module _ (register : List ℕ) (B : Digits 8 register) (l : length register ≡ 
   pub withdraw-call-undone : withdrawCall register p .answer ≡ 0 → addCall (withdrawCall register p .area) p ≡ outcome 0 register
   withdraw-call-undone = back register B l p (λ ws. wholeOf ws -ℤ unitsOf doubles p) (λ ws. added ws p) (λ ws W. add-undoes W p)
 
-  -- "addition and withdrawal of one allowed number change the whole number by exactly its units"
+  -- rules G1 and G2
   pub add-call-whole : addCall register p .answer ≡ 0 → wholeOf (wordsIn (addCall register p .area)) ≡ wholeOf (wordsIn register) +ℤ unitsOf doubles p
   add-call-whole = whole register B l p (λ ws. wholeOf ws +ℤ unitsOf doubles p) (λ ws. withdrawn ws p) (λ ws W. withdraw-undoes W p)
 

@@ -1,4 +1,4 @@
--- What document 01 says of the bytes of a C sum. Definitions only.
+-- What rule C4 says of the bytes of a C sum. Definitions only.
 use mathlib.Core.Path.{_≡_}
 use mathlib.Core.List.{List, [], _∷_}
 use Prim.Native.Nat.{ℕ, suc, _+_, _*_, _%_, _≤_, _<_}
@@ -12,7 +12,7 @@ use Rattle.octets.specs.Octets.{packed}
 use Rattle.sums.specs.Sums.{sumOf}
 use Rattle.calls.specs.Calls.{Called, patternsIn, listBytes, sumBytes}
 
--- "An accepted sum writes 16 bytes: the pattern, then the rounds", of a faithful sum
+-- of a faithful sum
 pub record FaithfulBytes (list : List ℕ) (c : Called) : Type 0 where
   pub sum : Float
   pub rounds : ℕ
@@ -20,7 +20,7 @@ pub record FaithfulBytes (list : List ℕ) (c : Called) : Type 0 where
   pub faithful : FaithfulTo (doubles .format) (sumOf (doubles .format) (patternsIn list)) sum
   pub most : rounds ≤ suc (doubles .rounds)
 
--- and of the nearest sum, "(0 for nearest)"
+-- and of the nearest sum, whose rounds are 0
 pub record NearestBytes (list : List ℕ) (c : Called) : Type 0 where
   pub sum : Float
   pub is : c ≡ outcome 0 (packed (toBits (doubles .format) sum ∷ 0 ∷ []))

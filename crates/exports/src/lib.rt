@@ -1,9 +1,9 @@
-// The calls for a host program: "exported with the C calling convention, on numbers and byte slices".
+// The calls for a host program: rules C1 and F7.
 ghost use mathlib.Core.Path.{_≡_};
 ghost use Rattle.kinds.specs.Outcome.{outcome};
 ghost use Rattle.calls.specs.Calls.{faithfulCall, nearestCall, addCall, withdrawCall};
 
-// The faithful sum, as `walk::faithful` has it. "The exported faithful sum is lent no work area and keeps its own."
+// The faithful sum, as `walk::faithful` has it, over a work area of its own (rule C7).
 #[no_mangle]
 pub extern "C" fn kewohiata_faithful(list: &[u8], out: &mut [u8]) -> u32
     ensures { λ r. ⌜ outcome r (now (out .exit)) ≡ faithfulCall (now (list .entry)) (now (out .entry)) ⌝ }

@@ -1,9 +1,8 @@
 // Calls for tests only: what isn't exported for the host, with the C calling convention, over bytes in the same way. tests/host.py compares what they answer
 // with exact integers. They are compared and promise nothing: no contract says what they answer, and all that is proved of them is that they are safe and end.
 //
-// Numbers lie least significant byte first, 8 bytes each. A call answers 0, or the refusal number plus 32·(place + 1) where a place is told and plus 0 where
-// none is, or 0xFFFFFFFF where the lengths are such that the harness itself can't hold them. What is lent to the library as a work area, parts slice or output
-// area is copied back after every call, refused ones too, so that a wrong write is seen.
+// Numbers lie as in rule C2. A call answers a code as in rule C3, or 0xFFFFFFFF where the lengths are such that the harness itself can't hold them. What is
+// lent to the library as a work area, parts slice or output area is copied back after every call, refused ones too, so that a wrong write is seen.
 use held::parts;
 use held::registers;
 use held::sheets;

@@ -8,7 +8,7 @@ pub const ACCEPTED: u32 = 0;
 // No list that the harness holds has as many places.
 const PLACES: u32 = 0x10000;
 
-// "the refusal number plus 32·(place + 1) where a place is told and plus 0 where none is"
+// rule C3
 pub fn refusal(number: u32, place: u32) -> u32 {
     if PLACES <= place {
         return UNHELD;

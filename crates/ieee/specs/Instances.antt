@@ -1,4 +1,4 @@
--- Document 01's numbers at binary64, and numbers for binary32, a line each. A magnitude of 2 ^ 1000 is 2 ^ 2074 units, one of 2 ^ 100 at binary32 2 ^ 249.
+-- The scope's numbers at binary64, and numbers for binary32, a line each. A magnitude of 2 ^ 1000 is 2 ^ 2074 units, one of 2 ^ 100 at binary32 2 ^ 249.
 -- Assumes nothing.
 use mathlib.Core.Path.{_≡_, refl}
 use mathlib.Core.Logic.{_↔_}

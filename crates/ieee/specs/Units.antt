@@ -1,5 +1,5 @@
 -- A finite float as a whole number of units, and the float nearest to a whole number of units. Definitions only.
--- A unit is 2 ^ -low, the format's smallest positive value: 2 ^ -1074 at binary64, 2 ^ -149 at binary32.
+-- Rule L1 for every format: a unit is 2 ^ -low, its smallest positive value: 2 ^ -1074 at binary64, 2 ^ -149 at binary32.
 use mathlib.Core.Path.{_≡_}
 use mathlib.Core.Bool.{Bool, true, false, cond}
 use Prim.Native.Nat.{ℕ, zero, suc, _+_, _-_, _*_, _/_, _%_, _^_}
@@ -56,7 +56,7 @@ unfoldable pub nearestFloat : Format → Bool → ℤ → Float
 unfolding round
 nearestFloat f z S = round f (signOf z S) (natAbs S) (2 ^ low f)
 
--- the least number of units whose nearest float is an infinity: half a place below `overflow`, which is 2 ^ (emax + 1) in units
+-- rule G5: the least number of units whose nearest float is an infinity, half a place below `overflow`, which is 2 ^ (emax + 1) in units
 abbrev pub limit : Format → ℕ
 limit f = overflow f - 2 ^ (low f + emax f - prec f)
 

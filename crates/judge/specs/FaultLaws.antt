@@ -107,7 +107,7 @@ module _ (W : Width) (proper : W .magnitude < ones (W .format) * hid (W .format)
       | inr h ↦ rw (lt-ltb (W .magnitude) (p % top (W .format)) h, ne-eqb (faultOf W p) 0 (λ e. not-le-of-lt h (within .1 (fault-0 W p .0 e))))
     ]
 
--- ---- document 01's limit, 2 ^ 1000
+-- ---- rule L5's limit, 2 ^ 1000
 pub proper-doubles : doubles .magnitude < ones (doubles .format) * hid (doubles .format)
 proper-doubles = lit< tt
 

@@ -1,4 +1,4 @@
--- The fault of one pattern, and what a list is refused for, in document 01's order. Definitions only.
+-- The fault of one pattern, and what a list is refused for, in rule O1's order. Definitions only.
 use mathlib.Core.Bool.{Bool, false, cond, not}
 use mathlib.Core.List.{List, [], _∷_, map}
 use Prim.Native.Nat.{ℕ, _+_}
@@ -11,7 +11,7 @@ use Rattle.kinds.specs.Limits.{Width}
 use Rattle.kinds.specs.declared.Verdict.{Verdict}
 use Rattle.kinds.specs.declared.Verdict.the-variants.{Good, Refused}
 
--- 2 for a NaN or infinity, 3 for a finite number of magnitude above the limit, 0 for an allowed one
+-- rules R2 and R3: 2 where a pattern isn't finite, 3 where its magnitude is beyond the limit, 0 where it is allowed
 unfoldable pub faultOf : Width → ℕ → ℕ
 faultOf W p =
     cond (finite (ofBits (W .format) p))
@@ -23,7 +23,7 @@ unfoldable pub firstFault : Width → List ℕ → ℕ → Verdict
 firstFault W [] k = Good
 firstFault W (p ∷ ps) k = cond (eqb (faultOf W p) 0) (firstFault W ps (k + 1)) (Refused (faultOf W p) k)
 
--- "Order on a list: 1, 4, 5, then the lowest bad place with its own fault (2 or 3)." area and parts say whether the lent areas have the right lengths.
+-- rule O1, with rules R1, R4 and R5: area and parts say whether the lent areas have the right lengths
 unfoldable pub judged : Width → Bool → Bool → List ℕ → Verdict
 judged W area parts ps =
     cond (ltb (W .length) (length ps)) (Refused 1 0)
@@ -35,6 +35,6 @@ judged W area parts ps =
 abbrev pub floats : Width → List ℕ → List Float
 floats W ps = map (ofBits (W .format)) ps
 
--- what a list with exact sum zero answers: +0. The sign of that zero, negative where it is true.
+-- rule S3: what a list with exact sum zero answers. The sign of that zero, negative where it is true.
 abbrev pub zeroSign : List ℕ → Bool
 zeroSign ps = false

@@ -1,4 +1,4 @@
--- What a list is refused for, case by case, and that each verdict is given exactly when document 01's table says. Assumes nothing.
+-- What a list is refused for, case by case, and that each verdict is given exactly when rule O6 says. Assumes nothing.
 use mathlib.Core.Path.{_≡_, refl, _∙_}
 use mathlib.Core.Logic.{_⊎_, inl, inr, _↔_}
 use mathlib.Core.Bool.{Bool, true, false, not}

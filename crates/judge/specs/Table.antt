@@ -1,4 +1,4 @@
--- Document 01's table of refusals for a list: what a verdict is given exactly for. Definitions only.
+-- Rule O6 for a list: what a verdict is given exactly for. Definitions only.
 use mathlib.Core.Path.{_≡_}
 use mathlib.Core.Bool.{Bool, not}
 use mathlib.Core.List.{List}

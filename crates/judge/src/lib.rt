@@ -11,7 +11,7 @@ ghost use Rattle.kinds.specs.declared.Verdict.the-variants.{Good};
 ghost use Rattle.judge.specs.FaultlessLaws.{faultless};
 ghost use Rattle.judge.specs.Judge.{faultOf, firstFault, judged, floats, zeroSign};
 
-// The number of a pattern's fault, 0 for none: 2 "a NaN or infinity", 3 "a finite number of magnitude above 2^1000".
+// The number of a pattern's fault, 0 for none: rules R2 and R3.
 pub fn fault(p: u64) -> u32
     ensures { λ r. ⌜ r ≡ faultOf doubles p ⌝ }
 {
@@ -39,7 +39,7 @@ fn faultless(list: &[u64]) -> bool
     !over
 }
 
-// "the lowest bad place with its own fault". The bound on the length, which `judge` tests, is there because a place is told in 32 bits.
+// The first bad place, with the fault that it has. The bound on the length, which `judge` tests, is there because a place is told in 32 bits.
 fn first_fault(list: &[u64]) -> Verdict
     requires { ⌜ length (now list) ≤ doubles .length ⌝ }
     ensures { λ r. ⌜ r ≡ firstFault doubles (now (list .entry)) 0 ⌝ }
@@ -55,7 +55,7 @@ fn first_fault(list: &[u64]) -> Verdict
     Verdict::Good
 }
 
-// "Order on a list: 1, 4, 5, then the lowest bad place with its own fault (2 or 3)."
+// Rule O1. A list is only read (rule A4).
 pub fn judge(list: &[u64], area: bool, parts: bool) -> Verdict
     ensures { λ r. ⌜ r ≡ judged doubles area parts (now (list .entry)) ⌝ }
 {
@@ -86,7 +86,7 @@ pub fn copy(list: &[u64], work: &mut [f64])
     }
 }
 
-// The sign of the zero that a list with exact sum zero answers, the same for the faithful sum, the nearest and the first part: "A zero S gives +0."
+// Rule S3: the sign of the zero that a list with exact sum zero answers, the same for the faithful sum, the nearest and the first part.
 pub fn zero_sign(list: &[u64]) -> bool
     ensures { λ r. ⌜ r ≡ zeroSign (now (list .entry)) ⌝ }
 {

@@ -1,4 +1,4 @@
--- What a caller hears: for each case of each answer, document 01's number and the place or that none is told, or the values. Definitions only.
+-- Rule F11: what a caller hears, for each case of each answer: a refusal's number and the place or that none is told, or the values. Definitions only.
 use mathlib.Core.Path.{_≡_}
 use mathlib.Core.Bool.{Bool, cond, _||_}
 use Prim.Native.Nat.{ℕ, zero, suc, _≤_, _<_}
@@ -33,7 +33,7 @@ pub data Heard : Type 0 where
   accepted : Heard
   count : ℕ → Heard
 
--- 2 and 3 tell a place
+-- rule A5: 2 and 3 tell a place
 abbrev pub tells : ℕ → Bool
 tells k = eqb k 2 || eqb k 3
 

@@ -1,4 +1,4 @@
--- Document 01's limits, and what a caller hears of each answer.
+-- The scope's limits, and what a caller hears of each answer.
 pub mod Limits
 pub mod States
 pub mod Outcome

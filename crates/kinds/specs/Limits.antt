@@ -20,7 +20,7 @@ pub record Width : Type 0 where
 abbrev pub doubles : Width
 doubles = record { format = binary64; length = 4094; magnitude = 0x7E70000000000000; block = 64; parts = 8; carried = 0x7F30000000000000; rounds = 50 }
 
--- "M is the least whole number with 2^M at least n + 2"; "B = n/64 rounded up"
+-- rule L7: M; rule L9: B
 abbrev pub exponentOf : ℕ → ℕ
 exponentOf n = ceil (n + 2)
 

@@ -1,4 +1,4 @@
--- How a state of the walk is built: the one definition that writes its fields. Definitions only.
+-- How a state of the walk is built, rule WS1: the one definition that writes its fields. Definitions only.
 use Prim.Native.Nat.{ℕ}
 use lib.Ieee.{Float}
 use Rattle.kinds.specs.declared.State.{State}

@@ -34,16 +34,16 @@ pub struct Limits {
 }
 
 impl Doubles {
-    // "A list has 0 to 4,094 numbers."
+    // rule L4
     pub const LENGTH: usize = 4094;
 
-    // "of magnitude at most 2^1000 (pattern 7E70000000000000 and its negative are allowed)"
+    // rule L5: the pattern of 2^1000
     pub const MAGNITUDE: u64 = 0x7E70_0000_0000_0000;
 
-    // "Blocks hold 64 numbers."
+    // rule L8
     pub const BLOCK: usize = 64;
 
-    // "Parts: 1 to 8"
+    // rule L10: the most
     pub const PARTS: usize = 8;
 
     // "t and tau are finite, of magnitude at most 2^1012"
@@ -72,7 +72,7 @@ impl Doubles {
         Doubles { n }
     }
 
-    // M, "the least whole number with 2^M at least n + 2"
+    // rule L7: M
     pub fn exponent(self) -> u32
         requires { ⌜ self .n ≤ doubles .length ⌝ }
         ensures { λ r. ⌜ r ≡ exponentOf (self .n) ⌝ }
@@ -81,7 +81,7 @@ impl Doubles {
         64 - u64::leading_zeros(n + 1)
     }
 
-    // B, "n/64 rounded up"
+    // rule L9: B
     pub fn blocks(self) -> usize
         requires { ⌜ self .n ≤ doubles .length ⌝ }
         ensures { λ r. ⌜ r ≡ blocksOf doubles (self .n) ⌝ }
@@ -90,7 +90,7 @@ impl Doubles {
     }
 }
 
-// "A state holds the three doubles sigma, t and tau beside n, the pending set and the rounds closed."
+// Rules WS1 and F1: the state of a walk, a value with three f64 fields.
 pub struct State {
     pub sigma: f64,
     pub t: f64,
@@ -116,9 +116,9 @@ impl State {
     }
 }
 
-// ---- answers. A refusal holds document 01's number and the place, 0 where none is told.
+// ---- answers. A refusal holds its number (rules R1 to R13) and the place, 0 where none is told.
 
-// Whether a refusal with this number tells a place: 2 and 3 do.
+// Rule A5: whether a refusal with this number tells a place: 2 and 3 do.
 pub fn tells(number: u32) -> bool
     ensures { λ r. ⌜ r ≡ tells number ⌝ }
 {
@@ -131,7 +131,7 @@ pub enum Verdict {
     Refused(u32, u32),
 }
 
-// of an opening, a step and the undivided faithful sum
+// of an opening, a step and the undivided faithful sum: rules WS9 and F6
 pub enum Step {
     More(State),
     Done(f64, u32),

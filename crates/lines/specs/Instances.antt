@@ -1,4 +1,4 @@
--- Lines of document 01's text, computed: `refused 11`, `refused 3 at 1`, and the three lines of its sheet. Assumes nothing.
+-- Lines of rules P4 and P5, computed: `refused 11`, `refused 3 at 1`, and the three lines of the example. Assumes nothing.
 use mathlib.Core.Path.{_≡_, refl}
 use mathlib.Core.List.{List, [], _∷_, _++_}
 use Prim.Native.Nat.{ℕ}

@@ -23,7 +23,7 @@ pub faithful-length : (p rounds : ℕ) → length (faithfulLine p rounds) ≡ 34
 unfolding faithfulLine
 faithful-length p rounds = simp (length-append, hex-length) (omega arith)
 
--- "A list has 0 to 4,094 numbers", "hence at most 51"
+-- rules L4 and WR3
 pub counted-length : (n : ℕ) → n ≤ doubles .length → length (decimalOf n) ≤ 4
 counted-length n h = decimal-length 3 n (omega arith)
 

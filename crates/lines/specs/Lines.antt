@@ -38,7 +38,7 @@ atWord = 32 ∷ 97 ∷ 116 ∷ 32 ∷ []
 abbrev pub lineEnd : List ℕ
 lineEnd = 10 ∷ []
 
--- ---- lines: "the count in decimal; the faithful pattern in 16 capital hex digits and the rounds in decimal; the nearest pattern"
+-- ---- the lines of rule P2
 unfoldable pub countLine : ℕ → List ℕ
 countLine n = countWord ++ decimalOf n ++ lineEnd
 
@@ -48,7 +48,7 @@ faithfulLine p rounds = faithfulWord ++ hexOf p ++ (roundsWord ++ decimalOf roun
 unfoldable pub nearestLine : ℕ → List ℕ
 nearestLine p = nearestWord ++ hexOf p ++ lineEnd
 
--- "`refused 3 at 1` (number, place) or, without a place, `refused 11`"
+-- rule P4
 unfoldable pub refusedLine : ℕ → Place → List ℕ
 refusedLine k nowhere = refusedWord ++ decimalOf k ++ lineEnd
 refusedLine k (at p) = refusedWord ++ decimalOf k ++ (atWord ++ decimalOf p) ++ lineEnd
@@ -79,7 +79,7 @@ printed count numbers work text = record { count = count; numbers = numbers; wor
 abbrev pub printing : List ℕ → List ℕ → List Float → List ℕ → Printed
 printing lines numbers work text = printed (length lines) numbers work (lines ++ drop (length lines) text)
 
--- "A refused sheet or list prints one line". Of an accepted sheet the first n numbers are those that were read; the walk has as many places of the work area.
+-- Rules P2 and P4. Of an accepted sheet the first n numbers are those that were read; the walk has as many places of the work area.
 unfoldable pub linesAfter : Sheet → List ℕ → List Float → List ℕ → Printed
 linesAfter (sheets.Refused k p) numbers work text = printing (refusedLine k (placeOf k p)) numbers work text
 linesAfter (sheets.Read n) numbers work text =

@@ -1,4 +1,4 @@
--- A set of small numbers as the digits of one number. Definitions only.
+-- A set of small numbers as the digits of one number, as rule WS2 wants the pending set. Definitions only.
 use mathlib.Core.Bool.{Bool}
 use Prim.Native.Nat.{ℕ, _-_, _*_, _/_, _%_, _^_}
 use lib.Dec.{eqb}

@@ -1,4 +1,4 @@
--- Numbers as text, in ASCII: "the count in decimal; the faithful pattern in 16 capital hex digits". Definitions only.
+-- Numbers as text, in ASCII: rule P3. Definitions only.
 use mathlib.Core.Bool.{cond}
 use mathlib.Core.List.{List, [], _∷_, _++_}
 use Prim.Native.Nat.{ℕ, zero, suc, _+_, _/_, _%_, _^_}

@@ -55,7 +55,7 @@ fn capitals(p: u64, digits: &mut [u8])
     }
 }
 
-// A word, and a pattern "in 16 capital hex digits".
+// A word, and a pattern as rule P3 spells it.
 pub fn pattern(text: &mut [u8], end: usize, word: &[u8], p: u64) -> usize
     requires { ⌜ end + length (now word) + 16 ≤ length (now text) ⌝ }
     ensures { λ r. ⌜ Placed (now (word .entry) ++ hexOf p) end (now (text .entry)) r (now (text .exit)) ⌝ }

@@ -31,7 +31,7 @@ unfoldable pub eights : (List ℕ → ℕ) → ℕ → List ℕ → List ℕ
 eights numberOf zero bytes = []
 eights numberOf (suc n) bytes = numberOf (bytesAt bytes 0 8) ∷ eights numberOf n (drop 8 bytes)
 
--- "Patterns and words lie least significant byte first."
+-- rule C2
 abbrev pub packed : List ℕ → List ℕ
 packed vs = joined (littleEndian 8) vs
 

@@ -13,7 +13,7 @@ pub fn wide(b: u8) -> u64
     b as u64
 }
 
-// The number that so many bytes from a place on stand for, "all big-endian". Eight bytes at most, since nine need not fit.
+// The number that so many bytes from a place on stand for, as on a sheet (rule H1). Eight bytes at most, since nine need not fit.
 pub fn big_endian(bytes: &[u8], at: usize, count: usize) -> u64
     requires { ⌜ (count ≤ 8) × (at + count ≤ length (now bytes)) ⌝ }
     ensures { λ r. ⌜ r ≡ big (bytesAt (now (bytes .entry)) at count) ⌝ }

@@ -1,4 +1,4 @@
-// "Patterns and words lie least significant byte first."
+// Numbers in bytes, the lowest first: rule C2.
 use crate::wide;
 ghost use mathlib.Core.Path.{_≡_};
 ghost use mathlib.Core.List.{_++_};

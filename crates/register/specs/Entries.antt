@@ -21,12 +21,12 @@ pub data EntryWhen (ws : List ℕ) (p : ℕ) (z : ℤ) : Entry → Type 0 where
   bad-number : length ws ≡ wordCount → (faultOf doubles p ≡ 0 → ⊥) → EntryWhen ws p z (Refused (faultOf doubles p) 0)
   out-of-range : length ws ≡ wordCount → faultOf doubles p ≡ 0 → inside registerBits z ≡ false → EntryWhen ws p z (Refused 9 0)
 
--- the words afterwards: "Every refusal writes nothing to any lent area."
+-- rule A1: the words afterwards
 abbrev pub afterwards : List ℕ → ℤ → Entry → List ℕ
 afterwards ws z Entered = wordsOf z
 afterwards ws z (Refused k i) = ws
 
--- ---- a run of additions and withdrawals
+-- ---- a run of additions and withdrawals: rule G6 is about two of them
 pub data Change : Type 0 where
   add : ℕ → Change
   withdraw : ℕ → Change

@@ -1,4 +1,4 @@
--- The exact register: 33 words of 64 bits, least significant first, two's complement, counting units. Definitions only.
+-- The exact register of rule L11: an addition, a withdrawal, and rounding. Definitions only.
 use mathlib.Core.Bool.{false, cond, not}
 use mathlib.Core.List.{List}
 use Prim.Native.Nat.{ℕ}
@@ -22,7 +22,7 @@ use Rattle.addend.specs.Addend.{unitsOf}
 abbrev pub Changed : Type 0
 Changed = Outcome Entry ℕ
 
--- "On a register addition or withdrawal: 4, then 2 or 3 at place 0, then 9." Words ws, pattern p, and the whole number z that would be there afterwards.
+-- rule O3, with rule R9: words ws, pattern p, and the whole number z that would be there afterwards
 unfoldable pub enter : List ℕ → ℕ → ℤ → Changed
 enter ws p z =
     cond (not (eqb (length ws) wordCount)) (outcome (entries.Refused 4 0) ws)
@@ -36,7 +36,7 @@ added ws p = enter ws p (wholeOf ws +ℤ unitsOf doubles p)
 abbrev pub withdrawn : List ℕ → ℕ → Changed
 withdrawn ws p = enter ws p (wholeOf ws -ℤ unitsOf doubles p)
 
--- "On rounding a register: 4, 10." The register doesn't know signs of zero.
+-- rules O4 and G4: 4, 10. The register doesn't know signs of zero.
 unfoldable pub rounded : List ℕ → Nearest
 rounded ws =
     cond (not (eqb (length ws) wordCount)) (nearests.Refused 4 0)

@@ -96,7 +96,7 @@ module _ {ws : List ℕ} (W : Held ws) where
       (no-fault ws p (wholeOf ws +ℤ u) a)
       (ap (λ (y : ℤ). y +ℤ v) (whole-after ws p (wholeOf ws +ℤ u) a) ∙ c)
 
-  -- a withdrawal undoes an addition of the same number, and the other way round
+  -- what is added and then withdrawn leaves the words as they were, and the other way round
   pub withdraw-undoes : (p : ℕ) → added ws p .answer ≡ Entered → withdrawn (added ws p .area) p ≡ outcome Entered ws
   withdraw-undoes p a = undo p (unitsOf doubles p) (negℤ (unitsOf doubles p)) (+ℤ-negℤ-cancel (wholeOf ws) (unitsOf doubles p)) a
 

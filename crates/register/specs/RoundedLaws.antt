@@ -34,7 +34,7 @@ module _ (ws : List ℕ) where
     rounded-sum h =
         rw (eq-eqb (length ws) wordCount l, nearest-finite binary64 false (wholeOf ws), lt-ltb (natAbs (wholeOf ws)) (limit binary64) h)
 
-    -- "Rounding a register follows the nearest rule.", as a caller hears it
+    -- rule G4, as a caller hears it
     pub round-nearest : natAbs (wholeOf ws) < limit binary64
         → let x = nearestFloat binary64 false (wholeOf ws) in
         (nearestHeard doubles (rounded ws) ≡ nearest (toBits binary64 x)) × NearestTo binary64 (wholeOf ws) x

@@ -39,7 +39,7 @@ changed-add ws p = refl
 pub changed-withdraw : (ws : List ℕ) (p : ℕ) → changed ws (withdraw p) ≡ withdrawn ws p
 changed-withdraw ws p = refl
 
--- ---- "addition and withdrawal of one allowed number change the whole number by exactly its units"
+-- ---- rules G1 and G2
 pub change-whole : (ws : List ℕ) (c : Change) → changed ws c .answer ≡ Entered → wholeOf (changed ws c .area) ≡ wholeOf ws +ℤ changeOf c
 change-whole ws c a = whole-after ws (patternOf c) (wholeOf ws +ℤ changeOf c) a
 

@@ -10,7 +10,7 @@ ghost use mathlib.Core.Path.{_≡_};
 ghost use Rattle.kinds.specs.Outcome.{outcome};
 ghost use Rattle.register.specs.Register.{added, withdrawn, rounded};
 
-// Adds one allowed number. "On a register addition or withdrawal: 4, then 2 or 3 at place 0, then 9."
+// Adds one allowed number: rules G1 and O3.
 pub fn add(register: &mut [u64], p: u64) -> Entry
     ensures { λ r. ⌜ outcome r (now (register .exit)) ≡ added (now (register .entry)) p ⌝ }
 {
@@ -31,14 +31,14 @@ pub fn add(register: &mut [u64], p: u64) -> Entry
     Entry::Entered
 }
 
-// Takes one allowed number out, with the same refusals: it adds the opposite number.
+// Takes one allowed number out, with the same refusals: it adds the opposite number (rule G2).
 pub fn withdraw(register: &mut [u64], p: u64) -> Entry
     ensures { λ r. ⌜ outcome r (now (register .exit)) ≡ withdrawn (now (register .entry)) p ⌝ }
 {
     add(register, addend::opposite(p))
 }
 
-// "Rounding a register follows the nearest rule; refusal 10 is given when its magnitude is 2^2098 - 2^2044 units or more."
+// Rules G4 and O4: an infinity is refused (rule G5).
 pub fn round(register: &[u64]) -> Nearest
     ensures { λ r. ⌜ r ≡ rounded (now (register .entry)) ⌝ }
 {

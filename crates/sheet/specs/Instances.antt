@@ -1,4 +1,4 @@
--- The sheet at document 01's width: every list of at most 4,094 patterns is read back; and sheets of its text and of 1, 4, 5 and 6 bytes, computed.
+-- The sheet at the scope's width: every list of at most 4,094 patterns is read back; and rule P5's sheet and some of 1, 4, 5 and 6 bytes, computed.
 -- Assumes nothing.
 use mathlib.Core.Path.{_≡_, refl}
 use mathlib.Core.List.{List, [], _∷_, _++_}

@@ -10,7 +10,7 @@ use Rattle.kinds.specs.Outcome.{Outcome, outcome}
 use Rattle.kinds.specs.declared.Sheet.{Sheet}
 use Rattle.kinds.specs.declared.Sheet.the-variants.{Read, Refused}
 
--- ---- "Version byte 1, then a count in 4 bytes, then that many 8-byte patterns; all big-endian."
+-- ---- rule H1
 abbrev pub body : List ℕ → List ℕ
 body ps = joined (bigEndian 8) ps
 
@@ -31,7 +31,7 @@ patternsOf n bytes = eights big n bytes
 abbrev pub Reading : Type 0
 Reading = Outcome Sheet ℕ
 
--- ---- "On a sheet: 11 for fewer than 5 bytes, 12, 1, 11, 13, 4." "the reader's output area at least n, the rest of it untouched"
+-- ---- rule O5; rules H2 and H3: what is copied, and what stays
 unfoldable pub readOf : Width → List ℕ → List ℕ → Reading
 readOf W bytes area =
     let n = countOf bytes in

@@ -144,7 +144,7 @@ header-back (b ∷ bs) B h v =
     let k : 4 ≤ length bs = omega arith in
     rw (front-back 4 bs (digits-tail 8 B) k, take-append-drop 4 bs, v)
 
--- "Version byte 1, then a count in 4 bytes, then that many 8-byte patterns": where n are read, the bytes are the sheet of the first n of the area afterwards
+-- rule H1: where n are read, the bytes are the sheet of the first n of the area afterwards
 pub read-is-sheet : (W : Width) (bytes area : List ℕ) {n : ℕ} {after : List ℕ}
     → Digits 8 bytes → readOf W bytes area ≡ outcome (Read n) after → (bytes ≡ sheetOf (take n after)) × (n ≡ length (take n after))
 unfolding sheetOf

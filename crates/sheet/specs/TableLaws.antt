@@ -1,4 +1,4 @@
--- The reader gives each answer exactly when its row of document 01's table says, and so it is heard, with no place; a refusal leaves the area as it was; and
+-- The reader gives each answer exactly when its row says (rule O6), and so it is heard, with no place; a refusal leaves the area as it was; and
 -- two results that meet the reader's contract are equal. Assumes nothing.
 use mathlib.Core.Path.{_≡_, refl, sym, ap, _∙_}
 use mathlib.Core.Logic.{_↔_, inl, inr}
@@ -63,7 +63,7 @@ module _ (W : Width) (bytes area : List ℕ) where
   pub sheet-when : (r : Sheet) → (readOf W bytes area .answer ≡ r) ↔ SheetWhen W bytes area r
   sheet-when = exactly (readOf W bytes area .answer) (SheetWhen W bytes area) (λ r. row) some-row
 
-  -- "Every refusal writes nothing to any lent area."
+  -- rule A1
   left : {r : Sheet} {k i : ℕ} → SheetWhen W bytes area r → r ≡ Refused k i → readOf W bytes area .area ≡ area
   left (no-header h) e = ap (λ (x : Reading). x .area) (read-no-header W bytes area h)
   left (other-version h v) e = ap (λ (x : Reading). x .area) (read-version W bytes area h v)

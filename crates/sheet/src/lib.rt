@@ -1,4 +1,4 @@
-// The contribution sheet's reader. "The reader copies patterns and doesn't judge them."
+// The contribution sheet's reader: rule H2.
 use kinds::Doubles;
 use kinds::Sheet;
 use octets::big_endian;
@@ -10,13 +10,13 @@ ghost use Rattle.kinds.specs.Limits.{doubles};
 ghost use Rattle.kinds.specs.Outcome.{outcome};
 ghost use Rattle.sheet.specs.Sheet.{versionOf, countOf, patternsOf, readOf};
 
-// "Version byte 1"
+// rule H1: the first byte
 pub const VERSION: u8 = 1;
 
-// the version and "a count in 4 bytes"
+// the version, and 4 bytes of count
 pub const HEADER: usize = 5;
 
-// "8-byte patterns"
+// the bytes of a pattern
 pub const PATTERN: usize = 8;
 
 // What stands before the patterns.
@@ -35,7 +35,7 @@ fn read_header(sheet: &[u8]) -> Header
     Header { version, count }
 }
 
-// The first n patterns of a sheet to the first n places of the area, "the rest of it untouched".
+// The first n patterns of a sheet to the first n places of the area; rule H3: no other place.
 fn copy(sheet: &[u8], area: &mut [u64], n: usize)
     requires { ⌜ (5 + 8 * n ≤ length (now sheet)) × (n ≤ length (now area)) ⌝ }
     ensures { λ _. ⌜ now (area .exit) ≡ patternsOf n (drop 5 (now (sheet .entry))) ++ drop n (now (area .entry)) ⌝ }
@@ -47,7 +47,7 @@ fn copy(sheet: &[u8], area: &mut [u64], n: usize)
     }
 }
 
-// "On a sheet: 11 for fewer than 5 bytes, 12, 1, 11, 13, 4." A count above the limit is refused before it is multiplied.
+// Rule O5. A count above the limit is refused before it is multiplied.
 pub fn read(sheet: &[u8], area: &mut [u64]) -> Sheet
     ensures { λ r. ⌜ outcome r (now (area .exit)) ≡ readOf doubles (now (sheet .entry)) (now (area .entry)) ⌝ }
 {

@@ -4,7 +4,7 @@ use libc::STDIN_FILENO;
 use libc::STDOUT_FILENO;
 use lines::LONGEST;
 
-// "a fixed buffer of 32,758 bytes": one more than the longest sheet has, so that a longer one is seen to be longer.
+// Rules P1 and F2: one byte more than the longest sheet has, so that a longer one is seen to be longer.
 const SHEET: usize = 32758;
 
 fn main() {

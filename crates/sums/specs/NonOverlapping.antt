@@ -1,4 +1,4 @@
--- A non-overlapping sequence of floats, document 000's Definition 5.1. Definitions only.
+-- Rule S6: a non-overlapping sequence of floats, document 000's Definition 5.1. Definitions only.
 use mathlib.Core.Path.{_≡_}
 use mathlib.Core.Logic.{_⊎_}
 use mathlib.Core.List.{List, [], _∷_}

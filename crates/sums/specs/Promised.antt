@@ -1,4 +1,4 @@
--- Document 01's promises about the nearest sum and the parts, said of the definitions that their contracts cite. Assumes nothing.
+-- Rules S2 to S6, said of the definitions that the contracts of the nearest sum and the parts cite. Assumes nothing.
 use mathlib.Core.Logic.{_↔_}
 use mathlib.Core.Path.{_≡_, refl, sym, ap, _∙_}
 use mathlib.Core.Bool.{Bool, true, false}
@@ -29,7 +29,7 @@ use Rattle.sums.specs.PartsLaws.{left-smaller, parts-apart}
 use Rattle.sums.specs.SumLaws.{sum-below-limit}
 use Rattle.sums.specs.AnswerLaws.{nearest-good, nearest-refused, parts-refused}
 
--- "f1 is nearest to S, each next part nearest to S less the parts before"
+-- rule S4
 abbrev pub EachNearest : Format → ℤ → List Float → Type 0
 EachNearest f S [] = Unit {0}
 EachNearest f S (x ∷ xs) = NearestTo f S x × EachNearest f (S -ℤ value f x) xs
@@ -56,7 +56,7 @@ zero-pattern : (z : Bool) (S : ℤ) → z ≡ false → S ≡ pos 0 → toBits (
 unfolding nearestFloat toBits
 zero-pattern z S e s = rw (e, s)
 
--- "zeros +0": every part of zero
+-- rule S4's +0: every part of zero
 pub parts-zero : (k : ℕ) (z : Bool) (S : ℤ) → z ≡ false → S ≡ pos 0 → map (toBits (doubles .format)) (parts (doubles .format) k z S) ≡ replicate k 0
 unfolding parts nearestFloat toBits value
 parts-zero zero z S e s = refl
@@ -96,7 +96,7 @@ module _ (ps : List ℕ) where
   S = sumOf (doubles .format) ps
 
   module _ (G : ListWhen doubles true true ps verdicts.Good) where
-    -- "the double nearest S, ties to even significand", for every list that isn't refused
+    -- rule S2, for every list that isn't refused
     pub nearest-promised : let x = nearestFloat (doubles .format) (zeroSign ps) S in
         (nearestHeard doubles (nearestOf doubles ps) ≡ nearest (toBits (doubles .format) x)) × NearestTo (doubles .format) S x
     nearest-promised = (
@@ -104,7 +104,7 @@ module _ (ps : List ℕ) where
       nearest-nearest (doubles .format) (zeroSign ps) S (sum-below-limit (list-passed G .few) (list-allowed G)),
     )
 
-    -- "A zero S gives +0."
+    -- rule S3
     pub nearest-zero : S ≡ pos 0 → nearestHeard doubles (nearestOf doubles ps) ≡ nearest 0
     nearest-zero s = nearest-promised .0 ∙ ap nearest (zero-pattern (zeroSign ps) S refl s)
 

@@ -18,11 +18,11 @@ use Rattle.kinds.specs.declared.Parted.{Parted}
 use Rattle.kinds.specs.declared.Parted.the-variants as parteds
 use Rattle.judge.specs.Judge.{judged, zeroSign}
 
--- "S is the exact sum of a list in units."
+-- rule L2: S
 abbrev pub sumOf : Format → List ℕ → ℤ
 sumOf f ps = exactSum (map (λ (p : ℕ). value f (ofBits f p)) ps)
 
--- ---- "Nearest: the double nearest S, ties to even significand. A zero S gives +0."
+-- ---- rules S2 and S3
 unfoldable pub nearestAfter : Width → Verdict → List ℕ → Nearest
 nearestAfter W verdicts.Good ps = nearests.Sum (nearestFloat (W .format) (zeroSign ps) (sumOf (W .format) ps))
 nearestAfter W (verdicts.Refused k p) ps = nearests.Refused k p
@@ -30,12 +30,12 @@ nearestAfter W (verdicts.Refused k p) ps = nearests.Refused k p
 abbrev pub nearestOf : Width → List ℕ → Nearest
 nearestOf W ps = nearestAfter W (judged W true true ps) ps
 
--- ---- "Parts: f1 is nearest to S, each next part nearest to S less the parts before, zeros +0." z is the sign of a zero first part
+-- ---- rule S4; z is the sign of a zero first part
 unfoldable pub parts : Format → ℕ → Bool → ℤ → List Float
 parts f zero z S = []
 parts f (suc k) z S = nearestFloat f z S ∷ parts f k false (S -ℤ value f (nearestFloat f z S))
 
--- "The answer also says whether the parts add up to S."
+-- rule S5
 abbrev pub addUp : Format → List Float → ℤ → Bool
 addUp f xs S = eqb (natAbs (S -ℤ exactSum (map (value f) xs))) 0
 
@@ -47,7 +47,7 @@ partsAfter W verdicts.Good ps area =
     outcome (parteds.Parts (addUp (W .format) xs S)) xs
 partsAfter W (verdicts.Refused k p) ps area = outcome (parteds.Refused k p) area
 
--- the length that a parts slice may have
+-- rules L10 and R5: the length that a parts slice may have
 abbrev pub fitting : Width → List Float → Bool
 fitting W area = leb 1 (length area) && leb (length area) (W .parts)
 

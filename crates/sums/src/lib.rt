@@ -13,7 +13,7 @@ ghost use Rattle.kinds.specs.Limits.{doubles};
 ghost use Rattle.kinds.specs.Outcome.{outcome};
 ghost use Rattle.sums.specs.Sums.{nearestOf, partsOf};
 
-// "Nearest: the double nearest S, ties to even significand."
+// Rule S2, with rule S3 where S is zero.
 pub fn nearest(list: &[u64]) -> Nearest
     ensures { λ r. ⌜ r ≡ nearestOf doubles (now (list .entry)) ⌝ }
 {
@@ -28,7 +28,7 @@ pub fn nearest(list: &[u64]) -> Nearest
     }
 }
 
-// "Parts: f1 is nearest to S, each next part nearest to S less the parts before, zeros +0. The answer also says whether the parts add up to S."
+// Rules S4 and S5.
 pub fn parts(list: &[u64], area: &mut [f64]) -> Parted
     ensures { λ r. ⌜ outcome r (now (area .exit)) ≡ partsOf doubles (now (list .entry)) (now (area .entry)) ⌝ }
 {

@@ -66,11 +66,11 @@ module _ (p M n : ℕ) (two : 2 ≤ M) (fit : M + M < p) (few : n + 2 ≤ 2 ^ M)
         of : (x : Whole) → Within (2 ⊗ x) (2 ^ (suc (M + e) - p)) → x ≈ nat 0
         of x h = let h' : Within (2 ⊗ x) (2 ^ 0) = rw i at h in omega arith
 
-    -- rule 1: t' is zero and nothing is left
+    -- rule W1: t' is zero and nothing is left
     pub close-nothing : fl p (t ⊕ tau) ≈ nat 0 → All (λ x. x ≈ nat 0) xs → S ≈ nat 0
     close-nothing z h = omega (arith, C .sum, total-zero xs h, fl-zero p P (t ⊕ tau) z)
 
-    -- rule 2: t' is zero, and what is left is S
+    -- rule W2: t' is zero, and what is left is S
     pub close-restart : (e' : ℕ) → fl p (t ⊕ tau) ≈ nat 0 → All (λ x. Within x (2 ^ e')) xs → Opened p M n e' S (nat 0) xs
     close-restart e' z h = record {
       rep = rep-zero p;
@@ -80,7 +80,7 @@ module _ (p M n : ℕ) (two : 2 ≤ M) (fit : M + M < p) (few : n + 2 ≤ 2 ^ M)
       sum = omega (arith, C .sum, fl-zero p P (t ⊕ tau) z);
     }
 
-    -- rule 3 conserves S as tau1, tau2 and what is left
+    -- rule W3 conserves S as tau1, tau2 and what is left
     pub close-conserves : fl p (t ⊕ tau) ⊕ tau2 p t tau ⊕ total xs ≈ S
     close-conserves = omega (arith, C .sum, tau2-exact)
 
@@ -118,7 +118,7 @@ module _ (p M n : ℕ) (two : 2 ≤ M) (fit : M + M < p) (few : n + 2 ≤ 2 ^ M)
     close-finish (inl l) = finish-nearest l
     close-finish (inr h) = elim (le-or-lt p (M + e)) [ inl l ↦ finish-large l h | inr l ↦ finish-nearest l ]
 
-    -- rule 4: t' is t + tau exactly
+    -- rule W4: t' is t + tau exactly
     pub close-exact : mag (fl p (t ⊕ tau)) < enough p M e → fl p (t ⊕ tau) ≈ t ⊕ tau
     close-exact h = fl-exact p P (record { exp = M + e - p; on = multiple-add (C .on) (C .tau-is .on); small = (upper, lower) })
       where

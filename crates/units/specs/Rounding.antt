@@ -1,4 +1,4 @@
--- Rounding to p significant bits: to the nearest, a tie to the even significand. Definitions only.
+-- Rounding to p significant bits: to the nearest, a tie to the even significand. Rule K8: p is a parameter, and everything above cites this. Definitions only.
 -- A finite float is a whole number of its format's smallest value, so every sum of floats is rounded by `fl` at p = 53 or p = 24, and no sum underflows.
 use mathlib.Core.Path.{_≡_}
 use Prim.Native.Nat.{ℕ, zero, suc, _-_, _*_, _^_, _≤_}

@@ -1,5 +1,5 @@
--- FastTwoSum is exact: x = fl(a + b), q = fl(x - a), y = fl(b - q) give x + y = a + b. Document 000's Lemma 2.10, with its bound on b strict: a and b are
--- multiples of 2 ^ j and |b| < 2 ^ (p + j). (At p = 3, a = 3, b = 8: x = 12, q = fl(9) = 8, y = 0, and 12 is not 11.) Assumes nothing.
+-- FastTwoSum is exact: where x is a + b rounded, q is x - a rounded and y is b - q rounded, x + y is a + b. Document 000's Lemma 2.10, with its bound on b
+-- strict: a and b are multiples of 2 ^ j and |b| < 2 ^ (p + j). (At p = 3, a = 3, b = 8: x = 12, q = fl(9) = 8, y = 0, and 12 is not 11.) Assumes nothing.
 use mathlib.Core.Logic.{inl, inr}
 use Prim.Native.Nat.{ℕ, zero, suc, _+_, _*_, _^_, _≤_, _<_}
 use native.Mathlib.Nat.{pow-succ'}

@@ -29,7 +29,7 @@ remainders p k = map (remainder p k)
 abbrev pub gathered : (p k : ℕ) → Whole → List Whole → Whole
 gathered p k tau xs = summed p tau (highs p k xs)
 
--- ---- the close and the finish: tau1 = t + tau, which is t' of document 01; tau2 = tau - (tau1 - t); the answer is tau1 + (tau2 + T)
+-- ---- the close and the finish, rules WC1 and W3: tau1 is t', the rounded t + tau
 abbrev pub tau1 : ℕ → Whole → Whole → Whole
 tau1 p t tau = fl p (t ⊕ tau)
 
@@ -86,20 +86,20 @@ pub record Closed (p M n e : ℕ) (S t tau : Whole) (xs : List Whole) : Type 0 w
   pub sum : t ⊕ tau ⊕ total xs ≈ S
 
 -- ---- From e, t and xs as a round opens, the walk answers r and goes on for m rounds after this one. A round leaves tau and the remainders of xs, and
--- closes by one of document 01's four rules. In units its test "sigma is at most 2^-1022" is M + e < p.
+-- closes by one of rules W1 to W4. That sigma is 2^-1022 or less is M + e < p in units.
 module _ (p M : ℕ) where
   pub data Walk : ℕ → Whole → List Whole → ℕ → Whole → Type 0 where
-    -- rule 1: t' is zero and all of the work area is zero
+    -- rule W1
     nothing : {e : ℕ} {t tau : Whole} {xs : List Whole} → Gathered p (M + e) xs tau → tau1 p t tau ≈ nat 0
         → All (λ x. x ≈ nat 0) (remainders p (M + e) xs) → Walk e t xs 0 (nat 0)
-    -- rule 2: t' is zero and something remains; e' is the least that bounds it
+    -- rule W2; e' is the least that bounds what remains
     restart : {e : ℕ} {t tau : Whole} {xs : List Whole} {m : ℕ} {r : Whole} (e' : ℕ) → Gathered p (M + e) xs tau → tau1 p t tau ≈ nat 0
         → (All (λ x. x ≈ nat 0) (remainders p (M + e) xs) → ⊥) → All (λ x. Within x (2 ^ e')) (remainders p (M + e) xs)
         → ((c : ℕ) → All (λ x. Within x (2 ^ c)) (remainders p (M + e) xs) → e' ≤ c)
         → Walk e' (nat 0) (remainders p (M + e) xs) m r → Walk e t xs (suc m) r
-    -- rule 3: otherwise, sigma is small or t' large
+    -- rule W3: sigma is small or t' large
     finished : {e : ℕ} {t tau : Whole} {xs : List Whole} → Gathered p (M + e) xs tau → (tau1 p t tau ≈ nat 0 → ⊥)
         → (M + e < p) ⊎ (enough p M e ≤ mag (tau1 p t tau)) → Walk e t xs 0 (answer p t tau (remainders p (M + e) xs))
-    -- rule 4: otherwise sigma becomes 2^M eps sigma, which is 2 ^ (M + (M + e - p)), and t becomes t'
+    -- rule W4: the new sigma is 2 ^ (M + (M + e - p))
     further : {e : ℕ} {t tau : Whole} {xs : List Whole} {m : ℕ} {r : Whole} → Gathered p (M + e) xs tau → (tau1 p t tau ≈ nat 0 → ⊥) → p ≤ M + e
         → mag (tau1 p t tau) < enough p M e → Walk (M + e - p) (tau1 p t tau) (remainders p (M + e) xs) m r → Walk e t xs (suc m) r

@@ -39,7 +39,7 @@ module _ (p M n : ℕ) (two : 2 ≤ M) (fit : M + M < p) (few : n + 2 ≤ 2 ^ M)
   walk-rounds O (finished g o h) = omega arith
   walk-rounds O (further {m = m} g o l h w) = lowered m (walk-rounds (close-further p M n two fit few (closes O g) l h) w) (omega arith)
 
-  -- all rounds of a walk that opens with numbers of at most 2 ^ E units, where E + 1 = C + p: the bound as document 01 writes it, and a number for it
+  -- all rounds of a walk that opens with numbers of at most 2 ^ E units, where E + 1 = C + p: the bound as rule WR3 writes it, and a number for it
   walk-rounds-most : (C E : ℕ) → C + p ≡ E + 1 → {e : ℕ} {S t : Whole} {xs : List Whole} {m : ℕ} {r : Whole} → e ≤ E → Opened p M n e S t xs
       → Walk p M e t xs m r → suc m ≤ 1 + roundedUp (C + M) (p - M)
   walk-rounds-most C E l {e} {m = m} i O w = rw whole (omega (arith, le-div-iff-mul-le {k = p - M} (omega arith) .1 (le-trans (walk-rounds O w) i)))

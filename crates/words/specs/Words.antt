@@ -1,4 +1,4 @@
--- "Register: 33 words of 64 bits, least significant first, two's complement, counting units." Definitions only.
+-- The register's words and the whole number that they stand for: rule L11. Definitions only.
 use mathlib.Core.List.{List}
 use Prim.Native.Nat.{ℕ, _*_}
 use lib.IntN.{ℤ}

@@ -2,7 +2,7 @@
 pub mod ripple;
 mod word;
 
-// "Register: 33 words of 64 bits, least significant first, two's complement, counting units."
+// Rule L11.
 pub const WORDS: usize = 33;
 
 // The top digit of a word. That of the highest word is set where the register is negative.

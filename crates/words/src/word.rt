@@ -1,4 +1,4 @@
-// One word of the register. "The carry out of each 64-bit word is read from the wrapped sum", by comparison with an operand.
+// One word of the register, by rules G3 and F5: wrapped, and the carry found by comparison with an operand.
 ghost use Prim.Native.Nat.{_≤_};
 ghost use Rattle.words.specs.Words.{wordBits};
 ghost use Rattle.lists.specs.Carry.{Carries};
