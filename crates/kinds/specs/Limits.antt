@@ -1,4 +1,4 @@
--- What one width of float fixes, and document 01's limits on lists and sound states at binary64. Definitions only.
+-- What one width of float fixes, and at binary64 the limits on lists (rule L6) and on sound states. Definitions only.
 use mathlib.Core.Path.{_≡_}
 use Prim.Native.Nat.{ℕ, _+_}
 use lib.Ieee.{Format, binary64}

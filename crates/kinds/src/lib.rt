@@ -18,7 +18,7 @@ pub const DIGITS: u32 = 52;
 // not store.
 pub const LEAST_NORMAL: u64 = 1 << DIGITS;
 
-// A list of binary64 patterns, by its length. Document 01's limits on lists and on sound states are constants of this type.
+// A list of binary64 patterns, by its length. Rules L6 and F3: the limits on lists, and those on sound states, are constants of this type.
 pub struct Doubles {
     pub n: usize,
 }
