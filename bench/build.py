@@ -1,10 +1,8 @@
 """Builds what bench/run times: the library's code for this machine, the walk in C by two compilers, and the driver.
 
-On x86-64 the library is the archives that `rt staticlib` makes. The kit compiles for x86-64 only; on another machine it gets a toolchain folder whose clang
-is a wrapper that keeps the LLVM module it is handed. That module is the library's own code before optimisation; the same clang then compiles it at -O3 for
-the machine. The back end is another one, and the table says so."""
+On x86-64 the library is the archives that `rt staticlib` makes. The kit compiles for x86-64 only; on another machine tests/native.py has its LLVM modules
+compiled by another back end, and the table says so."""
 import os
-import re
 import shutil
 import subprocess
 import sys
@@ -12,18 +10,15 @@ import sys
 HERE = os.path.dirname(os.path.abspath(__file__))
 ROOT = os.path.dirname(HERE)
 sys.path.insert(0, os.path.join(ROOT, "tests"))
+import command  # noqa: E402
 import kit  # noqa: E402
+import native  # noqa: E402
 
 PLACE = os.path.join(ROOT, "target", "bench")
 DRIVER = os.path.join(PLACE, "driver")
 CRATES = ("timing", "timing_steps", "exports")
 C = ["-std=gnu11", "-O3", "-ffp-contract=off", "-Wall", "-Wextra", "-Werror"]
 PACKAGES = ["gcc", "libc6-dev", "libmpfr-dev"]
-WRAPPER = """#!/bin/sh
-# The kit's clang, which also keeps the LLVM module that it is handed.
-for word in "$@"; do case $word in *.bc | *.ll) cp "$word" '{kept}' ;; esac; done
-exec '{clang}' "$@"
-"""
 
 
 def run(words, **more):
@@ -58,57 +53,6 @@ def packages():
 
 
 # ---- the library
-def clang():
-    return os.path.join(kit.toolchain(), "bin", "clang")
-
-
-def beside(original, made, but):
-    """A folder `made` of links to what `original` has, but for one name."""
-    os.makedirs(made, exist_ok=True)
-    for name in os.listdir(original):
-        if name != but and not os.path.lexists(os.path.join(made, name)):
-            os.symlink(os.path.join(original, name), os.path.join(made, name))
-
-
-def keeping_kit(kept):
-    """A folder that stands in for the kit's: all is the kit's but the clang of its toolchain."""
-    shadow = os.path.join(PLACE, "kit")
-    shutil.rmtree(shadow, ignore_errors=True)
-    parts = ["on", kit.machine(), "toolchain", "bin", "clang"]
-    for depth, but in enumerate(parts):
-        beside(os.path.join(kit.home(), *parts[:depth]), os.path.join(shadow, *parts[:depth]), but)
-    wrapper = os.path.join(shadow, *parts)
-    with open(wrapper, "w", encoding="utf-8") as f:
-        f.write(WRAPPER.format(kept=kept, clang=clang()))
-    os.chmod(wrapper, 0o755)
-    return shadow
-
-
-def target_lines():
-    """The two lines of an LLVM module that say for which machine it is, as the kit's clang writes them for this one."""
-    text = run([clang(), f"--target={kit.machine()}-unknown-linux-gnu", "-x", "c", "-S", "-emit-llvm", os.devnull, "-o", "-"])
-    return re.findall(r"^target (?:datalayout|triple) = .*$", text, re.M)
-
-
-def retargeted(text):
-    for line in target_lines():
-        text = re.sub(rf"^{' '.join(line.split()[:2])} = .*$", lambda _, line=line: line, text, flags=re.M)
-    return text.replace(' "target-cpu"="x86-64"', "")
-
-
-def compile_module(crate, made):
-    """The library's code for a machine that the kit doesn't compile for."""
-    kept, text = (os.path.join(PLACE, f"{crate}.{end}") for end in ("bc", "ll"))
-    run(["rt", "staticlib", crate], env={**os.environ, "RATTLE_HOME": keeping_kit(kept)})
-    run([clang(), "--target=x86_64-unknown-linux-gnu", "-x", "ir", kept, "-S", "-emit-llvm", "-Xclang", "-disable-llvm-passes", "-o", text])
-    with open(text, encoding="utf-8") as f:
-        module = f.read()
-    with open(text, "w", encoding="utf-8") as f:
-        f.write(retargeted(module))
-    words = ["-ffunction-sections", "-fdata-sections", "-mllvm", "-trap-unreachable", "-mllvm", "-no-trap-after-noreturn", "-Werror", "-fPIC", "-O3"]
-    run([clang(), f"--target={kit.machine()}-unknown-linux-gnu", *words, "-c", "-x", "ir", text, "-o", made])
-
-
 def made_of(crate):
     """The file with the library's code for this machine."""
     if kit.machine() == "x86_64":
@@ -130,7 +74,10 @@ def library(crate):
     if kit.machine() == "x86_64":
         run(["rt", "staticlib", crate])
     else:
-        compile_module(crate, made)
+        try:
+            native.compile_module(crate, PLACE, made)
+        except command.Trouble as trouble:
+            sys.exit(f"bench: {trouble}")
     return made
 
 
@@ -146,15 +93,15 @@ def driver():
     packages()
     own = ["-isystem", os.path.join(ROOT, "tests", "host"), f"--target={kit.machine()}-unknown-linux-gnu", "-fPIC"]
     objects = [c_object("gcc", "main"), c_object("gcc", "sums"), c_object("gcc", "walk", "-DCOMPILER=gcc")]
-    objects += [c_object(clang(), "walk", "-DCOMPILER=clang", *own)]
+    objects += [c_object(kit.clang(), "walk", "-DCOMPILER=clang", *own)]
     libraries = [library(crate) for crate in CRATES]
     run(["gcc", *objects, *libraries, "-lmpfr", "-lgmp", "-o", DRIVER])
 
 
 def versions():
     """What compiled what, in a sentence."""
-    first = {word: run([word, "--version"]).splitlines()[0] for word in ("gcc", clang())}
-    ours = f"the kit's {first[clang()]}"
+    first = {word: run([word, "--version"]).splitlines()[0] for word in ("gcc", kit.clang())}
+    ours = f"the kit's {first[kit.clang()]}"
     how = "its archives of `rt staticlib`" if kit.machine() == "x86_64" else f"its LLVM modules, compiled at -O3 for {kit.machine()} by {ours}"
     where = "" if kit.machine() == "x86_64" else " (the kit itself compiles for x86-64 only: the code is the library's own, the back end another)"
     return f"The library is {how}{where}. The C code is compiled at -O3 by {first['gcc']}, the walk by {ours} too; all for the machine's baseline."

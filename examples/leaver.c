@@ -5,20 +5,12 @@
  */
 #include "kewohiata.h"
 #include <stdio.h>
-#include <string.h>
 
-enum { REGISTER = 264, SUM = 16, CLOCKS = 5 };
+enum { REGISTER = KEWOHIATA_REGISTER_BYTES, SUM = KEWOHIATA_SUM_BYTES, CLOCKS = 5 };
 
 /* seconds by which each clock is ahead of the scale */
 static const double clocks[CLOCKS] = {3.281e-6, -1.704e-6, 8.422e-6, 2.653e-6, -0.917e-6};
 static const double failing = 4.2e8;
-
-static uint64_t pattern_of(double x)
-{
-    uint64_t pattern;
-    memcpy(&pattern, &x, sizeof pattern);
-    return pattern;
-}
 
 /* Numbers lie least significant byte first, on every machine. */
 static void put(uint8_t *bytes, uint64_t number)
@@ -37,8 +29,8 @@ static uint64_t get(const uint8_t *bytes)
 
 static void print_code(uint32_t code)
 {
-    if (code >= 32)
-        printf("code %u: refusal %u at place %u\n", (unsigned)code, (unsigned)code % 32, (unsigned)code / 32 - 1);
+    if (kewohiata_tells_place(code))
+        printf("code %u: refusal %u at place %u\n", (unsigned)code, (unsigned)kewohiata_refusal(code), (unsigned)kewohiata_place(code));
     else
         printf("code %u\n", (unsigned)code);
 }
@@ -58,14 +50,14 @@ static void registers(void)
     uint32_t codes = 0;
     for (int i = 0; i < CLOCKS; i++) {
         if (i == 3)
-            codes |= kewohiata_register_add(with, REGISTER, pattern_of(failing));
-        codes |= kewohiata_register_add(with, REGISTER, pattern_of(clocks[i]));
-        codes |= kewohiata_register_add(without, REGISTER, pattern_of(clocks[i]));
+            codes |= kewohiata_register_add(with, REGISTER, kewohiata_pattern(failing));
+        codes |= kewohiata_register_add(with, REGISTER, kewohiata_pattern(clocks[i]));
+        codes |= kewohiata_register_add(without, REGISTER, kewohiata_pattern(clocks[i]));
     }
     printf("five clocks and a failing one added: code %u\n", (unsigned)codes);
     printf("while it is in, the 264 bytes are %s\n", memcmp(with, without, REGISTER) ? "others" : "the same");
     printf("its withdrawal: ");
-    print_code(kewohiata_register_withdraw(with, REGISTER, pattern_of(failing)));
+    print_code(kewohiata_register_withdraw(with, REGISTER, kewohiata_pattern(failing)));
     printf("after it left, the 264 bytes are %s as without it\n", memcmp(with, without, REGISTER) ? "NOT the same" : "the same");
     printf("an infinity: ");
     print_code(kewohiata_register_add(with, REGISTER, 0x7FF0000000000000));
@@ -79,12 +71,12 @@ static void sums(void)
     double naive = 0;
     for (int i = 0; i < CLOCKS + 2; i++) {
         double x = i < 3 ? clocks[i] : i == 3 ? failing : i < 6 ? clocks[i - 1] : -failing;
-        put(list + 8 * i, pattern_of(x));
+        put(list + 8 * i, kewohiata_pattern(x));
         naive += x;
     }
     print_sum("faithful", kewohiata_faithful(list, sizeof list, sum, SUM), sum);
     print_sum("nearest", kewohiata_nearest(list, sizeof list, sum, SUM), sum);
-    printf("naive: pattern %016llX\n", (unsigned long long)pattern_of(naive));
+    printf("naive: pattern %016llX\n", (unsigned long long)kewohiata_pattern(naive));
     put(list + 8 * 4, 0x7FF8000000000000);
     print_sum("with a NaN", kewohiata_nearest(list, sizeof list, sum, SUM), sum);
     print_sum("with 15 bytes for the sum", kewohiata_nearest(list, sizeof list, sum, SUM - 1), sum);
@@ -92,6 +84,10 @@ static void sums(void)
 
 int main(void)
 {
+    if (!kewohiata_environment()) {
+        printf("this thread's floating-point environment is not what the faithful sum needs\n");
+        return 1;
+    }
     registers();
     sums();
     return 0;

@@ -1,49 +1,202 @@
-/* Kewohiata: exact arithmetic for clocks that leave. The calls of the crate `exports`, with the C calling convention.
+/* Kewohiata: exact arithmetic for clocks that leave. The library's calls, with the C calling convention, for C99 and C++11 on.
  *
- * A number is given as its IEEE 754 binary64 pattern. Patterns and words lie least significant byte first, 8 bytes each, on every machine.
+ * Numbers. A number is given as its IEEE 754 binary64 pattern: kewohiata_pattern and kewohiata_double go between the two. A list has at most 4,094 numbers,
+ * none beyond 2^1000 in magnitude.
  *
- * Each call returns 0, or the number of a refusal plus 32 * (place + 1) where a place is told; places count from 0, and 2 and 3 alone tell theirs.
- * So of a code other than 0 the refusal's number is code % 32, and where it is 2 or 3 the place is code / 32 - 1. A refused call writes nothing.
+ * Codes. Each call returns 0, or the number of a refusal plus 32 * (place + 1) where a place is told: kewohiata_refusal and kewohiata_place take a code apart.
+ * A refused call writes nothing. Beside a call stands the order in which its refusals are told where more than one holds; docs/REFUSALS.md has all of it.
  *
- *   1   more than 4,094 numbers (a list above 32,752 bytes)
- *   2   a NaN or infinity, with its place: 2 + 32 * (place + 1)
- *   3   a finite number of magnitude above 2^1000 (pattern 7E70000000000000), with its place: 3 + 32 * (place + 1)
- *   4   a list's length that is no multiple of 8, or an area of other than 16 or 264 bytes
- *   9   the register's number would leave 2112 signed bits
+ * Floating-point environment. The calls of the walk add doubles: kewohiata_faithful, kewohiata_walk_open, kewohiata_walk_step and kewohiata_walk_faithful.
+ * They need the calling thread to round to nearest, to keep subnormal results (no flush-to-zero) and to read subnormal operands as they are (no
+ * denormals-as-zero), with inexact and underflow not trapped; else they may return 0 with a wrong sum. A program that was linked with -Ofast or -ffast-math
+ * may start with both switched on: ask kewohiata_environment once per thread, before the first of these calls. All other calls work on whole numbers, make
+ * doubles by their bits, and answer the same in every environment: nearest, parts, registers, sheets.
  *
- * Where more than one holds, a sum tells 1, then 4, then 2 or 3 of the lowest bad place; a register call 4, then 2 or 3 with place 0, then 9.
+ * Outside the contract, and nothing is promised of such a call: a null pointer (also with length 0), a length that isn't the array's, an array that is not
+ * readable or not writable as its type says, an array of uint64_t or double that isn't aligned as its type is, two arrays of a call that overlap, an array that
+ * something else writes to during the call, and a call of the walk in another floating-point environment than the one above.
  *
- * Outside the contract, and nothing is promised of such a call: a null pointer (also with length 0), a length that isn't the area's, an area that is not
- * readable or not writable as its type says, two areas of a call that overlap, and an area that something else writes to during the call. The calls keep no
- * state between each other, allocate nothing and may run at the same time on different areas. */
+ * The calls keep no state between each other, allocate nothing and may run at the same time on different arrays. A call takes a time that grows as n, the
+ * list's length, where nothing else stands beside it. */
 #ifndef KEWOHIATA_H
 #define KEWOHIATA_H
 
 #include <stddef.h>
 #include <stdint.h>
+#include <string.h>
 
 #ifdef __cplusplus
 extern "C" {
 #endif
 
-/* The faithful sum of `list`: no double lies strictly between it and the exact sum, and where the exact sum is a double it is that one; a zero sum is +0.
- * list: 0 to 4,094 numbers of 8 bytes each. out: 16 bytes, the sum's pattern and then the rounds of the walk, 0 to 51.
- * Result: 0, or 1, 2, 3 or 4 as above. Stack: below 66,000 bytes, whatever the list's length. */
+/* Below 1.0.0 a call's form may still change, and the second number tells it. */
+#define KEWOHIATA_VERSION "0.2.0"
+enum { KEWOHIATA_VERSION_MAJOR = 0, KEWOHIATA_VERSION_MINOR = 2, KEWOHIATA_VERSION_PATCH = 0 };
+
+/* The refusals. A code has room for numbers up to 31; 14 and above are kept for later ones. */
+enum kewohiata_refusals {
+    KEWOHIATA_ACCEPTED = 0,
+    KEWOHIATA_TOO_MANY = 1,          /* more than 4,094 numbers */
+    KEWOHIATA_NOT_FINITE = 2,        /* a NaN or infinity; its place is told */
+    KEWOHIATA_TOO_LARGE = 3,         /* a finite number of magnitude above 2^1000 (pattern 7E70000000000000); its place is told */
+    KEWOHIATA_WRONG_LENGTH = 4,      /* an array, but for that of the parts, has not the length that the call asks for */
+    KEWOHIATA_WRONG_PARTS = 5,       /* no part, or more than 8 */
+    KEWOHIATA_NO_SUCH_BLOCK = 6,     /* the list has no block of that number */
+    KEWOHIATA_BLOCK_NOT_PENDING = 7, /* this round has had the block */
+    KEWOHIATA_UNSOUND_STATE = 8,     /* the state and its work area are none that a walk can have */
+    KEWOHIATA_REGISTER_FULL = 9,     /* the register's number would leave 2112 signed bits */
+    KEWOHIATA_NO_FINITE_DOUBLE = 10, /* the register's number is beyond the doubles */
+    KEWOHIATA_SHEET_TOO_SHORT = 11,  /* no whole header, or fewer numbers than it counts */
+    KEWOHIATA_OTHER_VERSION = 12,    /* the sheet's version isn't 1 */
+    KEWOHIATA_SHEET_TOO_LONG = 13    /* bytes behind the numbers that the header counts */
+};
+
+/* The lengths. */
+enum kewohiata_lengths {
+    KEWOHIATA_LIST_MOST = 4094,         /* numbers of a list, at most */
+    KEWOHIATA_LIST_BYTES_MOST = 32752,  /* the same in bytes */
+    KEWOHIATA_BLOCK = 64,               /* numbers of a block; a list's last may have fewer */
+    KEWOHIATA_STATE = 10,               /* numbers of a state */
+    KEWOHIATA_FAITHFUL = 2,             /* numbers that kewohiata_walk_faithful writes: pattern, rounds */
+    KEWOHIATA_VALUE = 1,                /* numbers that any other call with an array `out` writes */
+    KEWOHIATA_SUM_BYTES = 16,           /* bytes of a sum of the calls on bytes */
+    KEWOHIATA_WORDS = 33,               /* words of a register */
+    KEWOHIATA_REGISTER_BYTES = 264,     /* the same in bytes */
+    KEWOHIATA_PARTS_MOST = 8,           /* parts of a sum, at most */
+    KEWOHIATA_ROUNDS_MOST = 51,         /* rounds of a walk, at most */
+    KEWOHIATA_SHEET_HEADER = 5,         /* bytes of a sheet before its numbers, of 8 bytes each */
+    KEWOHIATA_SHEET_BYTES_MOST = 32757  /* bytes of a sheet, at most */
+};
+
+/* What a state's numbers are, by their places. The last three are kept for later requests, and 0. */
+enum kewohiata_states {
+    KEWOHIATA_STATE_KIND = 0, /* KEWOHIATA_MORE or KEWOHIATA_DONE */
+    KEWOHIATA_STATE_SIGMA = 1,
+    KEWOHIATA_STATE_T = 2,
+    KEWOHIATA_STATE_TAU = 3, /* these three are patterns */
+    KEWOHIATA_STATE_N = 4,
+    KEWOHIATA_STATE_PENDING = 5, /* bit b is 1 while block b is to be taken in this round */
+    KEWOHIATA_STATE_ROUNDS = 6,  /* rounds closed */
+    KEWOHIATA_DONE_SUM = 1,
+    KEWOHIATA_DONE_ROUNDS = 2 /* of a finished walk: the sum's pattern and the rounds; the rest is 0 */
+};
+enum kewohiata_kinds { KEWOHIATA_MORE = 1, KEWOHIATA_DONE = 2 };
+
+/* ---- helpers: none of them is a call into the archive */
+
+/* A double's pattern, and the double of a pattern. */
+static inline uint64_t kewohiata_pattern(double x)
+{
+    uint64_t pattern;
+    memcpy(&pattern, &x, sizeof pattern);
+    return pattern;
+}
+
+static inline double kewohiata_double(uint64_t pattern)
+{
+    double x;
+    memcpy(&x, &pattern, sizeof x);
+    return x;
+}
+
+/* A code's refusal, 0 for an accepted call; whether it tells a place; and that place, counted from 0, where it does. */
+static inline uint32_t kewohiata_refusal(uint32_t code)
+{
+    return code % 32;
+}
+
+static inline int kewohiata_tells_place(uint32_t code)
+{
+    return code >= 32;
+}
+
+static inline uint32_t kewohiata_place(uint32_t code)
+{
+    return code / 32 - 1;
+}
+
+/* How many blocks a list of n numbers has: they are 0 to one less. */
+static inline size_t kewohiata_blocks(size_t n)
+{
+    return (n + KEWOHIATA_BLOCK - 1) / KEWOHIATA_BLOCK;
+}
+
+/* Whether two numbers, given and compared as patterns, add up in this thread to what round to nearest makes of them. What is volatile is neither computed by
+ * the compiler nor moved; the bits are compared, since a comparison of doubles would itself read a subnormal as zero. */
+static inline int kewohiata_adds(uint64_t a, uint64_t b, uint64_t sum)
+{
+    volatile double x = kewohiata_double(a), y = kewohiata_double(b), s;
+    s = x + y;
+    return kewohiata_pattern(s) == sum;
+}
+
+/* 1 where the floating-point environment of the calling thread is what the calls of the walk need, else 0. It may raise the flags inexact and underflow. */
+static inline int kewohiata_environment(void)
+{
+    const uint64_t sign = (uint64_t)1 << 63, one = (uint64_t)0x3FF << 52, half = (uint64_t)0x3CA << 52, least_normal = (uint64_t)1 << 52;
+    /* 1 and half of its last place: upward doesn't stay at 1, nor downward at -1 */
+    int good = kewohiata_adds(one, half, one) & kewohiata_adds(sign | one, sign | half, sign | one);
+    /* the same above the next double, where a tie goes away from zero: neither downward nor towards zero does, nor upward below zero */
+    good &= kewohiata_adds(one + 1, half, one + 2) & kewohiata_adds(sign | (one + 1), sign | half, sign | (one + 2));
+    /* a subnormal result of normal numbers, a normal one of subnormals, and the least of all twice */
+    good &= kewohiata_adds(least_normal + 1, sign | least_normal, 1) & kewohiata_adds(least_normal - 1, 1, least_normal) & kewohiata_adds(1, 1, 2);
+    return good & kewohiata_adds(sign | 1, sign | 1, sign | 2);
+}
+
+/* ---- sums of a list, on the caller's own arrays. list: the numbers' patterns. */
+
+/* Opens a walk by blocks: the list's numbers go to `work`, and the first state to `state`; or, where every number is zero, the finished sum +0.
+ * work: n doubles. state: 10 numbers, all of which are written.
+ * Refusals: 1; 4; 2 or 3 of the lowest bad place. Needs the environment above. */
+uint32_t kewohiata_walk_open(const uint64_t *list, size_t list_length, double *work, size_t work_length, uint64_t *state, size_t state_length);
+
+/* Takes one block. In a run from an opening any pending block may be the next; the step that takes the last one closes the round, and either ends the walk
+ * (the state's first number is KEWOHIATA_DONE) or makes all blocks pending again. The sum and the rounds are those of kewohiata_walk_faithful in any order.
+ * state, work: as the opening or the last accepted step left them. block: 0 to kewohiata_blocks(n) - 1.
+ * Refusals: 4; 8; 6; 7. Needs the environment above. Time: n at each step, since the whole work area is looked at, and as much again where a round closes. */
+uint32_t kewohiata_walk_step(uint64_t *state, size_t state_length, double *work, size_t work_length, size_t block);
+
+/* The faithful sum: no double lies strictly between it and the exact sum, and where the exact sum is a double it is that one; a zero sum is +0.
+ * work: n doubles, which hold remainders afterwards. out: 2 numbers, the sum's pattern and the rounds, 0 to 51.
+ * Refusals: 1; 4; 2 or 3 of the lowest bad place. Needs the environment above. Time: n for each round. */
+uint32_t kewohiata_walk_faithful(const uint64_t *list, size_t list_length, double *work, size_t work_length, uint64_t *out, size_t out_length);
+
+/* The nearest sum: no double is nearer to the exact sum, at a tie the one with the even significand; a zero sum is +0. out: 1 number, the sum's pattern.
+ * Refusals: 1; 4; 2 or 3 of the lowest bad place. */
+uint32_t kewohiata_list_nearest(const uint64_t *list, size_t list_length, uint64_t *out, size_t out_length);
+
+/* The sum in parts: the first is nearest to the exact sum, each next one to what is missing. parts: 1 to 8 doubles, all of which are written.
+ * out: 1 number, 1 where the parts add up to the exact sum and else 0. Refusals: 1; 4; 5; 2 or 3 of the lowest bad place. */
+uint32_t kewohiata_list_parts(const uint64_t *list, size_t list_length, double *parts, size_t parts_length, uint64_t *out, size_t out_length);
+
+/* ---- a register: 33 words, the lowest first, a whole number of units of 2^-1074 in two's complement; 33 zeros are the empty one. Time: that of 33 words. */
+
+/* Adds one number to a register, or takes it out: the whole number changes by exactly the number's units, and what was added before and is taken out leaves no
+ * trace. Refusals: 4; 2 or 3 with place 0; 9. */
+uint32_t kewohiata_words_add(uint64_t *words, size_t words_length, uint64_t pattern);
+uint32_t kewohiata_words_withdraw(uint64_t *words, size_t words_length, uint64_t pattern);
+
+/* The double nearest to a register, at a tie the one with the even significand; zero gives +0. out: 1 number, its pattern. Refusals: 4; 10. */
+uint32_t kewohiata_words_round(const uint64_t *words, size_t words_length, uint64_t *out, size_t out_length);
+
+/* ---- a contribution sheet: the byte 1, the count in 4 bytes, and 8 bytes for each number, all with the highest byte first */
+
+/* Reads a sheet's patterns to the first places of `area`; the rest of it stays. No number is judged. area: as many as the sheet counts, or more.
+ * out: 1 number, the count. Refusals: 11 for fewer than 5 bytes; 12; 1; 11; 13; 4. */
+uint32_t kewohiata_sheet_read(const uint8_t *sheet, size_t sheet_length, uint64_t *area, size_t area_length, uint64_t *out, size_t out_length);
+
+/* ---- the calls on bytes. Patterns and words lie least significant byte first, 8 bytes each, on every machine, and at any address. */
+
+/* The faithful sum. list: 0 to 4,094 numbers of 8 bytes each. out: 16 bytes, the sum's pattern and then the rounds.
+ * Refusals: 1 above 32,752 bytes; 4 where 8 doesn't divide the list's length too; 2 or 3 of the lowest bad place. Needs the environment above.
+ * Time: n for each round. Stack: below 66,000 bytes, whatever the list's length. */
 uint32_t kewohiata_faithful(const uint8_t *list, size_t list_length, uint8_t *out, size_t out_length);
 
-/* The nearest sum of `list`: no double is nearer to the exact sum, at a tie the one with the even significand; a zero sum is +0.
- * list: as above. out: 16 bytes, the sum's pattern and then 8 zeros.
- * Result: 0, or 1, 2, 3 or 4 as above. Stack: below 35,000 bytes, whatever the list's length. */
+/* The nearest sum. list, refusals: as above. out: 16 bytes, the sum's pattern and then 8 zeros. Stack: below 35,000 bytes, whatever the list's length. */
 uint32_t kewohiata_nearest(const uint8_t *list, size_t list_length, uint8_t *out, size_t out_length);
 
-/* Adds one number to a register, which changes its whole number of units of 2^-1074 by exactly the number's.
- * register_bytes: 264 bytes, 33 words, least significant first, in two's complement; 264 zeros are the empty register. pattern: the number.
- * Result: 0, or 2 + 32, 3 + 32, 4 or 9. Stack: below 1,000 bytes. */
+/* Adds one number to a register of 264 bytes, its 33 words, or takes it out. Refusals: 4; 2 or 3 with place 0; 9. Stack: below 1,000 bytes. */
 uint32_t kewohiata_register_add(uint8_t *register_bytes, size_t register_length, uint64_t pattern);
-
-/* Takes one number out of a register, which changes its whole number of units by exactly the number's opposite: what was added before and is taken out
- * leaves no trace.
- * register_bytes, pattern, result and stack: as above. */
 uint32_t kewohiata_register_withdraw(uint8_t *register_bytes, size_t register_length, uint64_t pattern);
 
 #ifdef __cplusplus

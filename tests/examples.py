@@ -1,5 +1,5 @@
 #!/usr/bin/env python3
-"""Runs what README.md and examples/README.md show, and compares what it prints; the C example, and scripts/sum's exit statuses.
+"""Runs what README.md and examples/README.md show, and compares what it prints; and the C examples.
 
     python3 tests/examples.py        exit status 1 on a difference
 
@@ -13,16 +13,17 @@ import subprocess
 import sys
 
 sys.dont_write_bytecode = True
+import built  # noqa: E402
+import command  # noqa: E402
 import kit  # noqa: E402
 
 ROOT = os.path.dirname(os.path.dirname(os.path.abspath(__file__)))
 PLACE = os.path.join(ROOT, "target", "example")
 PAGES = ["README.md", "examples/README.md"]
 BLOCK = re.compile(r"^```(\w+)\n(.*?)^```$", re.S | re.M)
-EXAMPLE = "tests/sheets/example.sheet"
 
 DIFFERENCES = []
-COUNTS = {"commands": 0, "programs": 0, "statuses": 0}
+COUNTS = {"commands": 0, "programs": 0, "examples": 0}
 
 
 def same(name, got, expected):
@@ -76,46 +77,27 @@ def check_page(page):
             same(f"{page}: the C text", compiled(text), 0)
 
 
-def check_leaver():
-    """The C example prints what lies beside it, and a turned character of that would be seen."""
-    got, expected = printed(["scripts/example"]), read("examples/leaver.out")
-    same("scripts/example", got, expected)
+def check_example(name):
+    """A C example prints what lies beside it, and a turned character of that would be seen."""
+    got, expected = printed(["scripts/example", name]), read(f"examples/{name}.out")
+    COUNTS["examples"] += same(f"scripts/example {name}", got, expected)
     same("a wrong line passes", [i for i in range(len(expected)) if got == expected[:i] + "#" + expected[i + 1 :]], [])
 
 
-# ---- scripts/sum
-def ended(words, stdin=None, **environment):
-    """The status and standard output of scripts/sum, and whether it said a line of its own."""
-    command = [sys.executable, "scripts/sum", *words]
-    with open(os.path.join(ROOT, stdin or os.devnull), "rb") as sheet:
-        process = subprocess.run(command, cwd=ROOT, stdin=sheet, capture_output=True, env={**os.environ, **environment}, check=False)
-    return process.returncode, process.stdout.decode(), process.stderr.startswith(b"scripts/sum: ") and process.stderr.count(b"\n") == 1
-
-
-def check_statuses():
-    lines = read("tests/sheets/example.out")
-    without = {"PATH": os.path.dirname(sys.executable) + "-none", "RATTLE_HOME": ""}
-    for name, got, expected in [
-        ("sums", ended([EXAMPLE]), (0, lines, False)),
-        ("standard input", ended(["-"], EXAMPLE), (0, lines, False)),
-        ("refused", ended(["tests/sheets/nan_third.sheet"]), (1, "refused 2 at 2\n", False)),
-        ("nothing on standard input", ended(["-"]), (1, "refused 11\n", False)),
-        ("no file", ended(["no such file"]), (2, "", True)),
-        ("a folder", ended(["tests"]), (2, "", True)),
-        ("no kit", ended([EXAMPLE], **without), (2, "", True)),
-        ("another kit", ended([EXAMPLE], RATTLE_HOME=ROOT), (2, "", True)),
-        ("no word", ended([])[:2], (2, "")),
-        ("two words", ended([EXAMPLE, EXAMPLE])[:2], (2, "")),
-    ]:
-        COUNTS["statuses"] += 1
-        same(f"scripts/sum: {name}", got, expected)
+def check_examples():
+    """Every C file of examples/. Those over the calls on arrays need an archive that has them."""
+    names = sorted(name[:-2] for name in os.listdir(os.path.join(ROOT, "examples")) if name.endswith(".c"))
+    same("without a name it is leaver", printed(["scripts/example"]), read("examples/leaver.out"))
+    arrays = built.has(built.need(built.ARCHIVE), "kewohiata_words_round")
+    for name in names if arrays else ["leaver"]:
+        check_example(name)
 
 
 def main():
+    command.asked(__doc__)
     for page in PAGES:
         check_page(page)
-    check_leaver()
-    check_statuses()
+    check_examples()
     same("the pages show commands and programs", COUNTS["commands"] >= 9 and COUNTS["programs"] == 2, True)
     for name, got, expected in DIFFERENCES[:9]:
         print(f"examples: {name}: printed\n{got}\nand should\n{expected}")

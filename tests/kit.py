@@ -29,25 +29,32 @@ def toolchain():
     return os.path.join(home(), "on", machine(), "toolchain")
 
 
-def c_commands(source, archives, program):
-    """The commands that make a program for x86-64 of one C file and archives of `rt staticlib`, with the object file beside it."""
+def clang():
+    return os.path.join(toolchain(), "bin", "clang")
+
+
+def c_commands(source, archives, program, *more):
+    """The commands that make a program for x86-64 of one C file and archives of `rt staticlib`, with the object file beside it. More words for the compiler
+    come last."""
     made, link = program + ".o", os.path.join(home(), "on", machine(), "bin", "rattle-link")
-    words = ["-std=c99", "-O2", "-Wall", "-Wextra", "-Werror", "-ffreestanding", "-fPIE", "-I", INCLUDE, "-isystem", HEADERS]
-    yield [os.path.join(toolchain(), "bin", "clang"), f"--target={TARGET}", *words, "-c", source, "-o", made]
+    words = ["-std=c99", "-O2", "-Wall", "-Wextra", "-Werror", "-ffreestanding", "-fPIE", "-I", INCLUDE, "-isystem", HEADERS, *more]
+    yield [clang(), f"--target={TARGET}", *words, "-c", source, "-o", made]
     yield [link, "--target", TARGET, "--toolchain", toolchain(), "-o", program, made, *archives]
 
 
 def rt(*words):
-    """Runs rt at the repository's root, with its own lines on standard error; all that it says where it fails. Answers its status."""
+    """Runs rt at the repository's root, with its own lines on standard error, but for those on crates that it needn't prove again; all that it says where it
+    fails. Answers its status."""
     said = []
     root = os.path.dirname(INCLUDE)
+    home()  # without a kit that can be told in a better line than that there is no such file
     with subprocess.Popen(["rt", *words], cwd=root, stdin=subprocess.DEVNULL, stdout=subprocess.PIPE, stderr=subprocess.STDOUT) as process:
         for line in process.stdout:
             line = line.decode(errors="replace")
             said.append(line)
-            if line.startswith("rt: "):
+            if line.startswith("rt: ") and "(unchanged " not in line and sys.stderr is not None:
                 print(line, end="", file=sys.stderr, flush=True)
-    if process.returncode:
+    if process.returncode and sys.stderr is not None:
         print("".join(said), end="", file=sys.stderr)
     return process.returncode
 

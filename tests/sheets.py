@@ -17,6 +17,7 @@ import termios
 import time
 
 sys.dont_write_bytecode = True
+import command  # noqa: E402
 import exact  # noqa: E402
 import kit  # noqa: E402
 import samples  # noqa: E402
@@ -250,7 +251,7 @@ def make():
 
 
 def main():
-    if sys.argv[1:] == ["--make"]:
+    if command.asked(__doc__, ["--make"]):
         return make()
     if not os.path.exists(PROGRAM):
         print("sheets: the program is not built: rt check sum_sheet")

@@ -9,10 +9,12 @@ import fractions
 import math
 import os
 import random
+import re
 import subprocess
 import sys
 
 sys.dont_write_bytecode = True
+import command  # noqa: E402
 import sheets  # noqa: E402
 import walk  # noqa: E402
 
@@ -44,7 +46,8 @@ def made(texts):
     """The patterns of the sheet that make answers, given as words and as lines; the two have to be the same."""
     words = ran("make", *texts)
     lines = ran("make", stdin="\n".join(f" {text}  # a comment 7" for text in texts).encode())
-    expect("words and lines", words == lines and words[0] == 0, texts[:3], words[0], words[2], lines[2])
+    expect("words and lines", words[:2] == lines[:2] and words[0] == 0, texts[:3], words[0], words[2], lines[2])
+    expect("what is said of them", re.sub(r"line \d+: ", "", lines[2]) == words[2], words[2], lines[2])
     patterns = sheets.read(words[1])
     expect("sheet", words[1] == sheets.sheet(patterns), texts[:3])
     return patterns
@@ -110,15 +113,83 @@ def check_words():
         (["inf", "-Infinity", "nan"], [sheets.INFINITY, sheets.SIGN + sheets.INFINITY, 0x7FF8000000000000]),
     ):
         expect("words", made(texts) == patterns, texts)
-    status, out, said = ran("make", *["1"] * 4095)
-    expect("4,095 numbers", status == 0 and out == sheets.sheet([sheets.ONE] * 4095) and "refused 1:" in said, said)
+    expect("4,094 numbers", made(["1"] * 4094) == [sheets.ONE] * 4094)
+
+
+def check_texts():
+    """Comments of any bytes, a byte order mark, ends of lines of every kind, and words across the pieces in which a text is read."""
+    for text, patterns in (
+        ("\ufeff# Z\u00fcrich \u2013 N\u00ba 3\n1 # \u4e00\n2".encode(), [1.0, 2.0]),
+        (b"1 # \xff\xfe no UTF-8\n2#3\n", [1.0, 2.0]),
+        (b"1 # a\r\n2 # b\r3 # c\n4", [1.0, 2.0, 3.0, 4.0]),
+        (b"\t1\x0c2\xc2\xa03", [1.0, 2.0, 3.0]),
+        (b"#" * 65530 + b"\n" + b"12345.75 " * 4, [12345.75] * 4),
+        (b"1#" + b"x" * 200000 + b"\n2", [1.0, 2.0]),
+        (b"\n" * 65535 + b"0x1.8p+1", [3.0]),
+    ):
+        status, out, said = ran("make", stdin=text)
+        expect("text", (status, out, said) == (0, sheets.sheet([walk.bits(x) for x in patterns]), ""), text[:40], status, out[:40], said)
+
+
+def check_lines():
+    """The line of a bad word."""
+    for text, line in ((b"abc", 1), (b"1\n2\n\n3 # 4\n 5 6x 7\n", 5), (b"# \xc3\xa4\r\n1\r\n--1\r\n", 3), (b"1\n\xff2\n", 2), (b"1\n1e400", 2)):
+        status, out, said = ran("make", stdin=text)
+        expect("line", (status, out) == (2, b"") and said.startswith(f"tools/sheet: line {line}: ") and said.count("\n") == 1, text, said)
+
+
+def check_zeros():
+    """A number that isn't zero and becomes zero is told, and one that is zero or doesn't is not."""
+    for texts, count, first in (
+        (["1e-330"], 1, "1e-330"),
+        (["0", "-0.0", "0e5", "0x0p3", "0e-400", "0x.0p-9999", "pattern:0000000000000000", "pattern:8000000000000000", "4.9e-324", "0x1p-1074"], 0, ""),
+        (["1", "-0.001e-330", "0x.Fp-1100", "1e-324"], 3, "-0.001e-330"),
+    ):
+        status, out, said = ran("make", *texts)
+        told = f"{count} of the numbers became zero" in said and said.rstrip().endswith(f"the first is {first}") if count else said == ""
+        expect("zeros", status == 0 and len(out) == 5 + 8 * len(texts) and told, texts, said)
+    said = ran("make", stdin=b"1\n2 1e-330\n")[2]
+    expect("the line of a zero", said.endswith("the first is line 2: 1e-330\n"), said)
+
+
+def check_long():
+    """A list that is too long is told at once: of an input without end too, on many lines or on one."""
+    for words in (["1"] * 4095, ["nan"] * 5000):
+        status, out, said = ran("make", *words)
+        expect("4,095 words", (status, out) == (2, b"") and "at most 4094 numbers" in said and said.count("\n") == 1, status, said)
+    for piece, line in ((b"1\n", 4095), (b"1 ", 1), (b"#\n1\n\n", 12284)):
+        with subprocess.Popen([sys.executable, TOOL, "make"], stdin=subprocess.PIPE, stdout=subprocess.PIPE, stderr=subprocess.PIPE) as process:
+            try:
+                for _ in range(1000):  # megabytes more than a pipe holds: it has to stop reading
+                    process.stdin.write(piece * 20000)
+                stopped = False
+            except BrokenPipeError:
+                stopped = True
+            process.stdin = None
+            out, said = process.communicate(timeout=60)
+        told = said.decode().startswith(f"tools/sheet: line {line}: a list has at most 4094 numbers")
+        expect("without end", stopped and (process.returncode, out) == (2, b"") and told, piece, stopped, said)
+
+
+def check_help():
+    for words in (["--help"], ["make", "--help"], ["show", "--help"], ["make", "-h", "1"], ["show", "x", "-h"]):
+        status, out, said = ran(*words)
+        expect("help", status == 0 and out.startswith(b"Makes a contribution sheet") and said == "", words, status, said)
+
+
+def check_closed():
+    """Closed or full outputs and a closed input are trouble, in one line."""
+    for redirect, words in (("<&-", "make"), ("<&-", "show -"), (">&-", "make 1"), (">&-", f"show {sheets.FOLDER}/example.sheet"), (">/dev/full", "make 1")):
+        line = f"exec '{sys.executable}' '{TOOL}' {words} {redirect}"
+        ended = subprocess.run(["bash", "-c", line], stdin=subprocess.DEVNULL, capture_output=True, check=False)
+        expect("closed", ended.returncode == 2 and ended.stderr.startswith(b"tools/sheet: ") and ended.stderr.count(b"\n") == 1, line, ended)
 
 
 def check_trouble():
     bad = ["abc", "0x", "1_0", "1e", "1.2.3", "--1", "0x1.8p", "pattern:7FF", "pattern:7FF000000000000G", "7FF0000000000000G"]
     bad += ["1e400", "-0x1p1024", "", "１", "1,5"]
     calls = [(["make", "1", word], b"") for word in bad] + [(["make"], word.encode()) for word in bad if word] + [(["make"], b"1\n\xff\n")]
-    calls += [(words, b"") for words in ([], ["sum"], ["show"], ["show", "a", "b"], ["show", "no such file"], ["show", ROOT], ["show", ""], ["show", "--help"])]
+    calls += [(words, b"") for words in ([], ["sum"], ["show"], ["show", "a", "b"], ["show", "no such file"], ["show", ROOT], ["show", ""])]
     for words, stdin in calls:
         status, out, said = ran(*words, stdin=stdin)
         expect("trouble", (status, out) == (2, b"") and said.startswith("tools/sheet: ") and said.count("\n") == 1, words, stdin, status, out, said)
@@ -192,10 +263,17 @@ def check_examples():
 
 
 def main():
+    command.asked(__doc__)
     chance = random.Random(1)
     check_round_trips(chance)
     check_rounding(chance)
     check_words()
+    check_texts()
+    check_lines()
+    check_zeros()
+    check_long()
+    check_help()
+    check_closed()
     check_trouble()
     check_sheets()
     check_notices()

@@ -12,6 +12,7 @@ import os
 import sys
 
 sys.dont_write_bytecode = True
+import command  # noqa: E402
 import exact  # noqa: E402
 import samples  # noqa: E402
 import walk  # noqa: E402
@@ -69,8 +70,9 @@ def lines():
 
 
 def main():
+    words = command.asked(__doc__, ["--check"])
     wanted = list(lines())
-    if sys.argv[1:] != ["--check"]:
+    if not words:
         print("\n".join(wanted))
         return 0
     with open(os.path.join(os.path.dirname(__file__), "..", "crates", "trial", "stdout"), encoding="ascii") as f:

@@ -13,6 +13,9 @@ import random
 import struct
 import sys
 
+sys.dont_write_bytecode = True
+import command  # noqa: E402
+
 LENGTH, MAGNITUDE, BLOCK, CARRIED, ROUNDS = 4094, 0x7E70000000000000, 64, 0x7F30000000000000, 50
 SIGN, INFINITY, ONE = 1 << 63, 0x7FF << 52, 0x3FF << 52
 LEAST_NORMAL = 1 << 52  # 2^-1022 in units
@@ -497,6 +500,7 @@ def check_refusals():
 
 
 def main():
+    command.asked(__doc__)
     chance = random.Random(1)
     check_witnesses(chance)
     check_refusals()

@@ -1,0 +1,63 @@
+/* A faithful sum block by block, in the order in which an operator gets the racks' readings: the last rack first, then as they come. Whatever the order, the
+ * sum and the rounds are those of the undivided call. Between two calls the work area and ten numbers are all there is to keep.
+ *
+ *     scripts/example blocks        builds and runs it with the Rattle kit alone, on either machine
+ */
+#include "kewohiata.h"
+#include <stdio.h>
+
+enum { N = 200 };
+
+static uint64_t list[N];
+static double work[N];
+
+/* Readings of some microseconds; two failing clocks, an enormous one and one in its shadow, join and leave. */
+static void fill(void)
+{
+    for (int i = 0; i < N; i++)
+        list[i] = kewohiata_pattern((double)(i * 37 % 101 - 50) * 1.7e-7);
+    list[10] = kewohiata_pattern(4.2e8);
+    list[150] = kewohiata_pattern(-4.2e8);
+    list[70] = kewohiata_pattern(1e-290);
+    list[199] = kewohiata_pattern(-1e-290);
+}
+
+/* Which of the blocks that are pending the operator takes next: the highest in even rounds, the lowest in odd ones. */
+static size_t next_block(const uint64_t *state, size_t blocks)
+{
+    uint64_t pending = state[KEWOHIATA_STATE_PENDING];
+    for (size_t k = 0; k < blocks; k++) {
+        size_t block = state[KEWOHIATA_STATE_ROUNDS] % 2 == 0 ? blocks - 1 - k : k;
+        if (pending >> block & 1)
+            return block;
+    }
+    return blocks;
+}
+
+int main(void)
+{
+    uint64_t state[KEWOHIATA_STATE], sum[KEWOHIATA_FAITHFUL];
+    const size_t blocks = kewohiata_blocks(N);
+    unsigned steps = 0;
+
+    if (!kewohiata_environment()) {
+        printf("this thread's floating-point environment is not what the walk needs\n");
+        return 1;
+    }
+    fill();
+    uint32_t code = kewohiata_walk_open(list, N, work, N, state, KEWOHIATA_STATE);
+    printf("opened: code %u, %u blocks\n", (unsigned)code, (unsigned)blocks);
+    while (code == KEWOHIATA_ACCEPTED && state[KEWOHIATA_STATE_KIND] == KEWOHIATA_MORE) {
+        size_t block = next_block(state, blocks);
+        code = kewohiata_walk_step(state, KEWOHIATA_STATE, work, N, block);
+        printf("block %u: code %u\n", (unsigned)block, (unsigned)code);
+        steps++;
+        if (steps == 2) /* a block twice in a round is refused, and nothing changes */
+            printf("the same again: refusal %u\n", (unsigned)kewohiata_refusal(kewohiata_walk_step(state, KEWOHIATA_STATE, work, N, block)));
+    }
+    printf("by blocks: pattern %016llX, rounds %u, %u steps\n", (unsigned long long)state[KEWOHIATA_DONE_SUM], (unsigned)state[KEWOHIATA_DONE_ROUNDS],
+           steps);
+    code |= kewohiata_walk_faithful(list, N, work, N, sum, KEWOHIATA_FAITHFUL);
+    printf("undivided: pattern %016llX, rounds %u, code %u\n", (unsigned long long)sum[0], (unsigned)sum[1], (unsigned)code);
+    return code != 0 || sum[0] != state[KEWOHIATA_DONE_SUM] || sum[1] != state[KEWOHIATA_DONE_ROUNDS];
+}

@@ -1,0 +1,254 @@
+#!/usr/bin/env python3
+"""include/kewohiata.h as compilers take it, and the calls in every floating-point environment of x86-64.
+
+    python3 tests/environment.py        exit status 1 on a difference
+
+The header is compiled as C99 and C++11 by the kit's compiler, and by gcc and g++ where they are, with every warning an error; its names are held to numbers
+written here. Then tests/host/environment.c is built unoptimised, optimised and with fast mathematics, and asked in each environment: kewohiata_environment
+has to say yes to round to nearest with subnormals and no to every other, and the calls on whole numbers have to answer what exact integers do in all of them.
+That the sums of the walk are wrong in some is shown too: it is why the question is there. Under gcc's -Ofast the program starts in such an environment.
+"""
+import itertools
+import os
+import random
+import shutil
+import struct
+import subprocess
+import sys
+
+sys.dont_write_bytecode = True
+import built  # noqa: E402
+import command  # noqa: E402
+import exact  # noqa: E402
+import kit  # noqa: E402
+import samples  # noqa: E402
+
+ROOT = built.ROOT
+PLACE = os.path.join(ROOT, "target", "environment")
+SOURCE = os.path.join(ROOT, "tests", "host", "environment.c")
+WARNINGS = ["-Wall", "-Wextra", "-pedantic", "-Werror"]
+
+# the control word: bits 13 and 14 the direction, 15 flush-to-zero, 6 denormals-as-zero; 0x1F80 masks every exception
+USUAL, DOWN, UP, FLUSH, ZEROED = 0x1F80, 0x2000, 0x4000, 0x8000, 0x40
+ENVIRONMENTS = {
+    "as usual": USUAL,
+    "with flags raised": USUAL | 0x3F,
+    "downward": USUAL | DOWN,
+    "upward": USUAL | UP,
+    "towards zero": USUAL | DOWN | UP,
+    "flush-to-zero": USUAL | FLUSH,
+    "denormals-as-zero": USUAL | ZEROED,
+    "both": USUAL | FLUSH | ZEROED,
+    "both, upward": USUAL | UP | FLUSH | ZEROED,
+}
+GOOD = {"as usual", "with flags raised"}
+ENVIRONMENT, NEAREST, ADD, WITHDRAW, FAITHFUL, LIST_NEAREST, WORDS_ROUND, PARTS, WALK = range(9)
+
+TINY = [exact.ONE, 0x36EB6, exact.ONE | exact.SIGN]
+LISTS = 150
+
+# the header's names: a refusal's number, or a length
+NAMES = {
+    "TOO_MANY": 1, "NOT_FINITE": 2, "TOO_LARGE": 3, "WRONG_LENGTH": 4, "WRONG_PARTS": 5, "NO_SUCH_BLOCK": 6, "BLOCK_NOT_PENDING": 7, "UNSOUND_STATE": 8,
+    "REGISTER_FULL": 9, "NO_FINITE_DOUBLE": 10, "SHEET_TOO_SHORT": 11, "OTHER_VERSION": 12, "SHEET_TOO_LONG": 13, "LIST_MOST": 4094,
+    "LIST_BYTES_MOST": 32752, "BLOCK": 64, "STATE": 10, "FAITHFUL": 2, "VALUE": 1, "SUM_BYTES": 16, "WORDS": 33, "REGISTER_BYTES": 264, "PARTS_MOST": 8,
+    "ROUNDS_MOST": 51, "SHEET_HEADER": 5, "SHEET_BYTES_MOST": 32757,
+}  # fmt: skip
+
+DIFFERENCES = []
+COUNTS = {"compilations": 0, "answers": 0, "wrong sums of the walk": 0}
+
+
+def expect(name, held, *more):
+    if not held:
+        DIFFERENCES.append((name, *more))
+    return held
+
+
+# ---- the header
+def uses():
+    """A text that includes the header twice, and asks every name and helper for what it is: an array of a wrong number of places is an error."""
+    lines = ['#include "kewohiata.h"', '#include "kewohiata.h"', "int main(void)", "{"]
+    asked = {f"KEWOHIATA_{name} == {number}": name for name, number in NAMES.items()}
+    asked["sizeof KEWOHIATA_VERSION == 6"] = "VERSION"
+    lines += [f"    typedef char is_{name}[{condition} ? 1 : -1];" for condition, name in asked.items()]
+    lines += [f"    (void)sizeof(is_{name});" for name in asked.values()]
+    for condition in (
+        "kewohiata_pattern(-1.5) == 0xBFF8000000000000u",
+        "kewohiata_pattern(kewohiata_double(0x36EB6)) == 0x36EB6",
+        "kewohiata_refusal(0) == KEWOHIATA_ACCEPTED && !kewohiata_tells_place(0)",
+        "kewohiata_refusal(4) == KEWOHIATA_WRONG_LENGTH && !kewohiata_tells_place(4)",
+        "kewohiata_refusal(34) == KEWOHIATA_NOT_FINITE && kewohiata_tells_place(34) && kewohiata_place(34) == 0",
+        "kewohiata_refusal(131011) == KEWOHIATA_TOO_LARGE && kewohiata_place(131011) == 4093",
+        "kewohiata_blocks(0) == 0 && kewohiata_blocks(1) == 1 && kewohiata_blocks(64) == 1 && kewohiata_blocks(65) == 2 && kewohiata_blocks(4094) == 64",
+        "kewohiata_environment()",
+    ):
+        lines += [f"    if (!({condition}))", "        return 1;"]
+    return "\n".join([*lines, "    return 0;", "}", ""])
+
+
+def compiled(words):
+    done = subprocess.run(words, stdout=subprocess.PIPE, stderr=subprocess.STDOUT, text=True, check=False)
+    COUNTS["compilations"] += 1
+    return expect(" ".join(words), done.returncode == 0, done.stdout)
+
+
+def check_header():
+    for name, language in (("header.c", ["-std=c99"]), ("header.cc", ["-std=c++11"]), ("header.c", ["-std=c11"]), ("header.cc", ["-std=c++17"])):
+        source, program = os.path.join(PLACE, name), os.path.join(PLACE, "header")
+        with open(source, "w", encoding="utf-8") as f:
+            f.write(uses())
+        for target in ("x86_64", "aarch64"):
+            own = [kit.clang(), f"--target={target}-unknown-linux-gnu", *language, "-isystem", kit.HEADERS]
+            compiled([*own, *WARNINGS, "-I", kit.INCLUDE, "-c", source, "-o", program + ".o"])
+        compiler = shutil.which("g++" if name.endswith("cc") else "gcc")
+        for level in ("-O0", "-O2") if compiler else ():
+            if compiled([compiler, *language, level, *WARNINGS, "-I", kit.INCLUDE, source, "-o", program]):
+                expect(f"{name} by {compiler} {level}", subprocess.run([program], check=False).returncode == 0)
+
+
+# ---- the program
+def has_arrays():
+    """Whether the archive has the calls on arrays."""
+    return built.has(built.ARCHIVE.path, "kewohiata_words_round")
+
+
+def programs(archive):
+    """A name, the program, and the words before its path: by the kit's compiler, and by gcc on x86-64 where there is one."""
+    arrays = ["-DARRAYS"] if has_arrays() else []
+    for name, words in (("O0", ["-O0"]), ("O2", ["-O2"]), ("fast", ["-O3", "-ffast-math"])):
+        program = os.path.join(PLACE, f"kit-{name}")
+        if all([compiled(one) for one in kit.c_commands(SOURCE, [archive], program, "-pedantic", *arrays, *words)]):
+            yield f"the kit's compiler, {' '.join(words)}", program, kit.run_prefix()
+    if shutil.which("gcc") and kit.machine() == "x86_64":
+        for level in ("-O0", "-O2", "-Ofast"):
+            program = os.path.join(PLACE, f"gcc{level}")
+            if compiled(["gcc", "-std=c99", level, *WARNINGS, *arrays, "-I", kit.INCLUDE, SOURCE, archive, "-o", program]):
+                yield f"gcc {level}", program, []
+
+
+def answers(program, prefix, requests):
+    """Of each request, control word, call and list, the control word afterwards, the code and 33 values."""
+    wires = b"".join(struct.pack(f"<{3 + len(numbers)}Q", control, call, len(numbers), *numbers) for control, call, numbers in requests)
+    done = subprocess.run([*prefix, program], input=wires, stdout=subprocess.PIPE, env=kit.environment(), check=False)
+    if done.returncode or len(done.stdout) != 280 * len(requests):
+        raise RuntimeError(f"{program} ended with status {done.returncode} and {len(done.stdout)} bytes for {len(requests)} requests")
+    COUNTS["answers"] += len(requests)
+    numbers = [struct.unpack("<35Q", done.stdout[i : i + 280]) for i in range(0, len(done.stdout), 280)]
+    return [(one[0], one[1], list(one[2:])) for one in numbers]
+
+
+def lists(chance):
+    """Lists of tiny numbers, of clock size and of every size, and some where a bit of a direction shows."""
+    yield TINY
+    yield [1, 1]
+    yield [exact.ONE, 0x3CA0000000000000, 1]
+    yield [exact.ONE | exact.SIGN, 0xBCA0000000000000, exact.SIGN | 1]
+    for k in range(LISTS):
+        yield [chance.getrandbits(50) | chance.getrandbits(1) << 63 for _ in range(chance.randrange(2, 9))]
+        yield samples.filled(chance.randrange(2, 70), 0, samples.seed(3, k))
+
+
+def whole(numbers, sign):
+    register = exact.Register([0] * exact.WORDS)
+    for pattern in numbers:
+        register.enter(pattern, sign)
+    return register
+
+
+def wanted(call, numbers):
+    """The values of a call on whole numbers, from the first on."""
+    if call in (NEAREST, LIST_NEAREST):
+        return [exact.nearest_sum(numbers)]
+    if call == WORDS_ROUND:
+        return [whole(numbers, 1).round()]
+    if call == PARTS:
+        parts, all_of_it = exact.sum_in_parts(numbers, exact.PARTS)
+        return parts + [int(all_of_it)]
+    return whole(numbers, 1 if call == ADD else -1).words
+
+
+def check_calls(name, program, prefix, some):
+    """The calls on whole numbers answer the same everywhere; the walk's are counted where they are wrong."""
+    calls = [NEAREST, ADD, WITHDRAW] + ([LIST_NEAREST, WORDS_ROUND, PARTS] if has_arrays() else [])
+    right = {(call, k): wanted(call, numbers) for call in calls for k, numbers in enumerate(some)}
+    for what, control in ENVIRONMENTS.items():
+        asked = [(call, k) for call in calls for k in range(len(some))]
+        for (call, k), (after, code, values) in zip(asked, answers(program, prefix, [(control, call, some[k]) for call, k in asked])):
+            expected = right[call, k]
+            held = code == 0 and values == expected + [0] * (33 - len(expected)) and after | 0x3F == control | 0x3F
+            expect(f"{name}, {what}: call {call}", held, [f"{p:016X}" for p in some[k]], code, [f"{v:X}" for v in values[: len(expected)]])
+
+
+def is_faithful(pattern, numbers):
+    """No double strictly between the sum and the exact sum, and the exact sum where that is one."""
+    total = sum(map(exact.units, numbers))
+    here, near = exact.units(pattern), exact.nearest(total)
+    if exact.units(near) == total:
+        return pattern == near
+    beside = [exact.units(near + step) for step in (-1, 0, 1)]  # the doubles around a sum that is none and isn't near zero
+    return here in beside and not any(min(here, total) < other < max(here, total) for other in beside)
+
+
+def check_walk(name, program, prefix, some):
+    """In the usual environment every sum is faithful; with both switches on, the first list's is 0 in one round."""
+    for call, (what, control) in itertools.product([FAITHFUL, WALK] if has_arrays() else [FAITHFUL], ENVIRONMENTS.items()):
+        told = answers(program, prefix, [(control, call, numbers) for numbers in some])
+        wrong = [k for k, (_, code, values) in enumerate(told) if code or not is_faithful(values[0], some[k])]
+        if what in GOOD:
+            expect(f"{name}, {what}: the walk", not wrong and told[0][2][:2] == [TINY[1], 2], wrong)
+        else:
+            COUNTS["wrong sums of the walk"] += len(wrong)
+        if what == "both":
+            expect(f"{name}, {what}: {{1, 36EB6, -1}} is 0 in 1 round", told[0][1] == 0 and told[0][2][:2] == [0, 1], told[0])
+
+
+def check_environment(name, program, prefix):
+    """The header's function says yes to the usual environment alone, and of the start what the control word says."""
+    for what, control in ENVIRONMENTS.items():
+        after, said, _ = answers(program, prefix, [(control, ENVIRONMENT, [])])[0]
+        expect(f"{name}, {what}: kewohiata_environment", said == (what in GOOD) and after | 0x3F == control | 0x3F, said, f"{after:X}")
+    after, said, _ = answers(program, prefix, [(0, ENVIRONMENT, [])])[0]
+    usual = after | 0x3F == USUAL | 0x3F
+    expect(f"{name}, at the start: kewohiata_environment", said == usual, said, f"{after:X}")
+    expect(f"{name}, at the start", usual or name == "gcc -Ofast", f"{after:X}")
+
+
+def check_notices():
+    """A test that can't fail shows nothing: a neighbour of a nearest sum is not faithful where the sum is a double, nor two steps away."""
+    for pattern, numbers, held in (
+        (exact.ONE, [exact.ONE], True),
+        (exact.ONE + 1, [exact.ONE], False),
+        (exact.ONE, [exact.ONE, 0x3CA0000000000000, 1], True),
+        (exact.ONE + 1, [exact.ONE, 0x3CA0000000000000, 1], True),
+        (exact.ONE + 2, [exact.ONE, 0x3CA0000000000000, 1], False),
+        (exact.ONE - 1, [exact.ONE, 0x3CA0000000000000, 1], False),
+        (0, TINY, False),
+    ):
+        expect("is_faithful", is_faithful(pattern, numbers) == held, f"{pattern:016X}", numbers)
+
+
+def main():
+    command.asked(__doc__)
+    os.makedirs(PLACE, exist_ok=True)
+    archive = built.need(built.ARCHIVE)
+    some = list(lists(random.Random(1)))
+    check_header()
+    check_notices()
+    tried = 0
+    for name, program, prefix in programs(archive):
+        tried += 1
+        check_environment(name, program, prefix)
+        check_calls(name, program, prefix, some)
+        check_walk(name, program, prefix, some)
+    expect("programs", tried >= 3, tried)
+    expect("the walk is wrong in some environment", COUNTS["wrong sums of the walk"] > tried * LISTS)
+    for difference in DIFFERENCES[:9]:
+        print("environment:", *(str(part)[:400] for part in difference))
+    print(f"environment: {tried} programs, {len(ENVIRONMENTS)} environments, {', '.join(f'{n} {what}' for what, n in COUNTS.items())}; "
+          f"{len(DIFFERENCES)} differences")  # fmt: skip
+    return 1 if DIFFERENCES else 0
+
+
+if __name__ == "__main__":
+    sys.exit(main())

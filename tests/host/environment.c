@@ -1,0 +1,114 @@
+/* Makes calls in a given floating-point environment of x86-64, for tests/environment.py.
+
+   A request is three 64-bit numbers (the control word of the environment, or 0 for that of the start; which call; how many numbers follow) and then those
+   numbers. An answer is 35 of them: the environment's control word, the call's code, and 33 values. Nothing but read and write is used of a C library. */
+#include "kewohiata.h"
+
+long read(int file, void *bytes, size_t count);
+long write(int file, const void *bytes, size_t count);
+
+enum { MOST = 4095, VALUES = 33 };
+
+static uint64_t list[MOST], values[VALUES];
+
+static uint32_t control(void)
+{
+    uint32_t word;
+    __asm__ volatile("stmxcsr %0" : "=m"(word) : : "memory");
+    return word;
+}
+
+static void set_control(uint32_t word)
+{
+    __asm__ volatile("ldmxcsr %0" : : "m"(word) : "memory");
+}
+
+/* On x86-64 numbers lie in memory as the calls on bytes want them. */
+static uint32_t registered(size_t n, uint32_t (*enter)(uint8_t *, size_t, uint64_t))
+{
+    uint32_t code = 0;
+    for (size_t i = 0; i < n && code == 0; i++)
+        code = enter((uint8_t *)values, KEWOHIATA_REGISTER_BYTES, list[i]);
+    return code;
+}
+
+#ifdef ARRAYS
+static double area[MOST];
+
+/* 33 words, rounded to their first */
+static uint32_t rounded(size_t n)
+{
+    uint64_t words[KEWOHIATA_WORDS] = {0};
+    uint32_t code = 0;
+    for (size_t i = 0; i < n && code == 0; i++)
+        code = kewohiata_words_add(words, KEWOHIATA_WORDS, list[i]);
+    return code ? code : kewohiata_words_round(words, KEWOHIATA_WORDS, values, KEWOHIATA_VALUE);
+}
+
+/* eight parts, and whether they add up */
+static uint32_t parted(size_t n)
+{
+    uint32_t code = kewohiata_list_parts(list, n, area, KEWOHIATA_PARTS_MOST, values + KEWOHIATA_PARTS_MOST, KEWOHIATA_VALUE);
+    memcpy(values, area, KEWOHIATA_PARTS_MOST * sizeof area[0]);
+    return code;
+}
+#endif
+
+static uint32_t call(uint64_t which, size_t n)
+{
+    switch (which) {
+    case 0: return (uint32_t)kewohiata_environment();
+    case 1: return kewohiata_nearest((const uint8_t *)list, 8 * n, (uint8_t *)values, KEWOHIATA_SUM_BYTES);
+    case 2: return registered(n, kewohiata_register_add);
+    case 3: return registered(n, kewohiata_register_withdraw);
+    case 4: return kewohiata_faithful((const uint8_t *)list, 8 * n, (uint8_t *)values, KEWOHIATA_SUM_BYTES);
+#ifdef ARRAYS
+    case 5: return kewohiata_list_nearest(list, n, values, KEWOHIATA_VALUE);
+    case 6: return rounded(n);
+    case 7: return parted(n);
+    case 8: return kewohiata_walk_faithful(list, n, area, n, values, KEWOHIATA_FAITHFUL);
+#endif
+    default: return UINT32_MAX;
+    }
+}
+
+/* A pipe gives and takes in pieces. */
+static int take(void *bytes, size_t count)
+{
+    for (size_t have = 0; have < count;) {
+        long got = read(0, (uint8_t *)bytes + have, count - have);
+        if (got <= 0)
+            return 0;
+        have += (size_t)got;
+    }
+    return 1;
+}
+
+static int give(const void *bytes, size_t count)
+{
+    for (size_t gone = 0; gone < count;) {
+        long put = write(1, (const uint8_t *)bytes + gone, count - gone);
+        if (put <= 0)
+            return 0;
+        gone += (size_t)put;
+    }
+    return 1;
+}
+
+int main(void)
+{
+    uint64_t request[3], told[2];
+    const uint32_t start = control();
+    while (take(request, sizeof request)) {
+        if (request[2] > MOST || !take(list, request[2] * sizeof list[0]))
+            return 1;
+        memset(values, 0, sizeof values);
+        set_control(request[0] ? (uint32_t)request[0] : start);
+        told[1] = call(request[1], request[2]);
+        told[0] = control();
+        set_control(start);
+        if (!give(told, sizeof told) || !give(values, sizeof values))
+            return 1;
+    }
+    return 0;
+}
