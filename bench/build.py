@@ -1,6 +1,6 @@
 """Builds what bench/run times: the library's code for this machine, the walk in C by two compilers, and the driver.
 
-On x86-64 the library is the archives that `rt staticlib` makes. The kit compiles for x86-64 only; on another machine tests/native.py has its LLVM modules
+On x86-64 the library is the archive that `rt staticlib` makes. The kit compiles for x86-64 only; on another machine tests/native.py has its LLVM module
 compiled by another back end, and the table says so."""
 import os
 import shutil
@@ -10,13 +10,12 @@ import sys
 HERE = os.path.dirname(os.path.abspath(__file__))
 ROOT = os.path.dirname(HERE)
 sys.path.insert(0, os.path.join(ROOT, "tests"))
+import built  # noqa: E402
 import command  # noqa: E402
 import kit  # noqa: E402
-import native  # noqa: E402
 
 PLACE = os.path.join(ROOT, "target", "bench")
 DRIVER = os.path.join(PLACE, "driver")
-CRATES = ("timing", "timing_steps", "exports")
 C = ["-std=gnu11", "-O3", "-ffp-contract=off", "-Wall", "-Wextra", "-Werror"]
 PACKAGES = ["gcc", "libc6-dev", "libmpfr-dev"]
 
@@ -53,32 +52,12 @@ def packages():
 
 
 # ---- the library
-def made_of(crate):
-    """The file with the library's code for this machine."""
-    if kit.machine() == "x86_64":
-        return os.path.join(ROOT, "target", "staticlib", f"lib{crate}.a")
-    return os.path.join(PLACE, f"{crate}.o")
-
-
-def changed():
-    """When a source of the library was last changed."""
-    folders = [folder for folder, _, _ in os.walk(os.path.join(ROOT, "crates")) if f"{os.sep}src" in folder]
-    return max(os.path.getmtime(os.path.join(folder, name)) for folder in folders for name in os.listdir(folder))
-
-
-def library(crate):
-    made = made_of(crate)
-    if os.path.exists(made) and changed() < os.path.getmtime(made):
-        return made
-    print(f"bench: {crate} is proved and compiled", flush=True)
-    if kit.machine() == "x86_64":
-        run(["rt", "staticlib", crate])
-    else:
-        try:
-            native.compile_module(crate, PLACE, made)
-        except command.Trouble as trouble:
-            sys.exit(f"bench: {trouble}")
-    return made
+def library():
+    """The archive for this machine, which is proved and built where it isn't of the sources."""
+    try:
+        return built.need(built.ARCHIVE if kit.machine() == "x86_64" else built.NATIVE)
+    except command.Trouble as trouble:
+        sys.exit(f"bench: {trouble}")
 
 
 # ---- C
@@ -94,14 +73,13 @@ def driver():
     own = ["-isystem", os.path.join(ROOT, "tests", "host"), f"--target={kit.machine()}-unknown-linux-gnu", "-fPIC"]
     objects = [c_object("gcc", "main"), c_object("gcc", "sums"), c_object("gcc", "walk", "-DCOMPILER=gcc")]
     objects += [c_object(kit.clang(), "walk", "-DCOMPILER=clang", *own)]
-    libraries = [library(crate) for crate in CRATES]
-    run(["gcc", *objects, *libraries, "-lmpfr", "-lgmp", "-o", DRIVER])
+    run(["gcc", *objects, library(), "-lmpfr", "-lgmp", "-o", DRIVER])
 
 
 def versions():
     """What compiled what, in a sentence."""
     first = {word: run([word, "--version"]).splitlines()[0] for word in ("gcc", kit.clang())}
     ours = f"the kit's {first[kit.clang()]}"
-    how = "its archives of `rt staticlib`" if kit.machine() == "x86_64" else f"its LLVM modules, compiled at -O3 for {kit.machine()} by {ours}"
+    how = "its archive of `rt staticlib`" if kit.machine() == "x86_64" else f"its LLVM module, compiled at -O3 for {kit.machine()} by {ours}"
     where = "" if kit.machine() == "x86_64" else " (the kit itself compiles for x86-64 only: the code is the library's own, the back end another)"
     return f"The library is {how}{where}. The C code is compiled at -O3 by {first['gcc']}, the walk by {ours} too; all for the machine's baseline."

@@ -87,22 +87,22 @@ static void once(struct list *lists, size_t count, long s)
 
 typedef struct answer walk_in_c(const uint64_t *, size_t, double *, size_t);
 
-/* What the library's undivided call leaves and tells on a list, on areas that were cleared. */
+/* What the library's undivided call answers on a list, on arrays that were cleared, and what its call on bytes answers. */
 static struct {
-    double sum, work[LENGTH];
-    uint32_t told[3], code;
-    uint64_t called[2];
+    double work[LENGTH];
+    uint64_t values[2], called[2];
+    uint32_t code, called_code;
 } library;
 
 static void ask_library(const struct list *l)
 {
     uint8_t out[16] = {0};
     memset(work, 0, sizeof work);
-    memset(told, 0, sizeof told);
-    library.sum = undivided(l);
+    memset(values, 0, sizeof values);
+    library.code = kewohiata_walk_faithful(l->patterns, l->n, work, l->n, values, 2);
     memcpy(library.work, work, sizeof work);
-    memcpy(library.told, told, sizeof told);
-    library.code = kewohiata_faithful((const uint8_t *)l->patterns, 8 * l->n, out, 16);
+    memcpy(library.values, values, sizeof library.values);
+    library.called_code = kewohiata_faithful((const uint8_t *)l->patterns, 8 * l->n, out, 16);
     memcpy(library.called, out, sizeof out);
 }
 
@@ -112,11 +112,11 @@ static const char *walk_differs(walk_in_c *walk, const struct list *l)
     struct answer a;
     memset(work, 0, sizeof work);
     a = walk(l->patterns, l->n, work, l->n);
-    if (a.refused != library.told[0] || (a.refused && a.place != library.told[1]))
+    if (library.code != (a.refused ? a.refused + 32 * (a.place + 1) : 0))
         return "a walk's refusal";
-    if (to_bits(a.sum) != to_bits(library.sum))
+    if (to_bits(a.sum) != library.values[0])
         return "a walk's sum";
-    if (a.rounds != library.told[2])
+    if (a.rounds != library.values[1])
         return "a walk's rounds";
     return memcmp(library.work, work, sizeof work) ? "a walk's remainder" : NULL;
 }
@@ -131,8 +131,8 @@ static const char *differs(const struct list *l)
 {
     walk_in_c *walks[] = {gcc_plain, clang_plain, gcc_merged, clang_merged};
     ask_library(l);
-    if (library.code != (library.told[0] ? library.told[0] + 32 * (library.told[1] + 1) : 0) || library.called[1] != library.told[2])
-        return "the C call";
+    if (library.called_code != library.code || memcmp(library.called, library.values, sizeof library.called))
+        return "the call on bytes";
     for (int i = 0; i < 4; i++) {
         const char *what = walk_differs(walks[i], l);
         if (what)
@@ -140,10 +140,12 @@ static const char *differs(const struct list *l)
     }
     if (library.code)
         return NULL;
-    if (to_bits(by_blocks(l)) != to_bits(undivided(l)) || to_bits(faithful_call(l)) != to_bits(undivided(l)))
+    if (to_bits(by_blocks(l)) != library.values[0] || memcmp(library.work, work, sizeof(double) * l->n) || values[KEWOHIATA_DONE_ROUNDS] != library.values[1])
+        return "the walk by blocks";
+    if (to_bits(faithful_call(l)) != to_bits(undivided(l)))
         return "a faithful sum";
     if (to_bits(nearest(l)) != to_bits(nearest_call(l)))
-        return "the C call's nearest sum";
+        return "the nearest sum on bytes";
     if (to_bits(nearest(l)) != without_sign(mpfr(l)) || to_bits(nearest(l)) != without_sign(mpfr_converted(l)))
         return "a nearest sum";
     if (additions(l) != 0.0 || additions_call(l) != 0.0 || memcmp(words, bytes, sizeof bytes))

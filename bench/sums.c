@@ -1,18 +1,8 @@
 /* The sums that are timed, each on one list. */
 #include "sums.h"
 
-/* the crates `timing` and `timing_steps` */
-double timing_faithful(const uint64_t *list, size_t n, double *work, size_t room, uint32_t *told, size_t three);
-double timing_nearest(const uint64_t *list, size_t n, uint32_t *told, size_t three);
-uint32_t timing_register_add(uint64_t *words, size_t count, uint64_t p, uint32_t *told, size_t three);
-uint32_t timing_open(const uint64_t *list, size_t n, double *work, size_t room, double *reals, size_t three, uint32_t *told, size_t also_three);
-uint32_t timing_step(double sigma, double t, double tau, size_t n, uint64_t pending, uint32_t rounds, double *work, size_t room, size_t block, double *reals,
-                     size_t three, uint32_t *told, size_t also_three);
-
-enum { MORE = 0, DONE = 1 };
-
 double work[LENGTH];
-uint64_t words[WORDS];
+uint64_t values[STATE], words[WORDS];
 uint8_t bytes[8 * WORDS];
 uint32_t told[3];
 mpfr_t result;
@@ -37,35 +27,27 @@ double walk_gcc(const struct list *l) { return handed(gcc_plain(l->patterns, l->
 double walk_clang(const struct list *l) { return handed(clang_plain(l->patterns, l->n, work, l->n)); }
 double merged_gcc(const struct list *l) { return handed(gcc_merged(l->patterns, l->n, work, l->n)); }
 double merged_clang(const struct list *l) { return handed(clang_merged(l->patterns, l->n, work, l->n)); }
-double undivided(const struct list *l) { return timing_faithful(l->patterns, l->n, work, l->n, told, 3); }
-double nearest(const struct list *l) { return timing_nearest(l->patterns, l->n, told, 3); }
+
+/* The sum of a call's values, where it was accepted. */
+static double sum_in_values(uint32_t code) { return of_bits(code == 0 ? values[0] : UINT64_MAX); }
+
+double undivided(const struct list *l) { return sum_in_values(kewohiata_walk_faithful(l->patterns, l->n, work, l->n, values, 2)); }
+double nearest(const struct list *l) { return sum_in_values(kewohiata_list_nearest(l->patterns, l->n, values, 1)); }
 
 /* what the undivided call begins with; its sigma is answered */
 double opening(const struct list *l)
 {
-    double reals[3] = {0.0, 0.0, 0.0};
-    timing_open(l->patterns, l->n, work, l->n, reals, 3, told, 3);
-    return reals[0];
+    kewohiata_walk_open(l->patterns, l->n, work, l->n, values, STATE);
+    return of_bits(values[KEWOHIATA_STATE_SIGMA]);
 }
 
-/* by the public calls, blocks in rising order */
+/* blocks in rising order */
 double by_blocks(const struct list *l)
 {
-    double reals[3];
-    size_t blocks = (l->n + 63) / 64, block = 0;
-    uint64_t all = UINT64_MAX >> (64 - blocks), pending = all;
-    uint32_t rounds = 0, said = timing_open(l->patterns, l->n, work, l->n, reals, 3, told, 3);
-    while (said == MORE) {
-        said = timing_step(reals[0], reals[1], reals[2], l->n, pending, rounds, work, l->n, block, reals, 3, told, 3);
-        pending &= pending - 1;
-        block++;
-        if (!pending) {
-            pending = all;
-            block = 0;
-            rounds++;
-        }
-    }
-    return said == DONE ? reals[0] : of_bits(UINT64_MAX);
+    uint32_t code = kewohiata_walk_open(l->patterns, l->n, work, l->n, values, STATE);
+    while (code == 0 && values[KEWOHIATA_STATE_KIND] == KEWOHIATA_MORE)
+        code = kewohiata_walk_step(values, STATE, work, l->n, (size_t)__builtin_ctzll(values[KEWOHIATA_STATE_PENDING]));
+    return of_bits(code == 0 ? values[KEWOHIATA_DONE_SUM] : UINT64_MAX);
 }
 
 static double sum_in_bytes(uint32_t code, const uint8_t *out)
@@ -94,7 +76,7 @@ double additions(const struct list *l)
     uint32_t said = 0;
     memset(words, 0, sizeof words);
     for (size_t i = 0; i < l->n; i++)
-        said |= timing_register_add(words, WORDS, l->patterns[i], told, 3);
+        said |= kewohiata_words_add(words, WORDS, l->patterns[i]);
     return said;
 }
 

@@ -12,7 +12,7 @@
 WALK_DECLARE(gcc)
 WALK_DECLARE(clang)
 
-enum { LENGTH = 4094, WORDS = 33, SUMS = 15 };
+enum { LENGTH = KEWOHIATA_LIST_MOST, WORDS = KEWOHIATA_WORDS, STATE = KEWOHIATA_STATE, SUMS = 15 };
 
 /* A list as patterns, and as MPFR's numbers of 53 bits. */
 struct list {
@@ -22,10 +22,10 @@ struct list {
     mpfr_ptr *pointers;
 };
 
-/* The areas that the sums are lent: the walk's, a register in words and one in bytes; a refusal's number and place, and the rounds. MPFR's result has 53
-   bits. */
+/* The arrays that the sums are lent: the walk's, a call's values, a register in words and one in bytes. Of a walk in C a refusal's number and place, and the
+   rounds. MPFR's result has 53 bits. */
 extern double work[LENGTH];
-extern uint64_t words[WORDS];
+extern uint64_t values[STATE], words[WORDS];
 extern uint8_t bytes[8 * WORDS];
 extern uint32_t told[3];
 extern mpfr_t result;

@@ -1,7 +1,7 @@
-"""The calls over bytes: each as a request to the driver, with the answer that document 01 asks for.
+"""The C calls: each as a request to the driver, with the answer that document 01 asks for.
 
 The answers come from the models of tests/exact.py (sums, parts and registers in whole units) and tests/walk.py (the faithful walk); what is said here is how
-they lie in bytes and which lengths are refused. Sheets are read as by tests/sheets.py.
+they lie in arrays and which lengths are refused. Sheets are read as by tests/sheets.py. An array is its bytes, of whatever its elements are.
 """
 import collections
 import functools
@@ -12,21 +12,35 @@ import sheets
 import walk
 from exact import INFINITY, NAN, SIGN, Refused
 
-# the numbers by which the driver knows the calls
-CALLS = [
-    "kewohiata_faithful", "kewohiata_nearest", "kewohiata_register_add", "kewohiata_register_withdraw",
-    "harness_open", "harness_faithful", "harness_step", "harness_parts", "harness_register_round", "harness_read",
-]  # fmt: skip
+# the calls in the order of the driver's numbers, and of what their arrays are, in struct's letters: bytes, numbers of 64 bits, doubles
+CALLS = {
+    "kewohiata_faithful": "BB",
+    "kewohiata_nearest": "BB",
+    "kewohiata_register_add": "B",
+    "kewohiata_register_withdraw": "B",
+    "kewohiata_walk_open": "QdQ",
+    "kewohiata_walk_step": "Qd",
+    "kewohiata_walk_faithful": "QdQ",
+    "kewohiata_list_nearest": "QQ",
+    "kewohiata_list_parts": "QdQ",
+    "kewohiata_words_add": "Q",
+    "kewohiata_words_withdraw": "Q",
+    "kewohiata_words_round": "QQ",
+    "kewohiata_sheet_read": "BQQ",
+}
+NUMBERS = {call: number for number, call in enumerate(CALLS)}
+SIZE, SUM, REGISTER = 8, 16, 8 * exact.WORDS  # bytes of a number, of a sum in bytes, and of a register
+TEN = 10  # numbers of a state
+VALUES = {"kewohiata_walk_open": TEN, "kewohiata_walk_faithful": 2}  # numbers that a walk's call writes
 
-SIZE, SUM, STATE, REGISTER = 8, 16, 56, 8 * exact.WORDS  # bytes of a number, a sum, the harness's state and a register
-ROOM, FEW, UNHELD = 4160, 40, 0xFFFFFFFF  # what the harness can hold, and what it answers to other lengths
-BESIDE = b"\xA5" * 9  # before, between and behind the areas, where no call may write
+# Before and behind each array, where no call may write. Those of bytes begin at no multiple of 8.
+BESIDE = {"B": b"\xA5" * 9, "Q": b"\xA5" * 4 * SIZE, "d": b"\xA5" * 4 * SIZE}
 
-# What is asked (areas and number), what must come back (code and areas), and of a faithful sum where it stands (area, byte) and the exact sum.
-Request = collections.namedtuple("Request", "call areas number code after sum")
+# What is asked (arrays and number), what must come back (code and arrays), and of a faithful sum where it stands (array, place in bytes) and the exact sum.
+Request = collections.namedtuple("Request", "call arrays number code after sum")
 
 
-# ---- bytes
+# ---- numbers in bytes
 def packed(numbers):
     return struct.pack(f"<{len(numbers)}Q", *numbers)
 
@@ -40,59 +54,111 @@ def heard(number, place):
     return number + 32 * (place + 1) if number in (2, 3) else number
 
 
-def laid(areas):
-    return BESIDE + BESIDE.join(areas) + BESIDE
+# ---- what goes through the pipes
+def padded(numbers):
+    return [*numbers, 0, 0, 0][:3]
 
 
-def starts(areas):
-    """Where each area begins."""
-    return [sum(map(len, areas[:k])) + (k + 1) * len(BESIDE) for k in range(len(areas))]
+def laid(call, arrays):
+    """Each array between its guards."""
+    return [BESIDE[of] + array + BESIDE[of] for of, array in zip(CALLS[call], arrays)]
 
 
 def wire(request):
     """A request as the driver reads it."""
-    areas, rest = request.areas, [0] * (3 - len(request.areas))
-    body = laid(areas)
-    return packed([CALLS.index(request.call), request.number, *starts(areas), *rest, *map(len, areas), *rest, len(body)]) + body
+    sizes, whole = [struct.calcsize(of) for of in CALLS[request.call]], laid(request.call, request.arrays)
+    at = [len(BESIDE[of]) // size for of, size in zip(CALLS[request.call], sizes)]
+    lengths = [len(array) // size for array, size in zip(request.arrays, sizes)]
+    head = [NUMBERS[request.call], request.number, *padded(at), *padded(lengths), *padded(map(len, whole))]
+    return packed(head) + b"".join(whole)
 
 
-def answered(code, areas):
-    """An answer as the driver writes it."""
-    return packed([code]) + laid(areas)
+def answered(request):
+    """The answer that the driver has to write: the code, and each array between its guards."""
+    return [packed([request.code])] + laid(request.call, request.after)
 
 
-def where(areas, at):
-    """A place in the bytes in which the areas lie."""
-    for k, (start, area) in enumerate(zip(starts(areas), areas)):
-        if start <= at < start + len(area):
-            return f"byte {at - start} of area {k}"
-    return f"byte {at}, beside the areas,"
+def apart(request, answer):
+    """An answer's parts: the code, and each array between its guards."""
+    parts, at = [], 0
+    for length in map(len, answered(request)):
+        parts.append(answer[at : at + length])
+        at += length
+    return parts
+
+
+# ---- the comparison
+def one_nan(of, part):
+    """A part of an answer as it is compared. Of doubles each NaN is the same."""
+    return packed([NAN if p % SIGN > INFINITY else p for p in unpacked(part)]) if of == "d" else part
+
+
+def compared(request, parts):
+    return [one_nan(of, part) for of, part in zip("Q" + CALLS[request.call], parts)]
+
+
+def same(request, one, other):
+    """Whether two answers are the same, as they are compared."""
+    return compared(request, apart(request, one)) == compared(request, apart(request, other))
+
+
+def where(of, at):
+    """A place among the bytes of an array between its guards."""
+    at -= len(BESIDE[of])
+    return f"byte {at}" if of == "B" else f"place {at // SIZE}, byte {at % SIZE},"
+
+
+def sum_wrong(request, parts):
+    """What is wrong with a faithful sum."""
+    array, byte, total = request.sum
+    at = len(BESIDE[CALLS[request.call][array]]) + byte
+    (pattern,) = unpacked(parts[1 + array][at : at + SIZE])
+    if pattern % SIGN >= INFINITY or not walk.is_faithful(pattern, total):
+        return f"{pattern:016X} is not faithful to {total} units"
+    return None
 
 
 def difference(request, answer):
     """What is wrong with an answer, or None."""
-    if request.sum:
-        area, byte, total = request.sum
-        at = SIZE + starts(request.areas)[area] + byte
-        (pattern,) = unpacked(answer[at : at + SIZE])
-        if pattern % SIGN >= INFINITY or not walk.is_faithful(pattern, total):
-            return f"{pattern:016X} is not faithful to {total} units"
-    wanted = answered(request.code, request.after)
-    if answer == wanted:
-        return None
-    if answer[:SIZE] != wanted[:SIZE]:
-        return f"code {unpacked(answer[:SIZE])[0]}, asked for is {request.code}"
-    at = next(i for i, (one, other) in enumerate(zip(answer, wanted)) if one != other)
-    return f"{where(request.areas, at - SIZE)} is {answer[at]:02X}, asked for is {wanted[at]:02X}"
+    wanted = answered(request)
+    alike = answer == b"".join(wanted)
+    parts = wanted if alike else apart(request, answer)
+    found = sum_wrong(request, parts) if request.sum else None
+    if found or alike:
+        return found
+    if parts[0] != wanted[0]:
+        return f"code {unpacked(parts[0])[0]}, asked for is {request.code}"
+    for k, (of, one, other) in enumerate(zip(CALLS[request.call], compared(request, parts)[1:], compared(request, wanted)[1:])):
+        for at, (got, asked) in enumerate(zip(one, other)):
+            if got != asked:
+                return f"array {k}, {where(of, at)} is {got:02X}, asked for is {asked:02X}"
+    return None
 
 
 def shown(request):
     """The inputs, in full."""
     lines = [f"  {request.call} number {request.number:016X}"]
-    return "\n".join(lines + [f"  area {k}, {len(area)} bytes: {area.hex().upper()}" for k, area in enumerate(request.areas)])
+    return "\n".join(lines + [f"  array {k}, {len(array)} bytes: {array.hex().upper()}" for k, array in enumerate(request.arrays)])
 
 
-# ---- the exported sums
+# ---- a request by its model
+def asked(call, arrays, model, number=0):
+    """The model answers the arrays afterwards, and of a faithful sum where it stands; or it refuses, and every array stays."""
+    try:
+        after, found = model()
+    except Refused as refusal:
+        return Request(call, arrays, number, heard(*refusal.args), arrays, None)
+    return Request(call, arrays, number, 0, after, found)
+
+
+def accepted(answer):
+    """The answer of the walk's model, unless it is a refusal."""
+    if answer[0] == "refused":
+        raise Refused(*answer[1:])
+    return answer
+
+
+# ---- lists, whose sums several calls are asked for
 @functools.lru_cache(maxsize=1)
 def undivided(patterns):
     """The undivided walk of a list (a tuple): its answer, and the remainders."""
@@ -100,11 +166,18 @@ def undivided(patterns):
     return walk.faithful(patterns, area), area
 
 
+@functools.lru_cache(maxsize=1)
 def total_of(patterns):
     return sum(map(exact.units, patterns))
 
 
-def length_refusal(data, out):
+@functools.lru_cache(maxsize=1)
+def nearest_of(patterns):
+    exact.judge(patterns)
+    return exact.nearest(total_of(patterns))
+
+
+def byte_lengths(data, out):
     """ "A list above 32,752 bytes is refusal 1; other lengths that aren't a multiple of 8, and wrong lengths of the 16 .. bytes, are refusal 4." """
     if len(data) > SIZE * exact.LENGTH:
         raise Refused(1, 0)
@@ -112,129 +185,110 @@ def length_refusal(data, out):
         raise Refused(4, 0)
 
 
-def faithful_sum(data):
-    answer, _ = undivided(tuple(unpacked(data)))
-    if answer[0] == "refused":
-        raise Refused(*answer[1:])
-    return answer[1:]
-
-
 def summed(call, data, out):
-    """Either sum: the pattern, then the rounds, 0 for nearest."""
-    try:
-        length_refusal(data, out)
-        pair = faithful_sum(data) if call == "kewohiata_faithful" else (exact.nearest_sum(unpacked(data)), 0)
-    except Refused as refusal:
-        return Request(call, [data, out], 0, heard(*refusal.args), [data, out], None)
-    found = (1, 0, total_of(unpacked(data))) if call == "kewohiata_faithful" else None
-    return Request(call, [data, out], 0, 0, [data, packed(pair)], found)
+    """Either sum on bytes: the pattern, then the rounds, 0 for nearest."""
+    def model():
+        byte_lengths(data, out)
+        patterns = tuple(unpacked(data))
+        if call == "kewohiata_nearest":
+            return [data, packed([nearest_of(patterns), 0])], None
+        return [data, packed(accepted(undivided(patterns)[0])[1:])], (1, 0, total_of(patterns))
+
+    return asked(call, [data, out], model)
 
 
-# ---- registers
-def entered(call, data, pattern):
-    """An addition or a withdrawal, on a register's bytes."""
-    sign = 1 if call == "kewohiata_register_add" else -1
-    register = exact.Register(unpacked(data) if len(data) == REGISTER else [])
-    try:
-        register.enter(pattern, sign)
-    except Refused as refusal:
-        return Request(call, [data], pattern, heard(*refusal.args), [data], None)
-    return Request(call, [data], pattern, 0, [packed(register.words)], None)
+def array_lengths(data, fits):
+    """1 for too many numbers; else 4 where another array hasn't the length that it must have."""
+    if len(data) > SIZE * exact.LENGTH:
+        raise Refused(1, 0)
+    if not fits:
+        raise Refused(4, 0)
 
 
-def rounded(data, out):
-    if len(data) % SIZE or len(data) > SIZE * FEW or len(out) != SIZE:
-        return Request("harness_register_round", [data, out], 0, UNHELD, [data, out], None)
-    try:
-        code, after = 0, packed([exact.Register(unpacked(data)).round()])
-    except Refused as refusal:
-        code, after = heard(*refusal.args), out
-    return Request("harness_register_round", [data, out], 0, code, [data, after], None)
+def array_nearest(data, out):
+    def model():
+        array_lengths(data, len(out) == SIZE)
+        return [data, packed([nearest_of(tuple(unpacked(data)))])], None
+
+    return asked("kewohiata_list_nearest", [data, out], model)
+
+
+def parted(data, area, out):
+    """1, 4, 5, and then 2 or 3."""
+    def model():
+        array_lengths(data, len(out) == SIZE)
+        parts, all_told = exact.sum_in_parts(unpacked(data), len(area) // SIZE)
+        return [data, packed(parts), packed([all_told])], None
+
+    return asked("kewohiata_list_parts", [data, area, out], model)
 
 
 # ---- the walk
-def one_nan(numbers):
-    """The harness's doubles: each NaN comes back as one."""
-    if walk.largest(numbers) <= INFINITY:
-        return list(numbers)
-    return [NAN if p % SIGN > INFINITY else p for p in numbers]
+def ten(answer):
+    """A walk in ten numbers: 1, the state's six and three zeros; or 2, the sum's pattern, the rounds and zeros."""
+    return packed(([1, *answer[1]] if answer[0] == "more" else [2, *answer[1:]]) + [0] * TEN)[: SIZE * TEN]
 
 
-def told(answer, state):
-    """A state's bytes after an answer: a refusal leaves them."""
-    if answer[0] == "more":
-        return packed([1, *answer[1]])
-    return packed([2, *answer[1:], 0, 0, 0, 0]) if answer[0] == "done" else state
+def started(call, data, work, values):
+    """An opening, or the undivided call."""
+    def model():
+        array_lengths(data, len(work) == len(data) and len(values) == SIZE * VALUES[call])
+        patterns = tuple(unpacked(data))
+        if call == "kewohiata_walk_open":
+            area = unpacked(work)
+            answer = accepted(walk.opening(patterns, area))
+            return [data, packed(area), ten(answer)], (2, SIZE, total_of(patterns)) if answer[0] == "done" else None
+        answer, area = undivided(patterns)
+        return [data, packed(area), packed(accepted(answer)[1:])], (2, 0, total_of(patterns))
+
+    return asked(call, [data, work, values], model)
 
 
-def code_of(answer):
-    return heard(*answer[1:]) if answer[0] == "refused" else 0
+def step_of(numbers, area, block, total=None):
+    """A step on a state's numbers, however many; the model's answer, and the area afterwards. The exact sum is given where the step is one of a walk."""
+    arrays, after = [packed(numbers), packed(area)], list(area)
+    answer = walk.step(walk.State(*numbers[1:7]), after, block) if len(numbers) == TEN else ("refused", 4, 0)
+
+    def model():
+        return [ten(accepted(answer)), packed(after)], (0, SIZE, total) if answer[0] == "done" and total is not None else None
+
+    return asked("kewohiata_walk_step", arrays, model, block), answer, after
 
 
-def sum_of(answer, area, total):
-    return (area, SIZE, total) if answer[0] == "done" else None
+def stepped(s, area, block, unread=(1, 0, 0, 0), total=None):
+    """The same on a state, with its first number and its last three, which are of no effect."""
+    return step_of([unread[0], *s, *unread[1:]], area, block, total)
 
 
-def walked(call, patterns, area):
-    """The answer of an opening or an undivided call, which change the area."""
-    if call == "harness_open":
-        return walk.opening(patterns, area)
-    if len(area) != len(patterns):
-        return walk.faithful(patterns, area)
-    answer, left = undivided(tuple(patterns))
-    area[:] = area if answer[0] == "refused" else left
-    return answer
+# ---- registers
+def entered(entry, data, pattern):
+    """An addition or a withdrawal by both of its calls, on bytes and on words; words are whole."""
+    register = exact.Register(unpacked(data) if len(data) == REGISTER else [])
+
+    def model():
+        register.enter(pattern, 1 if entry[0] == "kewohiata_register_add" else -1)
+        return [packed(register.words)], None
+
+    request = asked(entry[0], [data], model, pattern)
+    return [request] if len(data) % SIZE else [request, request._replace(call=entry[1])]
 
 
-def started(call, data, work, state):
-    areas = [data, work, state]
-    if any(len(area) % SIZE or len(area) > SIZE * ROOM for area in areas) or len(state) != STATE:
-        return Request(call, areas, 0, UNHELD, areas, None)
-    patterns, area = unpacked(data), one_nan(unpacked(work))
-    answer = walked(call, patterns, area)
-    found = sum_of(answer, 2, total_of(patterns)) if answer[0] == "done" else None
-    return Request(call, areas, 0, code_of(answer), [data, packed(area), told(answer, state)], found)
+def rounded(data, out):
+    def model():
+        if len(out) != SIZE:
+            raise Refused(4, 0)
+        return [data, packed([exact.Register(unpacked(data)).round()])], None
 
-
-def stepped(s, area, block, kind=1, total=None):
-    """A step, its answer, and the area afterwards. The state's kind is of no effect. The exact sum is given where the step is one of a walk."""
-    areas = [packed([kind, *s]), packed(area)]
-    if s.rounds >= 2**32:
-        return Request("harness_step", areas, block, UNHELD, areas, None), None, area
-    after = one_nan(area)
-    answer = walk.step(s, after, block)
-    found = sum_of(answer, 0, total) if total is not None else None
-    return Request("harness_step", areas, block, code_of(answer), [told(answer, areas[0]), packed(after)], found), answer, after
-
-
-# ---- parts
-def parted(data, area, flag):
-    areas = [data, area, flag]
-    if len(data) % SIZE or len(area) % SIZE or len(data) > SIZE * ROOM or len(area) > SIZE * FEW or len(flag) != SIZE:
-        return Request("harness_parts", areas, 0, UNHELD, areas, None)
-    try:
-        parts, all_told = exact.sum_in_parts(unpacked(data), len(area) // SIZE)
-    except Refused as refusal:
-        return Request("harness_parts", areas, 0, heard(*refusal.args), [data, packed(one_nan(unpacked(area))), flag], None)
-    return Request("harness_parts", areas, 0, 0, [data, packed(parts), packed([all_told])], None)
+    return asked("kewohiata_words_round", [data, out], model)
 
 
 # ---- sheets
-def read_sheet(sheet, area):
-    """The count, and the area afterwards. "On a sheet: 11 for fewer than 5 bytes, 12, 1, 11, 13, 4": the area's length comes last."""
-    patterns = sheets.read(sheet)
-    count = len(patterns)
-    if len(area) < count:
-        raise Refused(4, 0)
-    return count, patterns + area[count:]
+def read(sheet, area, out):
+    """ "On a sheet: 11 for fewer than 5 bytes, 12, 1, 11, 13, 4": the other arrays' lengths come last. """
+    def model():
+        patterns = packed(sheets.read(sheet))
+        if len(area) < len(patterns) or len(out) != SIZE:
+            raise Refused(4, 0)
+        return [sheet, patterns + area[len(patterns) :], packed([len(patterns) // SIZE])], None
 
-
-def read(sheet, area, count):
-    areas = [sheet, area, count]
-    if len(area) % SIZE or len(area) > SIZE * ROOM or len(count) != SIZE:
-        return Request("harness_read", areas, 0, UNHELD, areas, None)
-    try:
-        n, patterns = read_sheet(sheet, unpacked(area))
-    except Refused as refusal:
-        return Request("harness_read", areas, 0, heard(*refusal.args), areas, None)
-    return Request("harness_read", areas, 0, 0, [sheet, packed(patterns), packed([n])], None)
+    return asked("kewohiata_sheet_read", [sheet, area, out], model)

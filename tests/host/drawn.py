@@ -2,10 +2,10 @@
 import exact
 import samples
 import walk
-from calls import SIZE, entered, read, rounded, stepped, undivided
-from exact import LENGTH, ONES, SIGN
+from calls import SIZE, VALUES, array_nearest, entered, packed, parted, read, rounded, started, stepped, undivided
+from exact import INFINITY, LENGTH, ONES, SIGN
 from samples import KINDS
-from sequences import ADD, ENTRIES, ORDERS, is_allowed, list_requests, register_of, run_requests, turn
+from sequences import ADD, ENTRIES, ORDERS, is_allowed, list_requests, register_of, run_requests, turn, unread
 from sheets import sheet
 
 LISTS = 250  # in a batch
@@ -70,6 +70,19 @@ def lists(chance):
                 yield from run_requests(chance, patterns, order)
 
 
+# ---- lengths that don't fit
+def misfits(chance):
+    """Short lists, and such of one number too many, with arrays of any length beside them."""
+    for _ in range(15):
+        n = chance.choice([0, 1, 2, 3, chance.randint(4, 70)] * 3 + [LENGTH + 1])
+        data = packed(chance.choice(SHAPES)(chance, n))
+        for call, values in VALUES.items():
+            m, k = n + chance.choice([0, 0, 1, -1]), values + chance.choice([0, 0, 1, -1])
+            yield started(call, data, chance.randbytes(SIZE * max(m, 0)), chance.randbytes(SIZE * k))
+        yield array_nearest(data, chance.randbytes(SIZE * chance.randint(0, 2)))
+        yield parted(data, chance.randbytes(SIZE * chance.randint(0, 9)), chance.randbytes(SIZE * chance.randint(0, 2)))
+
+
 # ---- states that no call gave out
 def block_of(chance, s):
     if chance.random() < 0.8:
@@ -81,7 +94,7 @@ def foreign_requests(chance):
     """Several steps of a sound state."""
     s, area = walk.foreign(chance)
     for _ in range(chance.choice([1, 3, 8])):
-        request, answer, area = stepped(s, area, block_of(chance, s), turn(chance))
+        request, answer, area = stepped(s, area, block_of(chance, s), unread(chance))
         yield request
         if answer[0] == "done":
             break
@@ -93,7 +106,9 @@ def spoiled(chance):
     first, area = walk.foreign(chance)
     s, n = first, first.n
     numbers = [samples.number(chance.randrange(KINDS), turn(chance)), walk.CARRIED + 1, SIGN | walk.CARRIED + 1, first.sigma + 1, first.sigma - 1]
-    few = {"n": [0, n - 1, n + 1, LENGTH + 1, ONES], "pending": [0, first.pending << 1, ONES], "rounds": [51, 52, 2**32 - 1, 2**32, ONES]}
+    numbers += [INFINITY, turn(chance) | INFINITY | 1]
+    few = {"n": [0, n - 1, n + 1, n + 2**32, LENGTH + 1, ONES], "pending": [0, first.pending << 1, ONES]}
+    few["rounds"] = [51, 52, 2**32 - 1, 2**32, first.rounds + 2**32, ONES]
     for what in chance.sample(["sigma", "t", "tau", "n", "pending", "rounds", "area", "length"], chance.randint(1, 2)):
         if what == "area":
             area[chance.randrange(len(area))] = chance.choice(numbers)
@@ -109,7 +124,7 @@ def states(chance):
         yield from foreign_requests(chance)
     for _ in range(30):
         s, area = spoiled(chance)
-        yield stepped(s, area, chance.choice([0, 1, 63, 64, ONES, block_of(chance, s)]), turn(chance))[0]
+        yield stepped(s, area, chance.choice([0, 1, 63, 64, ONES, block_of(chance, s)]), unread(chance))[0]
 
 
 # ---- registers
@@ -132,19 +147,19 @@ def register_run(chance):
     data = first = register_of(whole_of(chance))
     held = []
     for _ in range(chance.randint(1, 8)):
-        call, pattern = chance.choice(ENTRIES), samples.number(chance.randrange(KINDS), turn(chance))
-        request = entered(call, data, pattern)
-        yield request
-        held += [(call, pattern)] if request.code == 0 else []
-        data = request.after[0]
+        entry, pattern = chance.choice(ENTRIES), samples.number(chance.randrange(KINDS), turn(chance))
+        requests = entered(entry, data, pattern)
+        yield from requests
+        held += [(entry, pattern)] if requests[0].code == 0 else []
+        data = requests[0].after[0]
     yield rounded(data, chance.randbytes(SIZE))
     chance.shuffle(held)
-    for call, pattern in held:
-        request = entered(ENTRIES[call == ADD], data, pattern)
-        yield request
-        if request.code:
+    for entry, pattern in held:
+        requests = entered(ENTRIES[entry == ADD], data, pattern)
+        yield from requests
+        if requests[0].code:
             return
-        data = request.after[0]
+        data = requests[0].after[0]
     assert data == first, f"the register {first.hex()} doesn't end where it began: {held}"
 
 
@@ -163,7 +178,7 @@ def sheets(chance):
         count = chance.choice([n] * 6 + [n + 1, max(n - 1, 0), LENGTH, LENGTH + 1, 2**31, 2**32 - 1])
         data = sheet(patterns, chance.choice([1] * 9 + [0, 2, 255]), count)
         data = chance.choice([data] * 6 + [data[:-1], data + b"\1", data[: chance.randint(0, 6)]])
-        yield read(data, chance.randbytes(SIZE * max(n + chance.choice([0, 0, 1, 7, -1]), 0)), chance.randbytes(SIZE))
+        yield read(data, chance.randbytes(SIZE * max(n + chance.choice([0, 0, 1, 7, -1]), 0)), chance.randbytes(SIZE * chance.choice([1] * 9 + [0, 2])))
 
 
-GROUPS = [lists, states, registers, sheets]
+GROUPS = [lists, misfits, states, registers, sheets]

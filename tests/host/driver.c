@@ -1,47 +1,45 @@
 /* Takes calls on standard input and writes their answers, for tests/host.py.
 
-   A request is nine 64-bit numbers (which call, its number where it has one, where each of up to three areas begins and how long it is, and how many bytes
-   follow) and then those bytes, in which the areas lie. An answer is the call's code in 64 bits and all of the bytes as they are afterwards: areas that a call
-   only reads, and what lies between the areas, too. There are no headers of a C library here, and nothing but read and write is used of it. */
+   A request is eleven 64-bit numbers (which call, its number where it has one, and of up to three arrays at which element it begins, how many elements are
+   lent, and how many bytes follow for it) and then those bytes: each array with guards before and behind it. An answer is the call's code in 64 bits and all
+   of the bytes as they are afterwards: arrays that a call only reads, and the guards, too. There are no headers of a C library here, and nothing but read and
+   write is used of it. */
 #include "kewohiata.h"
 
 long read(int file, void *bytes, size_t count);
 long write(int file, const void *bytes, size_t count);
 
-uint32_t harness_open(const uint8_t *, size_t, uint8_t *, size_t, uint8_t *, size_t);
-uint32_t harness_faithful(const uint8_t *, size_t, uint8_t *, size_t, uint8_t *, size_t);
-uint32_t harness_step(uint8_t *, size_t, uint8_t *, size_t, uint64_t);
-uint32_t harness_parts(const uint8_t *, size_t, uint8_t *, size_t, uint8_t *, size_t);
-uint32_t harness_register_round(const uint8_t *, size_t, uint8_t *, size_t);
-uint32_t harness_read(const uint8_t *, size_t, uint8_t *, size_t, uint8_t *, size_t);
-
-enum { LIMIT = 1 << 20 };
+enum { ARRAYS = 3, LIMIT = 1 << 18 };
 
 struct request {
-    uint64_t call, number, at[3], length[3], size;
+    uint64_t call, number, at[ARRAYS], length[ARRAYS], size[ARRAYS];
 };
 
-/* the code, and the bytes behind it */
-static struct {
-    uint64_t code;
+/* An array is lent as what the call takes. */
+static union {
     uint8_t bytes[LIMIT];
-} answer;
+    uint64_t numbers[LIMIT / sizeof(uint64_t)];
+    double doubles[LIMIT / sizeof(double)];
+} arrays[ARRAYS];
+
+#define LENT(k, type) arrays[k].type + r->at[k], r->length[k]
 
 static uint64_t call(const struct request *r)
 {
-    uint8_t *a = answer.bytes + r->at[0], *b = answer.bytes + r->at[1], *c = answer.bytes + r->at[2];
-    size_t i = r->length[0], j = r->length[1], k = r->length[2];
     switch (r->call) {
-    case 0: return kewohiata_faithful(a, i, b, j);
-    case 1: return kewohiata_nearest(a, i, b, j);
-    case 2: return kewohiata_register_add(a, i, r->number);
-    case 3: return kewohiata_register_withdraw(a, i, r->number);
-    case 4: return harness_open(a, i, b, j, c, k);
-    case 5: return harness_faithful(a, i, b, j, c, k);
-    case 6: return harness_step(a, i, b, j, r->number);
-    case 7: return harness_parts(a, i, b, j, c, k);
-    case 8: return harness_register_round(a, i, b, j);
-    case 9: return harness_read(a, i, b, j, c, k);
+    case 0: return kewohiata_faithful(LENT(0, bytes), LENT(1, bytes));
+    case 1: return kewohiata_nearest(LENT(0, bytes), LENT(1, bytes));
+    case 2: return kewohiata_register_add(LENT(0, bytes), r->number);
+    case 3: return kewohiata_register_withdraw(LENT(0, bytes), r->number);
+    case 4: return kewohiata_walk_open(LENT(0, numbers), LENT(1, doubles), LENT(2, numbers));
+    case 5: return kewohiata_walk_step(LENT(0, numbers), LENT(1, doubles), r->number);
+    case 6: return kewohiata_walk_faithful(LENT(0, numbers), LENT(1, doubles), LENT(2, numbers));
+    case 7: return kewohiata_list_nearest(LENT(0, numbers), LENT(1, numbers));
+    case 8: return kewohiata_list_parts(LENT(0, numbers), LENT(1, doubles), LENT(2, numbers));
+    case 9: return kewohiata_words_add(LENT(0, numbers), r->number);
+    case 10: return kewohiata_words_withdraw(LENT(0, numbers), r->number);
+    case 11: return kewohiata_words_round(LENT(0, numbers), LENT(1, numbers));
+    case 12: return kewohiata_sheet_read(LENT(0, bytes), LENT(1, numbers), LENT(2, numbers));
     default: return UINT64_MAX;
     }
 }
@@ -73,11 +71,16 @@ int main(void)
 {
     struct request r;
     while (take(&r, sizeof r)) {
-        if (r.size > LIMIT || !take(answer.bytes, r.size))
+        uint64_t code;
+        for (int k = 0; k < ARRAYS; k++)
+            if (r.size[k] > LIMIT || !take(arrays[k].bytes, r.size[k]))
+                return 1;
+        code = call(&r);
+        if (!give(&code, sizeof code))
             return 1;
-        answer.code = call(&r);
-        if (!give(&answer, sizeof answer.code + r.size))
-            return 1;
+        for (int k = 0; k < ARRAYS; k++)
+            if (!give(arrays[k].bytes, r.size[k]))
+                return 1;
     }
     return 0;
 }

@@ -3,10 +3,10 @@ import itertools
 
 import samples
 import walk
-from calls import FEW, REGISTER, ROOM, SIZE, STATE, SUM, entered, packed, parted, read, rounded, started, stepped, summed
+from calls import REGISTER, SIZE, SUM, TEN, VALUES, array_nearest, entered, packed, parted, read, rounded, started, step_of, stepped, summed
 from drawn import ENDS, LIMIT, TOP
 from exact import INFINITY, LENGTH, MAGNITUDE, NAN, ONE, ONES, PARTS, SIGN, UNIT, WORDS, nearest
-from sequences import ADD, ENTRIES, ORDERS, WITHDRAW, both_around, entries, is_allowed, list_requests, register_of, run_requests, several, turn
+from sequences import ADD, ENTRIES, ORDERS, WITHDRAW, both_around, entries, is_allowed, list_requests, register_of, run_requests, several, turn, unread
 from sheets import sheet
 
 LARGE = MAGNITUDE + 1
@@ -45,47 +45,62 @@ def sum_lengths(chance):
 # how many numbers a list has, and how many places the work area
 WALK_LENGTHS = [
     (0, 0), (0, 1), (1, 0), (2, 2), (2, 1), (2, 3), (3, 3), (65, 64), (65, 66), (LENGTH, LENGTH), (LENGTH, LENGTH + 1), (LENGTH, 0),
-    (LENGTH + 1, LENGTH + 1), (LENGTH + 1, LENGTH), (LENGTH + 1, 2), (LENGTH + 1, 0), (LENGTH + 2, LENGTH + 2), (ROOM, ROOM), (ROOM + 1, 0), (0, ROOM + 1),
+    (LENGTH + 1, LENGTH + 1), (LENGTH + 1, LENGTH), (LENGTH + 1, 2), (LENGTH + 1, 0), (LENGTH + 2, LENGTH + 2), (5000, 5000), (5000, 0), (0, 5000),
 ]  # fmt: skip
 
 
 def walk_lengths(chance):
-    """1, else 4, else 2 or 3."""
-    for call in ("harness_open", "harness_faithful"):
+    """1, else 4 for the work area or the values, else 2 or 3."""
+    for call, values in VALUES.items():
         for faults in FAULTS:
             for n, m in WALK_LENGTHS:
-                yield started(call, packed(short(faults, n)), chance.randbytes(SIZE * m), chance.randbytes(STATE))
-        for sizes in ((9, 8, STATE), (8, 9, STATE), (8, 8, STATE - 1)):
-            yield started(call, *map(bytes, sizes))
+                for k in (values, 0, values - 1, values + 1) if n < 4 or n > LENGTH else (values,):
+                    yield started(call, packed(short(faults, n)), chance.randbytes(SIZE * m), chance.randbytes(SIZE * k))
+
+
+def nearest_lengths(chance):
+    """1, else 4 for the values, else 2 or 3."""
+    for faults in FAULTS:
+        for n in (0, 1, 2, 3, 64, LENGTH, LENGTH + 1, LENGTH + 2, 5000):
+            for k in (1, 0, 2, 40):
+                yield array_nearest(packed(short(faults, n)), chance.randbytes(SIZE * k))
 
 
 def parts_lengths(chance):
-    """1, else 5, else 2 or 3."""
+    """1, else 4 for the values, else 5, else 2 or 3."""
     for faults in FAULTS:
-        for n in (0, 1, 2, 3, 64, LENGTH, LENGTH + 1, LENGTH + 2, ROOM + 1):
-            for count in (0, 1, 2, 8, 9, FEW, FEW + 1):
-                yield parted(packed(short(faults, n)), chance.randbytes(SIZE * count), chance.randbytes(SIZE))
+        for n in (0, 1, 2, 3, 64, LENGTH, LENGTH + 1, LENGTH + 2, 5000):
+            for count in (0, 1, 2, PARTS, PARTS + 1, 40, 5000):
+                for k in (1, 0, 2) if n < 4 or n > LENGTH else (1,):
+                    yield parted(packed(short(faults, n)), chance.randbytes(SIZE * count), chance.randbytes(SIZE * k))
 
 
 def register_lengths(chance):
     """4, else 2 or 3, else 9; of rounding 4, else 10. The largest register and the smallest leave no room."""
     turned = samples.turns(WORDS, samples.seed(5, 0))
     for data in (register_of(TOP - 1), register_of(-TOP), register_of(0), packed(turned)):
-        for size in (0, 1, 8, REGISTER - 8, REGISTER - 1, REGISTER, REGISTER + 1, REGISTER + 8, SIZE * FEW + 8):
-            for call in ENTRIES:
+        for size in (0, 1, 8, REGISTER - 8, REGISTER - 1, REGISTER, REGISTER + 1, REGISTER + 8, REGISTER + 64):
+            lent = (data + bytes(64))[:size]
+            for entry in ENTRIES:
                 for pattern in (ONE, UNIT, 0, SIGN, SIGN | UNIT, MAGNITUDE, LARGE, SIGN | LARGE, INFINITY, NAN, ONES):
-                    yield entered(call, (data + bytes(SIZE * FEW))[:size], pattern)
-            yield rounded((data + bytes(SIZE * FEW))[:size], chance.randbytes(SIZE))
+                    yield from entered(entry, lent, pattern)
+            for k in (1, 0, 2) if size % SIZE == 0 else ():
+                yield rounded(lent, chance.randbytes(SIZE * k))
+
+
+# how many places the area has that a sheet is read to, and how many the values
+READ_LENGTHS = [(0, 1), (1, 1), (2, 1), (LENGTH - 1, 1), (LENGTH, 1), (LENGTH + 1, 1), (0, 0), (2, 0), (2, 2), (LENGTH, 0), (LENGTH, 2)]
 
 
 def sheet_lengths(chance):
-    """11, 12, 1, 11, 13, 4, each where the later ones hold too."""
+    """11, 12, 1, 11, 13, and 4 for the area or the values, each where the later ones hold too."""
     for version in (1, 2):
         for count in (0, 1, 2, LENGTH, LENGTH + 1, 2**32 - 1):
             for size in (0, 1, 4, 5, 6, 12, 13, 14, 20, 21, 22, 32756, 32757, 32758, 40000):
-                for room in (0, 1, 2, LENGTH - 1, LENGTH, LENGTH + 1):
+                data = (sheet([turn(chance)] * 4, version, count) + bytes(40000))[:size]
+                for room, k in READ_LENGTHS:
                     if size < 100 or room >= LENGTH - 1 or count < LENGTH:
-                        yield read((sheet([turn(chance)] * 4, version, count) + bytes(40000))[:size], chance.randbytes(SIZE * room), chance.randbytes(SIZE))
+                        yield read(data, chance.randbytes(SIZE * room), chance.randbytes(SIZE * k))
 
 
 # ---- registers
@@ -162,30 +177,66 @@ def state_witnesses(chance):
 
 BASE = walk.State(SIGMA, SIGN, SIGN, 65, 2, 0)
 BASE_AREA = [SIGN] * 64 + [0x4000000000000000]
+NANS = [INFINITY + 1, SIGN | INFINITY + 1, NAN, SIGN | NAN, NAN - 1, SIGN - 1, ONES]
 # what is changed and to which number, and the block of the step
 CHANGES = [
     ("", 0, 0), ("", 0, 2), ("", 0, 63), ("", 0, 64), ("", 0, 1 << 63), ("pending", 1, 1), ("pending", 0, 1), ("pending", 4, 9), ("pending", ONES, 1),
-    ("n", 64, 9), ("n", 66, 9), ("n", 0, 9), ("n", ONES, 9), ("rounds", 51, 9), ("sigma", 0x406 << 52, 9), ("sigma", SIGMA + 1, 1),
-    ("sigma", SIGN | SIGMA, 1), ("sigma", 0, 1), ("sigma", INFINITY + 1, 1), ("sigma", INFINITY, 1), ("sigma", 0x7EF << 52, 1), ("t", walk.CARRIED + 1, 1),
-    ("t", SIGN | INFINITY + 1, 1), ("t", SIGN | INFINITY, 1), ("tau", SIGN | walk.CARRIED + 1, 1), ("tau", INFINITY + 1, 1), ("tau", INFINITY, 1),
-    (0, INFINITY + 1, 1), (0, SIGN | INFINITY, 1), (64, INFINITY + 1, 1), (63, 0x4000000000000001, 1), (64, 0xC000000000000001, 1), ("", 0, 1),
+    ("n", 64, 9), ("n", 66, 9), ("n", 0, 9), ("n", ONES, 9), ("n", 2**32 + 65, 1), ("rounds", 51, 9), ("sigma", 0x406 << 52, 9), ("sigma", SIGMA + 1, 1),
+    ("sigma", SIGN | SIGMA, 1), ("sigma", 0, 1), ("sigma", INFINITY, 1), ("sigma", 0x7EF << 52, 1), ("t", walk.CARRIED + 1, 1), ("t", SIGN | INFINITY, 1),
+    ("tau", SIGN | walk.CARRIED + 1, 1), ("tau", INFINITY, 1), (0, SIGN | INFINITY, 1), (0, INFINITY, 1), (63, 0x4000000000000001, 1),
+    (64, 0xC000000000000001, 1), ("", 0, 1), *((what, nan, 1) for what in ("sigma", "t", "tau", 0, 64) for nan in NANS),
 ]  # fmt: skip
+
+
+def changed(what, number):
+    """A sound state and its area, with one thing changed."""
+    s, area = BASE, list(BASE_AREA)
+    if isinstance(what, int):
+        area[what] = number
+    elif what:
+        s = s._replace(**{what: number})
+    return s, area
 
 
 def state_refusals(chance):
     """Each thing that makes a state unsound, with blocks that would be refused by 6 or 7; and lengths that no list has."""
     for what, number, block in CHANGES:
-        s, area = BASE, list(BASE_AREA)
-        if isinstance(what, int):
-            area[what] = number
-        elif what:
-            s = s._replace(**{what: number})
         for b in (block, 0, 2, ONES):
-            yield stepped(s, area, b)[0]
+            yield stepped(*changed(what, number), b, unread(chance))[0]
     for n in (0, LENGTH, LENGTH + 1):
         for m in (0, 1, LENGTH, LENGTH + 1):
             for pending in (1, 2):
                 yield stepped(BASE._replace(n=n, pending=pending), [SIGN] * m, pending - 1)[0]
+
+
+def many_rounds(chance):
+    """Rounds of more than 32 bits, of which the lowest would be allowed: 8, but 4 where the work area doesn't fit, and before 6 and 7."""
+    for rounds in (2**32 - 1, 2**32, 2**32 + 3, 2**33, 2**63, ONES):
+        for n in (64, 65, 66, 0, ONES):
+            for block in (1, 0, 9):
+                yield stepped(BASE._replace(rounds=rounds, n=n), BASE_AREA, block, unread(chance))[0]
+        yield stepped(BASE._replace(rounds=rounds, n=0), [], 0)[0]
+
+
+def state_lengths(chance):
+    """4 for a state of more or fewer than ten numbers, whatever it would be; and the ten of which a step reads but six."""
+    for what, number, block in [("", 0, 1), ("", 0, 0), ("", 0, 9), ("pending", 0, 1), ("rounds", 51, 1), ("rounds", ONES, 1), ("n", 66, 1)]:
+        s, area = changed(what, number)
+        for k in (0, 1, 6, 7, 8, 9, TEN, TEN + 1, 20):
+            yield step_of([1, *s, *[0] * 13][:k], area, block)[0]
+            yield step_of([*s, *[0] * 14][:k], area, block)[0]
+    for first in (0, 1, 2, 3, ONES):
+        for last in ((0, 0, 0), (1, 0, 0), (0, ONES, 0), (0, 0, SIGN), (ONES, ONES, ONES)):
+            yield stepped(BASE, BASE_AREA, 1, (first, *last))[0]
+
+
+def ended_states(chance):
+    """A finished walk's ten numbers, which are read as a state's: n is 0, the pending set empty. And with a sound state's numbers behind the 2."""
+    for total, rounds in ((0, 0), (ONE, 1), (SIGMA, 0), (1, 51), (SIGN | ONE, 2)):
+        for m in (0, 1, 2, 65, LENGTH):
+            for block in (0, 1, ONES):
+                yield step_of([2, total, rounds, *[0] * 7], [SIGN] * m, block)[0]
+    yield from (stepped(BASE, BASE_AREA, block, (2, 0, 0, 0))[0] for block in (1, 0, 9))
 
 
 # lengths, each with its M and the set of all its blocks
@@ -226,6 +277,24 @@ def sound_states(chance):
         yield from several(*sound_state(k), stray, samples.endless(samples.seed(8, k)))
 
 
+# ---- what arrays hold before a call
+HELD = [0, SIGN, 1, SIGN | 1, ONE, INFINITY, SIGN | INFINITY, *NANS]
+
+
+def held_before(chance):
+    """Zeros of both signs, NaNs and infinities in work areas and parts: an accepted call writes over them, a refused one leaves them."""
+    for held in HELD:
+        for patterns in ([ONE, SIGN | ONE, UNIT], [SIGN, SIGN], [SIGN, 0, SIGN], [ONE, INFINITY], [LARGE], [ONE] * (LENGTH + 1)):
+            data, n = packed(patterns), len(patterns)
+            for call, values in VALUES.items():
+                for m in (n, n - 1, n + 1):
+                    yield started(call, data, packed([held] * m), packed([held] * values))
+            for count in (1, 2, PARTS, 0, PARTS + 1):
+                yield parted(data, packed([held] * count), packed([held]))
+        for m in (64, 65, 66):
+            yield stepped(BASE, [held] * m, 1)[0]
+
+
 # ---- lists
 def list_witnesses(chance):
     """Every call on each list of tests/samples.py, with parts from none to one more than allowed; and every length at the ends of blocks."""
@@ -249,6 +318,6 @@ def walk_witnesses(chance):
 
 
 GROUPS = [
-    walk_witnesses, list_witnesses, sum_lengths, walk_lengths, parts_lengths, register_lengths, sheet_lengths, there_and_back, register_examples,
-    register_rounds, state_witnesses, state_refusals, sound_states,
+    walk_witnesses, list_witnesses, sum_lengths, walk_lengths, nearest_lengths, parts_lengths, register_lengths, sheet_lengths, there_and_back,
+    register_examples, register_rounds, state_witnesses, state_refusals, many_rounds, state_lengths, ended_states, sound_states, held_before,
 ]  # fmt: skip

@@ -3,39 +3,46 @@ import itertools
 
 import exact
 import walk
-from calls import SIZE, STATE, SUM, entered, packed, parted, rounded, started, stepped, summed, undivided, unpacked
+from calls import SIZE, SUM, VALUES, array_nearest, entered, packed, parted, rounded, started, step_of, stepped, summed, ten, total_of, undivided, unpacked
 from exact import ONES, UNIT
 
 ORDERS = [walk.rising, walk.falling, walk.seeded]
-ADD, WITHDRAW = ENTRIES = ["kewohiata_register_add", "kewohiata_register_withdraw"]
+ADD, WITHDRAW = ENTRIES = [(f"kewohiata_register_{entry}", f"kewohiata_words_{entry}") for entry in ("add", "withdraw")]
 
 
 def turn(chance):
     return chance.getrandbits(64)
 
 
+def unread(chance):
+    """A state's first number and its last three: a step reads none of them."""
+    return [turn(chance) for _ in range(4)]
+
+
 # ---- lists
 def list_requests(chance, patterns):
-    """Every call on a list. The areas hold what they happen to hold."""
+    """Every call on a list. The arrays hold what they happen to hold."""
     data, n = packed(patterns), len(patterns)
     yield summed("kewohiata_faithful", data, chance.randbytes(SUM))
     yield summed("kewohiata_nearest", data, chance.randbytes(SUM))
-    for call in ("harness_open", "harness_faithful"):
-        yield started(call, data, chance.randbytes(SIZE * n), chance.randbytes(STATE))
+    for call, values in VALUES.items():
+        yield started(call, data, chance.randbytes(SIZE * n), chance.randbytes(SIZE * values))
+    yield array_nearest(data, chance.randbytes(SIZE))
     yield parted(data, chance.randbytes(SIZE * chance.randint(1, 8)), chance.randbytes(SIZE))
 
 
 def run_requests(chance, patterns, order):
-    """A walk block by block. It must end as the undivided one, remainders too, and with as many steps as its rounds have blocks."""
-    area, total, steps = [0] * len(patterns), sum(map(exact.units, patterns)), 0
+    """A walk block by block. It must end as the undivided one, remainders too, and with as many steps as its rounds have blocks; a further step is refused."""
+    area, total, steps = [0] * len(patterns), total_of(tuple(patterns)), 0
     answer = walk.opening(patterns, area)
     while answer[0] == "more":
         s = answer[1]
-        request, answer, area = stepped(s, area, order(s.pending, turn(chance)), turn(chance), total)
+        request, answer, area = stepped(s, area, order(s.pending, turn(chance)), unread(chance), total)
         yield request
         steps += 1
     assert (answer, area) == undivided(tuple(patterns)), f"orders differ: {order.__name__} {patterns}"
     assert steps == answer[2] * walk.blocks_of(len(patterns)), f"{steps} steps: {order.__name__} {patterns}"
+    yield step_of(unpacked(ten(answer)), area, 0)[0]
 
 
 def is_allowed(patterns):
@@ -61,11 +68,11 @@ def register_of(whole):
 
 
 def entries(data, pairs):
-    """Additions and withdrawals, and the bytes that they leave."""
-    for call, pattern in pairs:
-        request = entered(call, data, pattern)
-        yield request
-        data = request.after[0]
+    """Additions and withdrawals, and the register that they leave."""
+    for entry, pattern in pairs:
+        requests = entered(entry, data, pattern)
+        yield from requests
+        data = requests[0].after[0]
     return data
 
 

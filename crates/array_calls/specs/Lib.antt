@@ -1,0 +1,5 @@
+-- The C calls on the caller's own arrays.
+pub mod Arrays
+pub mod Inner
+pub mod ArraysLaws
+pub mod RefusalLaws
