@@ -1,6 +1,5 @@
 -- `array_calls::walks::step` meets its contract: rounds above 32 bits are no sound state's, and what else is refused is one of the table's. Assumes nothing.
 use mathlib.Core.Path.{sym, ap, subst, _∙_}
-use native.Mathlib.Omega.{arith}
 use borrow.Author.Needs.{needs}
 use Rattle.kinds.specs.Limits.{doubles}
 use Rattle.kinds.specs.declared.State.{State}
