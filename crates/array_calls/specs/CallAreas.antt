@@ -1,5 +1,5 @@
--- Any two results that meet a C call's contract on arrays are equal, the code and every array; and a call that returns another code than 0 leaves every array as
--- it was. Assumes nothing.
+-- Any two results that meet a C call's contract on arrays are equal, the code and every array; and a call that returns another code than 0 leaves every array
+-- as it was. Assumes nothing.
 use mathlib.Core.Path.{_≡_, ap}
 use mathlib.Core.List.{List}
 use Prim.Native.Nat.{ℕ}
@@ -85,8 +85,8 @@ module _ (ps : List ℕ) (work : List Float) (values : List ℕ) where
 
 pub step-left : (values : List ℕ) (work : List Float) (b : ℕ) → (stepArrays values work b .code ≡ 0 → ⊥) → Left (stepArrays values work b) work values
 unfolding stepArrays
-step-left values work b = call-left stepHeard steps.Refused step-is (stepped doubles (stateIn values) b work) work (refusals.step-leaves (stateIn values) b work)
-    walkValues values walk-left (eqb (length values) walkNumbers) 4
+step-left values work b = call-left stepHeard steps.Refused step-is (stepped doubles (stateIn values) b work) work
+    (refusals.step-leaves (stateIn values) b work) walkValues values walk-left (eqb (length values) walkNumbers) 4
 
 pub nearest-left : (ps values : List ℕ) → (nearestArrays ps values .answer ≡ 0 → ⊥) → nearestArrays ps values .area ≡ values
 unfolding nearestArrays
