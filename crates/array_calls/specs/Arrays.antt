@@ -1,5 +1,5 @@
 -- The C calls on the caller's own arrays: what each returns, and what it leaves in every array that it is lent. Definitions only.
-use mathlib.Core.Bool.{Bool, cond}
+use mathlib.Core.Bool.{cond}
 use mathlib.Core.List.{List, [], _∷_}
 use Prim.Native.Nat.{ℕ, _+_}
 use lib.Dec.{ltb, eqb}

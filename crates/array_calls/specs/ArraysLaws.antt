@@ -142,30 +142,29 @@ pub nothing-before : (xs ys : List ℕ) → length xs ≡ 0 → xs ++ ys ≡ ys
 nothing-before [] ys e = refl
 nothing-before (x ∷ xs) ys e = absurd (omega arith)
 
--- the reader over an area cut to nothing refuses as the reader over the area does; where it reads, or finds no room, the array of values is what is refused
+-- where the array of values has another length, the code is the same over whatever area the reader is tried: its refusal, or 4 where it reads or finds no room
 module _ (bytes area : List ℕ) where
-  code-is : {r : Sheet} → SheetWhen doubles bytes area r → codeOf (sheetHeard (readOf doubles bytes area .answer)) ≡ codeOf (sheetHeard r)
-  code-is {r} R = ap (λ (x : Sheet). codeOf (sheetHeard x)) (sheet-when doubles bytes area r .1 R)
-
   unread-is : {r : Sheet} → SheetWhen doubles bytes area r → unreadCode bytes area ≡ cond (eqb (codeOf (sheetHeard r)) 0) 4 (codeOf (sheetHeard r))
-  unread-is R = ap (λ (n : ℕ). cond (eqb n 0) 4 n) (code-is R)
+  unread-is {r} R =
+      ap (λ (x : Sheet). cond (eqb (codeOf (sheetHeard x)) 0) 4 (codeOf (sheetHeard x))) (sheet-when doubles bytes area r .1 R)
 
   by-room : Begun bytes → countOf bytes ≤ doubles .length → length bytes ≡ 5 + 8 * countOf bytes → unreadCode bytes area ≡ 4
   by-room B f e = elim (le-or-lt (countOf bytes) (length area)) [ inl s ↦ unread-is (all-read B f e s) | inr s ↦ unread-is (no-room B f e s) ]
 
-  read-row : {n : ℕ} → SheetWhen doubles bytes [] (sheets.Read n) → unreadCode bytes area ≡ 4
-  read-row (all-read B f e s) = by-room B f e
+  module _ (tried : List ℕ) where
+    read-row : {n : ℕ} → SheetWhen doubles bytes tried (sheets.Read n) → unreadCode bytes area ≡ 4
+    read-row (all-read B f e s) = by-room B f e
 
-  pub unread-read : (n : ℕ) → readOf doubles bytes [] .answer ≡ sheets.Read n → 4 ≡ unreadCode bytes area
-  unread-read n e = sym (read-row (sheet-when doubles bytes [] (sheets.Read n) .0 e))
+    pub unread-read : (n : ℕ) → readOf doubles bytes tried .answer ≡ sheets.Read n → 4 ≡ unreadCode bytes area
+    unread-read n e = sym (read-row (sheet-when doubles bytes tried (sheets.Read n) .0 e))
 
-  refused-row : {k i : ℕ} → SheetWhen doubles bytes [] (sheets.Refused k i) → unreadCode bytes area ≡ k
-  refused-row (no-header h) = unread-is (no-header h)
-  refused-row (other-version h v) = unread-is (other-version h v)
-  refused-row (too-many B m) = unread-is (too-many B m)
-  refused-row (too-short B f s) = unread-is (too-short B f s)
-  refused-row (too-long B f l) = unread-is (too-long B f l)
-  refused-row (no-room B f e s) = by-room B f e
+    refused-row : {k i : ℕ} → SheetWhen doubles bytes tried (sheets.Refused k i) → unreadCode bytes area ≡ k
+    refused-row (no-header h) = unread-is (no-header h)
+    refused-row (other-version h v) = unread-is (other-version h v)
+    refused-row (too-many B m) = unread-is (too-many B m)
+    refused-row (too-short B f s) = unread-is (too-short B f s)
+    refused-row (too-long B f l) = unread-is (too-long B f l)
+    refused-row (no-room B f e s) = by-room B f e
 
-  pub unread-refused : (k i : ℕ) → readOf doubles bytes [] .answer ≡ sheets.Refused k i → k ≡ unreadCode bytes area
-  unread-refused k i e = sym (refused-row (sheet-when doubles bytes [] (sheets.Refused k i) .0 e))
+    pub unread-refused : (k i : ℕ) → readOf doubles bytes tried .answer ≡ sheets.Refused k i → k ≡ unreadCode bytes area
+    unread-refused k i e = sym (refused-row (sheet-when doubles bytes tried (sheets.Refused k i) .0 e))

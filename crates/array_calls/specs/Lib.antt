@@ -3,3 +3,7 @@ pub mod Arrays
 pub mod Inner
 pub mod ArraysLaws
 pub mod RefusalLaws
+pub mod Codes
+pub mod CodesLaws
+pub mod CallCodes
+pub mod CallAreas

@@ -1,10 +1,9 @@
 -- The refusals that the calls on arrays turn to a code: each is one of the table. Assumes nothing.
 use mathlib.Core.Path.{_≡_, refl}
-use mathlib.Core.List.{List, []}
+use mathlib.Core.List.{List}
 use Prim.Native.Nat.{ℕ}
 use native.Mathlib.Omega.{arith}
 use lib.Ieee.{Float}
-use Rattle.units.specs.Powers.{le-or-lt}
 use Rattle.kinds.specs.Heard.{Refusal}
 use Rattle.kinds.specs.Limits.{doubles}
 use Rattle.kinds.specs.declared.State.{State}

@@ -2,7 +2,6 @@
 use crate::values::write;
 use kinds::Sheet;
 ghost use mathlib.Core.Path.{_≡_};
-ghost use Prim.Native.Nat.{ℕ};
 ghost use Rattle.array_calls.specs.Arrays.{returned, readArrays, unreadCode};
 
 // What is refused where the array of values has another length: 4 comes last, so the sheet is looked at first. An empty area has nothing written to it.

@@ -45,7 +45,9 @@ fn told(answer: Step, numbers: &mut [u64]) -> u32
             0
         }
         Step::Done(x, rounds) => {
-            let ten = [2, pattern(x), rounds as u64, 0, 0, 0, 0, 0, 0, 0];
+            let sum = pattern(x);
+            let rounds = rounds as u64;
+            let ten = [2, sum, rounds, 0, 0, 0, 0, 0, 0, 0];
             write(&ten, numbers);
             0
         }
@@ -101,7 +103,9 @@ pub fn faithful(list: &[u64], work: &mut [f64], out: &mut [u64]) -> u32
     }
     match walk::faithful(list, work) {
         Step::Done(x, rounds) => {
-            let two = [pattern(x), rounds as u64];
+            let sum = pattern(x);
+            let rounds = rounds as u64;
+            let two = [sum, rounds];
             write(&two, out);
             0
         }

@@ -1,4 +1,5 @@
 -- `array_calls::list_sums::too_many_or_4` meets its contract. Assumes nothing.
+use native.Mathlib.Omega.{arith}
 use borrow.Author.Tests.{lt-ltb, le-ltb}
 use lib.ListN.{length}
 use Rattle.kinds.specs.Limits.{doubles}
@@ -6,10 +7,10 @@ use Rattle.array_calls.proofs.list_sums.too_many_or_4.Statement.{statem
 use Rattle.array_calls.proofs.list_sums.too_many_or_4.Tie as tie
 
 returns : tie.Need-returns
-returns c = rw (lt-ltb (doubles .length) (length (c .before .args .list .now)) (c .if1 .taken))
+returns c = rw (lt-ltb (doubles .length) (length (c .before .args .list .now)) (omega (arith, c .if1 .taken)))
 
 returns-2 : tie.Need-returns-2
-returns-2 c = rw (le-ltb (doubles .length) (length (c .before .args .list .now)) (c .if1 .left))
+returns-2 c = rw (le-ltb (doubles .length) (length (c .before .args .list .now)) (omega (arith, c .if1 .left)))
 
 pub too-many-or-4-spec : {M : Type 1} → statement M
 too-many-or-4-spec = tie.close (tie.spec returns returns-2)

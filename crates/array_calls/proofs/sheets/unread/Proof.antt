@@ -1,5 +1,6 @@
 -- `array_calls::sheets::unread` meets its contract: the reader over nothing refuses as over the area, and 4 is the rest. Assumes nothing.
 use mathlib.Core.Path.{sym, ap, _∙_}
+use mathlib.Core.List.{[]}
 use borrow.Author.Needs.{needs}
 use Rattle.sheet.specs.Sheet.{Reading}
 use Rattle.array_calls.specs.ArraysLaws.{nothing-before, unread-read, unread-refused}
@@ -11,7 +12,8 @@ returns c =
     let after-read = c .before .before .before .before in
     let a = after-read .before .before .before .before .args in
     let e = sym (ap (λ (x : Reading). x .answer) (after-read .read .ensures)) ∙ c .enum-told .given .1 in
-    (unread-read (a .sheet .now) (a .area .now) _ e, nothing-before (after-read .read .last .1 .0) (a .area .now) (c .before .before .before .area .given .0))
+    let left = nothing-before (after-read .read .last .1 .0) (a .area .now) (c .before .before .before .area .given .0) in
+    (unread-read (a .sheet .now) (a .area .now) [] _ e, left)
 
 returns-2 : tie.Need-returns-2
 returns-2 c =
@@ -19,7 +21,8 @@ returns-2 c =
     let after-read = after-number .before .before .before .before in
     let a = after-read .before .before .before .before .args in
     let e = sym (ap (λ (x : Reading). x .answer) (after-read .read .ensures)) ∙ after-number .number .given .1 in
-    (unread-refused (a .sheet .now) (a .area .now) _ _ e, nothing-before (after-read .read .last .1 .0) (a .area .now) (after-number .before .before .before .area .given .0))
+    let left = nothing-before (after-read .read .last .1 .0) (a .area .now) (after-number .before .before .before .area .given .0) in
+    (unread-refused (a .sheet .now) (a .area .now) [] _ _ e, left)
 
 pub unread-spec : {M : Type 1} → statement M
 unread-spec =

@@ -26,7 +26,8 @@ refusal-requires c κs =
     let after-number = c .before in
     let after-faithful = after-number .before .before .before .before in
     let a = after-faithful .before .before .before .before .before .before .args in
-    faithful-refusal (a .list .now) (a .work .now) _ _ (sym (ap (λ (w : Walked). w .answer) (after-faithful .faithful .ensures)) ∙ after-number .number .given .1)
+    let answered = ap (λ (w : Walked). w .answer) (after-faithful .faithful .ensures) in
+    faithful-refusal (a .list .now) (a .work .now) _ _ (sym answered ∙ after-number .number .given .1)
 
 returns-2 : tie.Need-returns-2
 returns-2 c =

@@ -27,7 +27,7 @@ returns-3 c =
     let after-if2 = c .before .before in
     let after-if1 = after-if2 .before .before in
     let a = after-if1 .before .before .before .args in
-    step-rounds (a .numbers .now) (a .work .now) (a .block) (after-if1 .if1 .left) (c .if3 .left) (after-if2 .if2 .taken)
+    step-rounds (a .numbers .now) (a .work .now) (a .block) (after-if1 .if1 .left) (c .if3 .left) (omega (arith, after-if2 .if2 .taken))
 
 told-requires : tie.Need-told-requires
 told-requires c κs =

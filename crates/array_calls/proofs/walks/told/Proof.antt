@@ -33,7 +33,8 @@ returns-2 c =
     let after-pattern = after-write .before .before .before in
     let after-answer = after-pattern .before .before in
     let a = after-answer .before .before .before .args in
-    ap (outcome 0) (after-write .write2 .ensures ∙ ap (λ (p : ℕ). 2 ∷ p ∷ after-answer .answer2 .given .0 .1 .0 ∷ replicate 7 0) (after-pattern .pattern .ensures))
+    let rounds = after-answer .answer2 .given .0 .1 .0 in
+    ap (outcome 0) (after-write .write2 .ensures ∙ ap (λ (p : ℕ). 2 ∷ p ∷ rounds ∷ replicate 7 0) (after-pattern .pattern .ensures))
     ∙ ap (λ (x : Step). outcome (codeOf (stepHeard doubles x)) (walkValues (stepHeard doubles x) (a .numbers .now))) (sym (after-answer .answer2 .given .1))
 
 returns-3 : tie.Need-returns-3
