@@ -1,12 +1,14 @@
 -- What a close answers: rules 1 and 2 are a fresh start, as at an opening; one law for each case. Assumes nothing.
-use mathlib.Core.Path.{_≡_}
-use mathlib.Core.Bool.{Bool, true, false, _||_}
+use mathlib.Core.Path.{_≡_, refl}
+use mathlib.Core.Bool.{Bool, true, false, cond, _||_}
 use mathlib.Core.List.{List}
 use Prim.Native.Nat.{ℕ, _+_, _*_}
 use lib.Ieee.{Float, add, le, eq}
+use Rattle.lists.specs.Apart.{apart}
 use Rattle.extract.specs.Extract.{plusZero, absolute}
 use Rattle.kinds.specs.Limits.{Width, exponentOf}
 use Rattle.kinds.specs.declared.State.{State}
+use Rattle.kinds.specs.declared.Step.{Step}
 use Rattle.kinds.specs.declared.Step.the-variants.{More, Done}
 use Rattle.rounds.specs.Round.{allZero, sigmaOf, roundOf, fresh, scaled, leastNormal, finished, closed}
 
@@ -29,6 +31,51 @@ abbrev pub finishes : Width → State → Bool
 finishes W s =
     let f = W .format in
     le (s .sigma) (leastNormal f) || le (scaled f (2 * exponentOf (s .n) + 1) (s .sigma)) (absolute f (tau1Of W s))
+
+-- what holds of each answer that a fresh start or a close may have holds of the one that it has
+module _ (P : Step → Type 0) where
+  pub fresh-each : (W : Width) (zero : Float) (n : ℕ) (xs : List Float) (rounds : ℕ)
+      → (allZero (W .format) xs ≡ true → P (Done zero rounds))
+      → (allZero (W .format) xs ≡ false → P (More (roundOf W n (sigmaOf (W .format) n xs) (plusZero (W .format)) rounds)))
+      → P (fresh W zero n xs rounds)
+  unfolding fresh
+  fresh-each W zero n xs rounds none some = go (allZero (W .format) xs) refl
+    where
+      go : (a : Bool) → allZero (W .format) xs ≡ a
+          → P (cond a (Done zero rounds) (More (roundOf W n (sigmaOf (W .format) n xs) (plusZero (W .format)) rounds)))
+      go true a = none a
+      go false a = some a
+
+  pub closed-each : (W : Width) (s : State) (xs : List Float)
+      → (eq (tau1Of W s) (plusZero (W .format)) ≡ true → P (fresh W (plusZero (W .format)) (s .n) xs (s .rounds + 1)))
+      → (eq (tau1Of W s) (plusZero (W .format)) ≡ false → finishes W s ≡ true
+      → P (Done (finished (W .format) (tau1Of W s) (s .t) (s .tau) xs) (s .rounds + 1)))
+      → (eq (tau1Of W s) (plusZero (W .format)) ≡ false → finishes W s ≡ false
+      → P (More (roundOf W (s .n) (scaled (W .format) (exponentOf (s .n)) (s .sigma)) (tau1Of W s) (s .rounds + 1))))
+      → P (closed W s xs)
+  unfolding closed
+  closed-each W s xs zero finish further = go (eq (tau1Of W s) (plusZero (W .format))) refl (finishes W s) refl
+    where
+      go : (z : Bool) → eq (tau1Of W s) (plusZero (W .format)) ≡ z → (r : Bool) → finishes W s ≡ r
+          → P
+          (cond z
+          (fresh W (plusZero (W .format)) (s .n) xs (s .rounds + 1))
+          (cond r
+          (Done (finished (W .format) (tau1Of W s) (s .t) (s .tau) xs) (s .rounds + 1))
+          (More (roundOf W (s .n) (scaled (W .format) (exponentOf (s .n)) (s .sigma)) (tau1Of W s) (s .rounds + 1)))))
+      go true z r h = zero z
+      go false z true h = finish z h
+      go false z false h = further z h
+
+-- a round that goes on passes neither test of rule 3
+pub not-finishes : (W : Width) (s : State) → finishes W s ≡ false
+    → (le (s .sigma) (leastNormal (W .format)) ≡ false)
+    × (le (scaled (W .format) (2 * exponentOf (s .n) + 1) (s .sigma)) (absolute (W .format) (tau1Of W s)) ≡ false)
+not-finishes W s h = neither _ _ h
+  where
+    neither : (a b : Bool) → (a || b) ≡ false → (a ≡ false) × (b ≡ false)
+    neither false b e = (refl, e)
+    neither true b e = apart (cc)
 
 module _ (W : Width) (s : State) (xs : List Float) where
   pub closed-zero : eq (tau1Of W s) (plusZero (W .format)) ≡ true → closed W s xs ≡ fresh W (plusZero (W .format)) (s .n) xs (s .rounds + 1)

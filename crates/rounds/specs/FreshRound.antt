@@ -1,5 +1,5 @@
 -- A round that takes sigma from the work area, as an opening and a restart do, is one of a run. Assumes nothing.
-use mathlib.Core.Path.{_≡_}
+use mathlib.Core.Path.{_≡_, refl}
 use mathlib.Core.Bool.{false}
 use mathlib.Core.List.{List, [], _∷_}
 use Prim.Native.Nat.{ℕ, zero, suc, _+_, _-_, _*_, _^_, _≤_, _<_}
@@ -17,7 +17,7 @@ use Rattle.extract.specs.ExtractLaws.{largest-bounds, largest-none}
 use Rattle.extract.specs.LargestLaws.{zero-positive}
 use Rattle.exponent.specs.Power.{powers}
 use Rattle.exponent.specs.PowerLaws.{power-number, power-negative, power-magnitude}
-use Rattle.rounds.specs.Round.{allZero, sigmaOf}
+use Rattle.rounds.specs.Round.{allZero, sigmaOf, roundOf}
 use Rattle.rounds.specs.Fitting.{Fitting}
 use Rattle.rounds.specs.InUnits.{Small}
 use Rattle.rounds.specs.Begun.{Begun}
@@ -33,7 +33,7 @@ exponent-some n = positive (exponentOf n) (ceil-ge (n + 2))
 module _ {W : Width} {F : Fitting W} {n rounds : ℕ} {xs : List Float} (most : ℕ) where
   pub begins : 1 ≤ n → n ≤ W .length → length xs ≡ n → Each (Small (W .format) most) xs
       → rounds * (prec (W .format) - exponentOf n) + ceil (largest (W .format) xs) ≤ F .top
-      → Begun W F (ceil (largest (W .format) xs)) n (sigmaOf (W .format) n xs) (plusZero (W .format)) rounds xs
+      → Begun W F (ceil (largest (W .format) xs)) (roundOf W n (sigmaOf (W .format) n xs) (plusZero (W .format)) rounds) xs
   begins some few count work lowered = record {
     some = some;
     few = few;
@@ -48,6 +48,8 @@ module _ {W : Width} {F : Fitting W} {n rounds : ℕ} {xs : List Float} (most : 
     kept = record { number = zero-positive f .number; within = omega (arith, zero-positive f .units) };
     work = each-both (Small f most) (λ y. magnitude f y ≤ largest f xs) (Small f (2 ^ ceil (largest f xs)))
         (λ y Y h. record { number = Y .number; within = omega (arith, ceil-ge (largest f xs)) }) xs work (largest-bounds f xs);
+    tau = refl;
+    pending = refl;
   }
     where
       f : Format

@@ -24,10 +24,20 @@ blockOf W b xs = take (W .block) (drop (W .block * b) xs)
 unfoldable pub turned : Width → Float → ℕ → List Float → List Float
 turned W sigma b xs = take (W .block * b) xs ++ (remainders (W .format) sigma (blockOf W b xs) ++ drop (W .block * b + W .block) xs)
 
+-- the same round with another tau and pending set: the one place that writes out what a round keeps of its state
+abbrev pub inRound : State → Float → ℕ → State
+inRound s tau pending = stateOf (s .n) (s .sigma) (s .t) tau pending (s .rounds)
+
 -- the state after block b: tau has gathered its numbers, and it is pending no more
 abbrev pub takenState : Width → State → ℕ → List Float → State
-takenState W s b work =
-    stateOf (s .n) (s .sigma) (s .t) (gathered (W .format) (s .sigma) (s .tau) (blockOf W b work)) (without (s .pending) b) (s .rounds)
+takenState W s b work = inRound s (gathered (W .format) (s .sigma) (s .tau) (blockOf W b work)) (without (s .pending) b)
+
+-- the state and its work area after every block, as its round closes
+abbrev pub allTaken : Width → State → List Float → State
+allTaken W s xs = inRound s (gathered (W .format) (s .sigma) (s .tau) xs) 0
+
+abbrev pub allLeft : Width → State → List Float → List Float
+allLeft W s xs = remainders (W .format) (s .sigma) xs
 
 -- ---- "mu is the largest magnitude, e the least whole number with mu at most 2^e, sigma = 2^(M+e)"; mu and 2^e in units
 abbrev pub allZero : Format → List Float → Bool
@@ -37,7 +47,7 @@ abbrev pub sigmaOf : Format → ℕ → List Float → Float
 sigmaOf f n xs = powerOf f (exponentOf n + ceil (largest f xs))
 
 -- "a new round opens with tau = +0 and all blocks pending"
-unfoldable pub roundOf : Width → ℕ → Float → Float → ℕ → State
+abbrev pub roundOf : Width → ℕ → Float → Float → ℕ → State
 roundOf W n sigma t rounds = stateOf n sigma t (plusZero (W .format)) (full (blocksOf W n)) rounds
 
 -- mu, e and sigma from the work area, t = +0: as at an opening, so at a restart. Where every number is zero the answer is `zero`.

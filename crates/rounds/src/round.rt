@@ -8,12 +8,10 @@ ghost use lib.ListN.{length};
 ghost use Rattle.units.specs.Rounding.{ceil};
 ghost use Rattle.ieee.specs.Units.{negative, magnitude};
 ghost use Rattle.exponent.specs.Power.{powerOf};
-ghost use Rattle.extract.specs.Extract.{gathered, remainders};
 ghost use Rattle.sound.specs.Sound.{unitsAt};
 ghost use Rattle.kinds.specs.Limits.{doubles, exponentOf, blocksOf};
-ghost use Rattle.kinds.specs.States.{stateOf};
 ghost use Rattle.rounds.specs.InUnits.{Small};
-ghost use Rattle.rounds.specs.Round.{turned, takenState, roundOf};
+ghost use Rattle.rounds.specs.Round.{turned, takenState, allTaken, allLeft, roundOf};
 
 // "a new round opens with tau = +0 and all blocks pending"
 pub fn begin(n: usize, sigma: f64, t: f64, rounds: u32) -> State
@@ -55,8 +53,7 @@ pub fn take(s: State, work: &mut [f64], block: usize) -> State
 // Every block of a round in rising order: that is the whole area in one extraction.
 pub fn take_all(s: State, work: &mut [f64]) -> State
     ensures { λ r. ⌜
-        (r ≡ stateOf (s .n) (s .sigma) (s .t) (gathered (doubles .format) (s .sigma) (s .tau) (now (work .entry))) 0 (s .rounds))
-        × (now (work .exit) ≡ remainders (doubles .format) (s .sigma) (now (work .entry)))
+        (r ≡ allTaken doubles s (now (work .entry))) × (now (work .exit) ≡ allLeft doubles s (now (work .entry)))
         ⌝ }
 {
     let taken = extract::extract(work, s.sigma, s.tau);

@@ -157,7 +157,6 @@ module _ {W : Width} (F : Fitting W) {s : State} {b : ℕ} {xs : List Float} (P 
   -- ---- the next state
   opens : (e : ℕ) {sigma t : Float} (rounds : ℕ) → Positive f sigma (2 ^ (M + e)) → e ≤ F .top → Number f t
       → StateNumbers W (roundOf W (s .n) sigma t rounds)
-  unfolding roundOf
   opens e rounds S l N = record { sigma = S .number; bounds = sigma-sound F (s .n) e S l; t = N; tau = zero-positive f .number }
 
   -- rules 1 and 2
@@ -173,7 +172,7 @@ module _ {W : Width} (F : Fitting W) {s : State} {b : ℕ} {xs : List Float} (P 
           omega (arith, l, P .low)
 
       -- sigma is that of a run's first round over this area
-      first : Begun W F e (s .n) (sigmaOf f (s .n) ys) (plusZero f) 0 ys
+      first : Begun W F e (roundOf W (s .n) (sigmaOf f (s .n) ys) (plusZero f) 0) ys
       first = begins (2 ^ P .e) (P .some) (P .few) (turned-length F P (h .work) ∙ P .long) (turned-small F P (h .work)) (omega (arith, least))
 
       by : (a : Bool) → allZero f ys ≡ a → Answered W (fresh W (plusZero f) (s .n) ys rounds)

@@ -77,12 +77,13 @@ module _ {W : Width} (F : Fitting W) (ps : List ℕ) (work : List Float) (G : Li
   opened-round a = opened-is ∙ ap (λ (q : Step). outcome q (floats W ps)) (fresh-round W (zeroOf W ps) (length ps) (floats W ps) 0 a)
 
   pub opened-summing : allZero (W .format) (floats W ps) ≡ false
-      → Summing W F (difference (sumOf (W .format) ps)) (ceil (largest (W .format) (floats W ps))) (length ps)
-      (sigmaOf (W .format) (length ps) (floats W ps)) (plusZero (W .format)) 0 (floats W ps)
+      → Summing W F (difference (sumOf (W .format) ps)) (ceil (largest (W .format) (floats W ps)))
+      (roundOf W (length ps) (sigmaOf (W .format) (length ps) (floats W ps)) (plusZero (W .format)) 0) (floats W ps)
   opened-summing a =
       let f = W .format in
       let xs = floats W ps in
-      let B : Begun W F (ceil (largest f xs)) (length ps) (sigmaOf f (length ps) xs) (plusZero f) 0 xs = opens (list-allowed G) F (list-passed G .few) a in
+      let B : Begun W F (ceil (largest f xs)) (roundOf W (length ps) (sigmaOf f (length ps) xs) (plusZero f) 0) xs =
+      opens (list-allowed G) F (list-passed G .few) a in
       let O : units.Opened (prec f) (exponentOf (length ps)) (length (wholes f xs)) (ceil (largest f xs)) (total (wholes f xs)) (nat 0) (wholes f xs) =
       turns.opens (all-ready (B .scale) xs (B .work)) in
       record {

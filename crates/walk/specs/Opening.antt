@@ -17,7 +17,7 @@ use Rattle.judge.specs.FirstFaultLaws.{allowed-float, allowed-size}
 use Rattle.extract.specs.Extract.{plusZero, largest}
 use Rattle.extract.specs.ExtractLaws.{largest-le}
 use Rattle.sound.specs.Sound.{unitsAt}
-use Rattle.rounds.specs.Round.{allZero, sigmaOf}
+use Rattle.rounds.specs.Round.{allZero, sigmaOf, roundOf}
 use Rattle.rounds.specs.Fitting.{Fitting}
 use Rattle.rounds.specs.InUnits.{Small}
 use Rattle.rounds.specs.Begun.{Begun}
@@ -33,7 +33,8 @@ module _ {W : Width} {ps : List ℕ} (A : Allowed W ps) where
       (λ i h. let l : i < length ps = omega (arith, floats-length) in record { number = allowed-float A i l; within = allowed-size A i l })
 
   pub opens : (F : Fitting W) → length ps ≤ W .length → allZero (W .format) (floats W ps) ≡ false
-      → Begun W F (ceil (largest (W .format) (floats W ps))) (length ps) (sigmaOf (W .format) (length ps) (floats W ps)) (plusZero (W .format)) 0 (floats W ps)
+      → Begun W F (ceil (largest (W .format) (floats W ps)))
+      (roundOf W (length ps) (sigmaOf (W .format) (length ps) (floats W ps)) (plusZero (W .format)) 0) (floats W ps)
   opens F few z =
       begins (unitsAt W (W .magnitude)) (omega (arith, some-left (W .format) (floats W ps) z, floats-length)) few floats-length allowed-small
       (omega (arith, least, zero-mul (prec (W .format) - exponentOf (length ps))))

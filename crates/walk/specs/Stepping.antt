@@ -18,13 +18,13 @@ use Rattle.ieee.specs.Units.{magnitude}
 use Rattle.lists.specs.Bitset.{has}
 use Rattle.lists.specs.Each.{Each, each-join, each-take, each-drop}
 use Rattle.kinds.specs.Limits.{Width, exponentOf, blocksOf}
-use Rattle.kinds.specs.States.{stateOf}
 use Rattle.kinds.specs.declared.State.{State}
 use Rattle.kinds.specs.declared.Verdict.the-variants.{Good}
-use Rattle.extract.specs.Extract.{plusZero, remainders, gathered}
+use Rattle.extract.specs.Extract.{remainders, gathered}
 use Rattle.extract.specs.ExtractLaws.{remainders-length}
 use Rattle.extract.specs.LargestLaws.{Positive}
 use Rattle.sound.specs.Sound.{unitsAt, soundSigma, atMost, soundNumbers, soundPending, badPlace, sound, gated}
+use Rattle.rounds.specs.Round.{inRound}
 use Rattle.rounds.specs.Fitting.{Fitting}
 use Rattle.rounds.specs.InUnits.{Small, Scale, remainders-small}
 use Rattle.rounds.specs.Begun.{Begun, begun-rounds, tau-small}
@@ -100,21 +100,21 @@ module _ {W : Width} {F : Fitting W} {e : ℕ} {s : State} {xs : List Float} (I 
   unfolding gated
   stepping-accepted b h p = simp (eq-eqb _ _ (I .count), stepping-sound, lt-leb _ _ h, p)
 
-module _ {W : Width} {F : Fitting W} {e n : ℕ} {sigma t : Float} {rounds : ℕ} {xs : List Float} (B : Begun W F e n sigma t rounds xs) where
+module _ {W : Width} {F : Fitting W} {e : ℕ} {s : State} {xs : List Float} (B : Begun W F e s xs) where
   -- of a round that has begun: the state and the work area after the first k numbers, whatever blocks are pending
-  pub stepping : (k P : ℕ) → 0 < P → P < 2 ^ blocksOf W n
-      → Stepping W F e (stateOf n sigma t (gathered (W .format) sigma (plusZero (W .format)) (take k xs)) P rounds)
-      (remainders (W .format) sigma (take k xs) ++ drop k xs)
+  pub stepping : (k P : ℕ) → 0 < P → P < 2 ^ blocksOf W (s .n)
+      → Stepping W F e (inRound s (gathered (W .format) (s .sigma) (s .tau) (take k xs)) P)
+      (remainders (W .format) (s .sigma) (take k xs) ++ drop k xs)
   stepping k P l h = record {
     some = B .some;
     few = B .few;
-    count = length-front xs (remainders (W .format) sigma (take k xs)) k (remainders-length (W .format) sigma (take k xs)) ∙ B .count;
+    count = length-front xs (remainders (W .format) (s .sigma) (take k xs)) k (remainders-length (W .format) (s .sigma) (take k xs)) ∙ B .count;
     rounds = begun-rounds B;
     low = omega (arith, B .lowered);
     scale = B .scale;
     t = B .kept;
     tau = tau-small B k;
-    work = each-join (Small (W .format) (2 ^ e)) (remainders (W .format) sigma (take k xs)) (drop k xs)
+    work = each-join (Small (W .format) (2 ^ e)) (remainders (W .format) (s .sigma) (take k xs)) (drop k xs)
         (remainders-small (B .scale) (take k xs) (each-take (Small (W .format) (2 ^ e)) k xs (B .work))) (each-drop (Small (W .format) (2 ^ e)) k xs (B .work));
     left = l;
     inside = h;

@@ -30,12 +30,11 @@ use Rattle.walk.specs.Run.{Running, run-done, run-refused}
 -- a state that opens the first round of a walk over n numbers
 pub record First (W : Width) (F : Fitting W) (n : ℕ) (s : State) (xs : List Float) : Type 0 where
   pub running : Running W F n s xs
-  pub count : s .n ≡ n
   pub rounds : s .rounds ≡ 0
 
 module _ {W : Width} (F : Fitting W) (ps : List ℕ) (work : List Float) where
   pub opened-first : (s : State) (xs : List Float) → opened W ps work ≡ outcome (More s) xs → First W F (length ps) s xs
-  unfolding openedAfter fresh roundOf
+  unfolding openedAfter fresh
   opened-first s xs e = by (judged W (eqb (length work) (length ps)) true ps) refl e
     where
       n : ℕ
@@ -47,7 +46,7 @@ module _ {W : Width} (F : Fitting W) (ps : List ℕ) (work : List Float) where
       round : allZero (W .format) (floats W ps) ≡ false → judged W (eqb (length work) n) true ps ≡ verdicts.Good → First W F n first (floats W ps)
       round z g =
           let v = list-when W (eqb (length work) n) true ps verdicts.Good .0 g in
-          record { running = record { e = _; state = refl; begun = opens (list-allowed v) F (list-passed v .few) z }; count = refl; rounds = refl }
+          record { running = record { e = _; count = refl; begun = opens (list-allowed v) F (list-passed v .few) z }; rounds = refl }
 
       zero : Float
       zero = nearestFloat (W .format) (zeroSign ps) (pos 0)
@@ -91,10 +90,10 @@ module _ {W : Width} (F : Fitting W) (ps : List ℕ) (work : List Float) where
       first = opened-first s xs (sym e ∙ ap (λ (q : Step). outcome q xs) d)
 
       pub faithful-running : Running W F (s .n) s xs
-      faithful-running = subst (λ (n : ℕ). Running W F n s xs) (sym (first .count)) (first .running)
+      faithful-running = subst (λ (n : ℕ). Running W F n s xs) (sym (first .running .count)) (first .running)
 
       pub faithful-more : roundsFrom W (blocksOf W (s .n)) (suc (W .rounds) - s .rounds) (outcome (More s) xs) ≡ faithfulOf W ps work
       unfolding rest
       faithful-more =
           let k : suc (W .rounds) - s .rounds ≡ suc (W .rounds) = omega (arith, first .rounds) in
-          (λ i. roundsFrom W (blocksOf W (first .count i)) (k i) (outcome (sym d i) xs)) ∙ ap rest e
+          (λ i. roundsFrom W (blocksOf W (first .running .count i)) (k i) (outcome (sym d i) xs)) ∙ ap rest e
