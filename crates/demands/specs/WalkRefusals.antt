@@ -18,7 +18,7 @@ use Rattle.kinds.specs.declared.Step.{Step}
 use Rattle.kinds.specs.declared.Step.the-variants.{More, Done, Refused}
 use Rattle.kinds.specs.declared.Verdict.{Verdict}
 use Rattle.kinds.specs.declared.Verdict.the-variants as verdicts
-use Rattle.judge.specs.Judge.{judged, floats, zeroSign}
+use Rattle.judge.specs.Judge.{judged, zeroSign}
 use Rattle.judge.specs.JudgeLaws.{list-when}
 use Rattle.sound.specs.Sound.{unitsAt, gated}
 use Rattle.rounds.specs.Fitting.{Fitting}
@@ -93,7 +93,7 @@ module _ (W : Width) (ps : List ℕ) (work : List Float) where
   open-after : (v : Verdict) → After v work (openedAfter W v ps work)
   unfolding openedAfter
   open-after verdicts.Good = record {
-    from = fresh-accepted W (nearestFloat (W .format) (zeroSign ps) (pos 0)) (length ps) (floats W ps) 0 .good;
+    from = fresh-accepted W (nearestFloat (W .format) (zeroSign ps) (pos 0)) (length ps) _ 0 .good;
     kept = λ k i e. apart (cc);
   }
   open-after (verdicts.Refused l j) = record { from = refl; kept = λ k i e. refl }

@@ -23,7 +23,7 @@ use Rattle.ieee.specs.Compare.{le-units}
 use Rattle.ieee.specs.Product.{mul-powers}
 use Rattle.exponent.specs.Power.{powers, powerOf}
 use Rattle.exponent.specs.PowerLaws.{power-is, power-number, power-negative, power-magnitude, high-power}
-use Rattle.extract.specs.Extract.{plusZero, remainderOf, remainders, largest}
+use Rattle.extract.specs.Extract.{remainderOf, remainders, largest}
 use Rattle.extract.specs.ExtractLaws.{remainders-length, largest-le, largest-zero}
 use Rattle.extract.specs.LargestLaws.{Positive, Unsigned, positive-is, absolute-is}
 use Rattle.kinds.specs.Limits.{Width, exponentOf}
@@ -31,12 +31,12 @@ use Rattle.kinds.specs.declared.State.{State}
 use Rattle.kinds.specs.declared.Step.{Step}
 use Rattle.kinds.specs.declared.Step.the-variants.{More, Done}
 use Rattle.lists.specs.Each.{Each, each-map, each-weaker}
-use Rattle.rounds.specs.Round.{allTaken, allLeft, scaled, sigmaOf, allZero, leastNormal, roundOf, closed}
-use Rattle.rounds.specs.ClosedLaws.{tau1Of, finishes, not-finishes, fresh-each, closed-each}
+use Rattle.rounds.specs.Round.{allTaken, allLeft, scaled, allZero, leastNormal, freshRound, closedBy}
+use Rattle.rounds.specs.ClosedLaws.{tau1Of, finishes, furtherRound, not-finishes, fresh-each, closed-each}
 use Rattle.rounds.specs.Fitting.{Fitting}
 use Rattle.rounds.specs.InUnits.{Small, remainder-small}
 use Rattle.rounds.specs.Begun.{Begun, tau-all}
-use Rattle.rounds.specs.FreshRound.{begins}
+use Rattle.rounds.specs.FreshRound.{begins, largest-small}
 
 -- ---- 2^j eps times 2^k units are 2^c units, c = j + k - prec
 pub scaled-positive : (f : Format) (j k c : ℕ) {sigma : Float} → prec f ≤ low f → Positive f sigma (2 ^ k) → c + prec f ≡ j + k → j ≤ prec f
@@ -138,8 +138,7 @@ module _ {W : Width} {F : Fitting W} {e : ℕ} {s : State} {xs : List Float} (B 
   lower c h = rw (add-one (s .rounds), suc-mul (s .rounds) (prec (W .format) - exponentOf (s .n))) (omega (arith, B .lowered))
 
   pub restarts : allZero (W .format) (allLeft W s xs) ≡ false
-      → Begun W F (ceil (largest (W .format) (allLeft W s xs)))
-      (roundOf W (s .n) (sigmaOf (W .format) (s .n) (allLeft W s xs)) (plusZero (W .format)) (s .rounds + 1)) (allLeft W s xs)
+      → Begun W F (ceil (largest (W .format) (allLeft W s xs))) (freshRound W (s .n) (largest (W .format) (allLeft W s xs)) (s .rounds + 1)) (allLeft W s xs)
   restarts z = go (le-or-lt (prec (W .format)) (exponentOf (s .n) + e))
     where
       f : Format
@@ -149,12 +148,12 @@ module _ {W : Width} {F : Fitting W} {e : ℕ} {s : State} {xs : List Float} (B 
       ys = allLeft W s xs
 
       go : (prec f ≤ exponentOf (s .n) + e) ⊎ (exponentOf (s .n) + e < prec f)
-          → Begun W F (ceil (largest f ys)) (roundOf W (s .n) (sigmaOf f (s .n) ys) (plusZero f) (s .rounds + 1)) ys
+          → Begun W F (ceil (largest f ys)) (freshRound W (s .n) (largest f ys) (s .rounds + 1)) ys
       go (inr l) = absurd (eqb-false _ 0 z (none-left l))
       go (inl l) =
           let c = exponentOf (s .n) + e - prec f in
           let least : ceil (largest f ys) ≤ c = ceil-least (largest-le f (2 ^ c) ys (each-weaker _ _ (λ y Y. Y .within) ys (left l))) in
-          begins (2 ^ c) (B .some) (B .few) (remainders-length f (s .sigma) xs ∙ B .count) (left l)
+          begins (largest f ys) (B .some) (B .few) (remainders-length f (s .sigma) xs ∙ B .count) (largest-small f _ ys (left l))
           (lower (ceil (largest f ys)) (omega (arith, B .scale .few)))
 
   -- ---- rule 4: a further round
@@ -188,8 +187,7 @@ module _ {W : Width} {F : Fitting W} {e : ℕ} {s : State} {xs : List Float} (B 
       (omega (arith, half)) (omega (arith, half, B .scale .room))
 
   pub further : finishes W (allTaken W s xs) ≡ false
-      → Begun W F (exponentOf (s .n) + e - prec (W .format))
-      (roundOf W (s .n) (scaled (W .format) (exponentOf (s .n)) (s .sigma)) (tau1Of W (allTaken W s xs)) (s .rounds + 1)) (allLeft W s xs)
+      → Begun W F (exponentOf (s .n) + e - prec (W .format)) (furtherRound W (allTaken W s xs)) (allLeft W s xs)
   further r = record {
     some = B .some;
     few = B .few;
@@ -224,9 +222,9 @@ module _ {W : Width} {F : Fitting W} {e : ℕ} {s : State} {xs : List Float} (B 
       capped = omega (arith, F .most-is (s .n) (B .few), B .lowered, F .t-room)
 
   -- ---- the four rules
-  pub falls : Next W F s (allLeft W s xs) (closed W (allTaken W s xs) (allLeft W s xs))
+  pub falls : Next W F s (allLeft W s xs) (closedBy W (largest (W .format) (allLeft W s xs)) (allTaken W s xs) (allLeft W s xs))
   falls =
       let P = Next W F s (allLeft W s xs) in
-      closed-each P W (allTaken W s xs) (allLeft W s xs)
-      (λ z. fresh-each P W _ (s .n) (allLeft W s xs) _ (λ a. ends _) (λ a. goes _ _ refl refl (restarts a)))
+      closed-each P W (largest (W .format) (allLeft W s xs)) (allTaken W s xs) (allLeft W s xs)
+      (λ z. fresh-each P W _ (s .n) _ _ (λ a. ends _) (λ a. goes _ _ refl refl (restarts a)))
       (λ z r. ends _) (λ z r. goes _ _ refl refl (further r))

@@ -39,22 +39,24 @@ allTaken W s xs = inRound s (gathered (W .format) (s .sigma) (s .tau) xs) 0
 abbrev pub allLeft : Width → State → List Float → List Float
 allLeft W s xs = remainders (W .format) (s .sigma) xs
 
--- ---- "mu is the largest magnitude, e the least whole number with mu at most 2^e, sigma = 2^(M+e)"; mu and 2^e in units
+-- every number is zero
 abbrev pub allZero : Format → List Float → Bool
 allZero f xs = eqb (largest f xs) 0
 
-abbrev pub sigmaOf : Format → ℕ → List Float → Float
-sigmaOf f n xs = powerOf f (exponentOf n + ceil (largest f xs))
+-- ---- "mu is the largest magnitude, e the least whole number with mu at most 2^e, sigma = 2^(M+e)"; mu and 2^e in units
+abbrev pub sigmaOf : Format → ℕ → ℕ → Float
+sigmaOf f n mu = powerOf f (exponentOf n + ceil mu)
 
 -- "a new round opens with tau = +0 and all blocks pending"
 abbrev pub roundOf : Width → ℕ → Float → Float → ℕ → State
 roundOf W n sigma t rounds = stateOf n sigma t (plusZero (W .format)) (full (blocksOf W n)) rounds
 
--- mu, e and sigma from the work area, t = +0: as at an opening, so at a restart. Where every number is zero the answer is `zero`.
-unfoldable pub fresh : Width → Float → ℕ → List Float → ℕ → Step
-fresh W zero n xs rounds =
-    let f = W .format in
-    cond (allZero f xs) (Done zero rounds) (More (roundOf W n (sigmaOf f n xs) (plusZero f) rounds))
+-- e and sigma from mu, t = +0: as at an opening, so at a restart. Where mu is zero the answer is `zero`.
+abbrev pub freshRound : Width → ℕ → ℕ → ℕ → State
+freshRound W n mu rounds = roundOf W n (sigmaOf (W .format) n mu) (plusZero (W .format)) rounds
+
+unfoldable pub fresh : Width → Float → ℕ → ℕ → ℕ → Step
+fresh W zero n mu rounds = cond (eqb mu 0) (Done zero rounds) (More (freshRound W n mu rounds))
 
 -- ---- the close
 -- 2^j eps sigma, as the product of the float 2^j eps and sigma: eps is 2^-prec, and a unit 2^-low
@@ -69,15 +71,18 @@ leastNormal f = ofBits f (hid f)
 unfoldable pub finished : Format → Float → Float → Float → List Float → Float
 finished f tau1 t tau xs = let tau2 = sub f tau (sub f tau1 t) in add f tau1 (add f tau2 (lastSum f xs))
 
--- rules 1 to 4 for a state whose last pending block was taken, and its work area
-unfoldable pub closed : Width → State → List Float → Step
-closed W s xs =
+-- rules 1 to 4 for a state whose last pending block was taken, and its work area, of which mu is the largest magnitude
+unfoldable pub closedBy : Width → ℕ → State → List Float → Step
+closedBy W mu s xs =
     let f = W .format in
     let M = exponentOf (s .n) in
     let t' = add f (s .t) (s .tau) in
     let rounds = s .rounds + 1 in
     cond (eq t' (plusZero f))
-    (fresh W (plusZero f) (s .n) xs rounds)
+    (fresh W (plusZero f) (s .n) mu rounds)
     (cond (le (s .sigma) (leastNormal f) || le (scaled f (2 * M + 1) (s .sigma)) (absolute f t'))
     (Done (finished f t' (s .t) (s .tau) xs) rounds)
     (More (roundOf W (s .n) (scaled f M (s .sigma)) t' rounds)))
+
+abbrev pub closed : Width → State → List Float → Step
+closed W s xs = closedBy W (largest (W .format) xs) s xs

@@ -1,7 +1,7 @@
 -- A step over any sound state leaves what `AnyState` says, whether a call gave the state out or not. The additions to tau need not be exact then: tau, at most
 -- 2^bound units before, is at most twice that after its block. Assumes nothing.
 use mathlib.Core.Path.{_≡_, refl, sym, ap, _∙_, subst}
-use mathlib.Core.Bool.{Bool, true, false, cond, _||_}
+use mathlib.Core.Bool.{Bool, true, false, cond}
 use mathlib.Core.List.{List, [], _∷_, map, foldl}
 use Prim.Native.Nat.{ℕ, _+_, _-_, _*_, _^_, _≤_}
 use native.Mathlib.Omega.{arith}
@@ -9,7 +9,7 @@ use borrow.Author.Tests.{eqb-false}
 use lib.Dec.{T, eqb}
 use lib.ListN.{length, drop, length-map, length-take, length-drop}
 use lib.Pow.{pow-add, pow-mono}
-use lib.Ieee.{Float, Format, prec, low, emax, add, le, eq, fits}
+use lib.Ieee.{Float, Format, prec, low, emax, add, eq, fits}
 use Rattle.units.specs.Rounding.{ceil}
 use Rattle.units.specs.Ceiling.{ceil-ge, ceil-least}
 use Rattle.units.specs.Powers.{pow-split}
@@ -28,12 +28,12 @@ use Rattle.extract.specs.LargestLaws.{Positive, zero-positive}
 use Rattle.sound.specs.Sound.{unitsAt, gated}
 use Rattle.sound.specs.PassedLaws.{Passed}
 use Rattle.sound.specs.SoundLaws as sound
-use Rattle.rounds.specs.Round.{blockOf, turned, takenState, allZero, sigmaOf, roundOf, fresh, scaled, leastNormal, finished, closed}
-use Rattle.rounds.specs.ClosedLaws.{fresh-zero, fresh-round, tau1Of, finishes, closed-zero, closed-finish, closed-further}
+use Rattle.rounds.specs.Round.{blockOf, turned, takenState, roundOf, freshRound, fresh, scaled, finished, closed}
+use Rattle.rounds.specs.ClosedLaws.{tau1Of, finishes, furtherRound, fresh-each, closed-each, not-finishes}
 use Rattle.rounds.specs.Closes.{scaled-positive, normal-above}
 use Rattle.rounds.specs.Fitting.{Fitting}
 use Rattle.rounds.specs.Begun.{Begun}
-use Rattle.rounds.specs.FreshRound.{begins}
+use Rattle.rounds.specs.FreshRound.{begins, largest-small}
 use Rattle.rounds.specs.InUnits.{Small, Scale, sum-plus, high-small}
 use Rattle.walk.specs.Walk.{taken, stepped}
 use Rattle.walk.specs.StepLaws.{stepped-good}
@@ -102,10 +102,6 @@ not-zero f x X z m =
     let none : whole f x .up + whole f (plusZero f) .dn ≡ whole f (plusZero f) .up + whole f x .dn = rw (zero-whole f) (omega (arith, whole-mag f x)) in
     eqb-false _ _ (sym (eq-units f x (plusZero f) X (zero-positive f .number)) ∙ z) none
 
-neither : (a b : Bool) → (a || b) ≡ false → a ≡ false
-neither false b e = refl
-neither true b e = e
-
 -- ---- a state that is sound, and a block that is pending
 module _ {W : Width} (F : Fitting W) {s : State} {b : ℕ} {xs : List Float} (P : Passed W (F .top) s b xs) (h : Floats W s xs) where
   abbrev f : Format
@@ -160,8 +156,10 @@ module _ {W : Width} (F : Fitting W) {s : State} {b : ℕ} {xs : List Float} (P 
   opens e rounds S l N = record { sigma = S .number; bounds = sigma-sound F (s .n) e S l; t = N; tau = zero-positive f .number }
 
   -- rules 1 and 2
-  afresh : (rounds : ℕ) → Answered W (fresh W (plusZero f) (s .n) ys rounds)
-  afresh rounds = by (allZero f ys) refl
+  afresh : (rounds : ℕ) → Answered W (fresh W (plusZero f) (s .n) (largest f ys) rounds)
+  afresh rounds = fresh-each (Answered W) W (plusZero f) (s .n) (largest f ys) rounds
+      (λ a. record { number = zero-positive f .number; plus = λ z. zero-positive f .sign })
+      (λ a. opens e rounds (first .scale .power) least (zero-positive f .number))
     where
       e : ℕ
       e = ceil (largest f ys)
@@ -172,21 +170,16 @@ module _ {W : Width} (F : Fitting W) {s : State} {b : ℕ} {xs : List Float} (P 
           omega (arith, l, P .low)
 
       -- sigma is that of a run's first round over this area
-      first : Begun W F e (roundOf W (s .n) (sigmaOf f (s .n) ys) (plusZero f) 0) ys
-      first = begins (2 ^ P .e) (P .some) (P .few) (turned-length F P (h .work) ∙ P .long) (turned-small F P (h .work)) (omega (arith, least))
-
-      by : (a : Bool) → allZero f ys ≡ a → Answered W (fresh W (plusZero f) (s .n) ys rounds)
-      by true a = subst (Answered W) (sym (fresh-zero W (plusZero f) (s .n) ys rounds a))
-          (record { number = zero-positive f .number; plus = λ z. zero-positive f .sign })
-      by false a = subst (Answered W) (sym (fresh-round W (plusZero f) (s .n) ys rounds a))
-          (opens e rounds (first .scale .power) least (zero-positive f .number))
+      first : Begun W F e (freshRound W (s .n) (largest f ys) 0) ys
+      first = begins (largest f ys) (P .some) (P .few) (turned-length F P (h .work) ∙ P .long) (largest-small f _ ys (turned-small F P (h .work)))
+          (omega (arith, least))
 
   -- rule 4: sigma is above 2^-1022, so that 2^M eps times it is at least 2^M units
-  further : finishes W next ≡ false → StateNumbers W (roundOf W (s .n) (scaled f M (s .sigma)) (tau1Of W next) (s .rounds + 1))
+  further : finishes W next ≡ false → StateNumbers W (furtherRound W next)
   further r = opens (M + P .e - prec f) (s .rounds + 1) lowered (omega (arith, σ .few, P .low)) (carried-held .number)
     where
       normal : prec f ≤ M + P .e
-      normal = normal-above f (M + P .e) (σ .power) (neither (le (s .sigma) (leastNormal f)) _ r)
+      normal = normal-above f (M + P .e) (σ .power) (not-finishes W next r .0)
 
       lowered : Positive f (scaled f M (s .sigma)) (2 ^ (M + (M + P .e - prec f)))
       lowered = scaled-positive f M (M + P .e) (M + (M + P .e - prec f)) (F .fine) (σ .power) (omega (arith, normal)) (omega (arith, σ .few))
@@ -199,15 +192,7 @@ module _ {W : Width} (F : Fitting W) {s : State} {b : ℕ} {xs : List Float} (P 
       record { number = S .0; plus = S .1 }
 
   closes : Answered W (closed W next ys)
-  closes = by (eq (tau1Of W next) (plusZero f)) refl
-    where
-      by : (z : Bool) → eq (tau1Of W next) (plusZero f) ≡ z → Answered W (closed W next ys)
-      by true z = subst (Answered W) (sym (closed-zero W next ys z)) (afresh (s .rounds + 1))
-      by false z = rule (finishes W next) refl
-        where
-          rule : (r : Bool) → finishes W next ≡ r → Answered W (closed W next ys)
-          rule true r = subst (Answered W) (sym (closed-finish W next ys z r)) (ends z)
-          rule false r = subst (Answered W) (sym (closed-further W next ys z r)) (further r)
+  closes = closed-each (Answered W) W (largest f ys) next ys (λ z. afresh (s .rounds + 1)) (λ z r. ends z) (λ z r. further r)
 
   goes-on : StateNumbers W next
   goes-on = record {

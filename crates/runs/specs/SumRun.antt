@@ -15,9 +15,9 @@ use Rattle.kinds.specs.Outcome.{outcome}
 use Rattle.kinds.specs.declared.State.{State}
 use Rattle.kinds.specs.declared.Step.{Step}
 use Rattle.kinds.specs.declared.Step.the-variants.{More, Done, Refused}
-use Rattle.extract.specs.Extract.{plusZero}
+use Rattle.extract.specs.Extract.{plusZero, largest}
 use Rattle.extract.specs.LargestLaws.{zero-positive}
-use Rattle.rounds.specs.Round.{allTaken, allLeft, allZero, closed}
+use Rattle.rounds.specs.Round.{allTaken, allLeft, allZero, closedBy, closed}
 use Rattle.rounds.specs.Fitting.{Fitting}
 use Rattle.rounds.specs.ClosedLaws.{tau1Of, fresh-each, closed-each}
 use Rattle.rounds.specs.Begun.{begun-rounds}
@@ -32,11 +32,11 @@ pub data Closed (W : Width) (F : Fitting W) (S : Whole) (s : State) (ys : List F
   goes : (e : ℕ) (s' : State) → s' .n ≡ s .n → s' .rounds ≡ s .rounds + 1 → Summing W F S e s' ys → Closed W F S s ys (More s')
 
 module _ {W : Width} {F : Fitting W} {S : Whole} {e : ℕ} {s : State} {xs : List Float} (A : Summing W F S e s xs) where
-  pub sums-close : Closed W F S s (allLeft W s xs) (closed W (allTaken W s xs) (allLeft W s xs))
+  pub sums-close : Closed W F S s (allLeft W s xs) (closedBy W (largest (W .format) (allLeft W s xs)) (allTaken W s xs) (allLeft W s xs))
   sums-close =
       let P = Closed W F S s (allLeft W s xs) in
-      closed-each P W (allTaken W s xs) (allLeft W s xs)
-      (λ z. fresh-each P W _ (s .n) (allLeft W s xs) _ (λ a. ends _ (zero-positive f .number) (nothing z a))
+      closed-each P W (largest (W .format) (allLeft W s xs)) (allTaken W s xs) (allLeft W s xs)
+      (λ z. fresh-each P W _ (s .n) _ _ (λ a. ends _ (zero-positive f .number) (nothing z a))
       (λ a. goes _ _ refl refl (sums-restart A z a)))
       (λ z r. ends _ (finished-units A .0) (sums-finish A r)) (λ z r. goes _ _ refl refl (sums-further A r))
     where

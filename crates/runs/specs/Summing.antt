@@ -28,8 +28,8 @@ use Rattle.kinds.specs.declared.State.{State}
 use Rattle.extract.specs.Extract.{plusZero, absolute, largest}
 use Rattle.extract.specs.ExtractLaws.{largest-bounds}
 use Rattle.extract.specs.LargestLaws.{zero-positive, absolute-is}
-use Rattle.rounds.specs.Round.{allTaken, allLeft, allZero, sigmaOf, roundOf, leastNormal, scaled, finished}
-use Rattle.rounds.specs.ClosedLaws.{tau1Of, finishes, not-finishes}
+use Rattle.rounds.specs.Round.{allTaken, allLeft, allZero, freshRound, leastNormal, scaled, finished}
+use Rattle.rounds.specs.ClosedLaws.{tau1Of, finishes, furtherRound, not-finishes}
 use Rattle.rounds.specs.Closes.{restarts, further, above, reached, below-normal, above-normal, threshold}
 use Rattle.rounds.specs.InUnits.{wholes, all-ready, gathers, remainders-units, remainders-small}
 use Rattle.rounds.specs.Fitting.{Fitting}
@@ -110,7 +110,7 @@ module _ {W : Width} {F : Fitting W} {S : Whole} {e : ℕ} {s : State} {xs : Lis
   -- ---- rule 2: what is left sums to S
   pub sums-restart : eq (tau1Of W (allTaken W s xs)) (plusZero (W .format)) ≡ true → allZero (W .format) (allLeft W s xs) ≡ false
       → Summing W F S (ceil (largest (W .format) (allLeft W s xs)))
-      (roundOf W (s .n) (sigmaOf (W .format) (s .n) (allLeft W s xs)) (plusZero (W .format)) (s .rounds + 1)) (allLeft W s xs)
+      (freshRound W (s .n) (largest (W .format) (allLeft W s xs)) (s .rounds + 1)) (allLeft W s xs)
   sums-restart z a = record {
     begun = restarts (A .begun) a;
     opened = rw (zero-whole f) (close-restart (prec f) (exponentOf (s .n)) (s .n) two half few closes (ceil (largest f ys)) (next-zero z)
@@ -141,8 +141,7 @@ module _ {W : Width} {F : Fitting W} {S : Whole} {e : ℕ} {s : State} {xs : Lis
   next-mag = rw (← (next-units .0)) (whole-mag (W .format) (tau1Of W (allTaken W s xs)))
 
   pub sums-further : finishes W (allTaken W s xs) ≡ false
-      → Summing W F S (exponentOf (s .n) + e - prec (W .format))
-      (roundOf W (s .n) (scaled (W .format) (exponentOf (s .n)) (s .sigma)) (tau1Of W (allTaken W s xs)) (s .rounds + 1)) (allLeft W s xs)
+      → Summing W F S (exponentOf (s .n) + e - prec (W .format)) (furtherRound W (allTaken W s xs)) (allLeft W s xs)
   sums-further r =
       let f = W .format in
       let l = above-normal (A .begun) r in

@@ -4,7 +4,7 @@ use mathlib.Core.Bool.{Bool, true, false, cond}
 use mathlib.Core.List.{List}
 use Prim.Native.Nat.{ℕ, _+_}
 use lib.Dec.{eqb}
-use lib.Ieee.{Float, eq}
+use lib.Ieee.{Float}
 use Rattle.kinds.specs.Limits.{Width}
 use Rattle.kinds.specs.declared.State.{State}
 use Rattle.kinds.specs.declared.Step.{Step}
@@ -12,8 +12,8 @@ use Rattle.kinds.specs.declared.Step.the-variants.{More, Done, Refused}
 use Rattle.kinds.specs.declared.Verdict.{Verdict}
 use Rattle.kinds.specs.declared.Verdict.the-variants as verdicts
 use Rattle.extract.specs.Extract.{plusZero}
-use Rattle.rounds.specs.Round.{turned, takenState, allZero, fresh, closed}
-use Rattle.rounds.specs.ClosedLaws.{tau1Of, finishes}
+use Rattle.rounds.specs.Round.{turned, takenState, fresh, closedBy}
+use Rattle.rounds.specs.ClosedLaws.{fresh-each, closed-each}
 use Rattle.walk.specs.Walk.{taken}
 
 -- the verdict that an answer comes from
@@ -35,15 +35,12 @@ either : (t : Bool) {a b : Step} → Accepted a → Accepted b → Accepted (con
 either true A B = A
 either false A B = B
 
-pub fresh-accepted : (W : Width) (zero : Float) (n : ℕ) (xs : List Float) (rounds : ℕ) → Accepted (fresh W zero n xs rounds)
-unfolding fresh
-fresh-accepted W zero n xs rounds = either (allZero (W .format) xs) done more
+pub fresh-accepted : (W : Width) (zero : Float) (n mu rounds : ℕ) → Accepted (fresh W zero n mu rounds)
+fresh-accepted W zero n mu rounds = fresh-each Accepted W zero n mu rounds (λ a. done) (λ a. more)
 
-closed-accepted : (W : Width) (s : State) (xs : List Float) → Accepted (closed W s xs)
-unfolding closed
-closed-accepted W s xs =
-    either (eq (tau1Of W s) (plusZero (W .format))) (fresh-accepted W (plusZero (W .format)) (s .n) xs (s .rounds + 1)) (either (finishes W s) done more)
+closed-accepted : (W : Width) (mu : ℕ) (s : State) (xs : List Float) → Accepted (closedBy W mu s xs)
+closed-accepted W mu s xs = closed-each Accepted W mu s xs (λ z. fresh-accepted W (plusZero (W .format)) (s .n) mu (s .rounds + 1)) (λ z r. done) (λ z r. more)
 
 pub taken-accepted : (W : Width) (s : State) (b : ℕ) (work : List Float) → Accepted (taken W s b work .answer)
 unfolding taken
-taken-accepted W s b work = either (eqb (takenState W s b work .pending) 0) (closed-accepted W (takenState W s b work) (turned W (s .sigma) b work)) more
+taken-accepted W s b work = either (eqb (takenState W s b work .pending) 0) (closed-accepted W _ (takenState W s b work) (turned W (s .sigma) b work)) more

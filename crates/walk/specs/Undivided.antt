@@ -20,8 +20,8 @@ use Rattle.kinds.specs.declared.Verdict.{Verdict}
 use Rattle.kinds.specs.declared.Verdict.the-variants as verdicts
 use Rattle.judge.specs.Judge.{judged, floats, zeroSign}
 use Rattle.judge.specs.JudgeLaws.{list-when, list-passed, list-allowed}
-use Rattle.extract.specs.Extract.{plusZero}
-use Rattle.rounds.specs.Round.{allZero, sigmaOf, roundOf, fresh}
+use Rattle.extract.specs.Extract.{largest}
+use Rattle.rounds.specs.Round.{allZero, freshRound, fresh}
 use Rattle.rounds.specs.Fitting.{Fitting}
 use Rattle.walk.specs.Walk.{Walked, openedAfter, opened, roundsFrom, faithfulOf}
 use Rattle.walk.specs.Opening.{opens}
@@ -41,7 +41,7 @@ module _ {W : Width} (F : Fitting W) (ps : List ℕ) (work : List Float) where
       n = length ps
 
       first : State
-      first = roundOf W n (sigmaOf (W .format) n (floats W ps)) (plusZero (W .format)) 0
+      first = freshRound W n (largest (W .format) (floats W ps)) 0
 
       round : allZero (W .format) (floats W ps) ≡ false → judged W (eqb (length work) n) true ps ≡ verdicts.Good → First W F n first (floats W ps)
       round z g =

@@ -15,6 +15,7 @@ use Rattle.kinds.specs.declared.Step.the-variants.{More, Done, Refused}
 use Rattle.kinds.specs.declared.Verdict.{Verdict}
 use Rattle.kinds.specs.declared.Verdict.the-variants as verdicts
 use Rattle.judge.specs.Judge.{judged, floats, zeroSign}
+use Rattle.extract.specs.Extract.{largest}
 use Rattle.sound.specs.Sound.{gated}
 use Rattle.rounds.specs.Round.{turned, takenState, fresh, closed}
 
@@ -28,7 +29,7 @@ unfoldable pub openedAfter : Width → Verdict → List ℕ → List Float → W
 openedAfter W verdicts.Good ps work =
     let zero = nearestFloat (W .format) (zeroSign ps) (pos 0) in
     let xs = floats W ps in
-    outcome (fresh W zero (length ps) xs 0) xs
+    outcome (fresh W zero (length ps) (largest (W .format) xs) 0) xs
 openedAfter W (verdicts.Refused k p) ps work = outcome (Refused k p) work
 
 abbrev pub opened : Width → List ℕ → List Float → Walked
