@@ -27,7 +27,7 @@ use Rattle.extract.specs.ExtractLaws.{largest-le}
 use Rattle.extract.specs.LargestLaws.{Positive, zero-positive}
 use Rattle.sound.specs.Sound.{unitsAt, gated}
 use Rattle.sound.specs.PassedLaws.{Passed}
-use Rattle.sound.specs.SoundLaws as sound
+use Rattle.sound.specs.Numbers.{FiniteWithin}
 use Rattle.rounds.specs.Round.{blockOf, turned, takenState, roundOf, freshRound, fresh, scaled, finished, closed}
 use Rattle.rounds.specs.ClosedLaws.{tau1Of, finishes, furtherRound, fresh-each, closed-each, not-finishes}
 use Rattle.rounds.specs.Closes.{scaled-positive, normal-above}
@@ -37,7 +37,7 @@ use Rattle.rounds.specs.FreshRound.{begins, largest-small}
 use Rattle.rounds.specs.InUnits.{Small, Scale, sum-plus, high-small}
 use Rattle.walk.specs.Walk.{taken, stepped}
 use Rattle.walk.specs.StepLaws.{stepped-good}
-use Rattle.walk.specs.Stepping.{sigma-sound}
+use Rattle.walk.specs.Stepping.{sigma-bounds}
 use Rattle.walk.specs.Accepted.{passes, scale, small, turned-small, turned-length}
 use Rattle.runs.specs.CloseUnits.{zero-whole, sums, last-sum, Held, held, wider, plus, tau1-units, tau2-units}
 use Rattle.runs.specs.AnyState.{Floats, StateNumbers, SumNumber, Answered, Stepped}
@@ -111,7 +111,7 @@ module _ {W : Width} (F : Fitting W) {s : State} {b : ℕ} {xs : List Float} (P 
   M = exponentOf (s .n)
 
   M-most : M ≤ F .most
-  M-most = F .most-is (s .n) (P .few)
+  M-most = F .most-is (s .n) (P .numbers .counts .few)
 
   σ : Scale f M (P .e) (s .sigma)
   σ = scale F P (h .work)
@@ -125,14 +125,14 @@ module _ {W : Width} (F : Fitting W) {s : State} {b : ℕ} {xs : List Float} (P 
   room : F .bound + 1 + 5 ≤ low f + emax f
   room = omega (arith, F .sum-room)
 
-  kept : {x : Float} → T (fits f x) → sound.Within W (unitsAt W (W .carried)) x → Held f (F .bound) x
+  kept : {x : Float} → T (fits f x) → FiniteWithin f (unitsAt W (W .carried)) x → Held f (F .bound) x
   kept fit X = held (record { number = record { fit = fit; fini = X .fini }; within = rw (F .bound-is) at (X .small) })
 
   t-held : Held f (F .bound + 1) (s .t)
-  t-held = wider (omega arith) (kept (h .t) (P .t))
+  t-held = wider (omega arith) (kept (h .t) (P .numbers .t))
 
   tau-held : Held f (F .bound + 1) (gathered f (s .sigma) (s .tau) (blockOf W b xs))
-  tau-held = gathered-held F σ (P .low) (s .tau) (blockOf W b xs) (kept (h .tau) (P .tau)) block fewer
+  tau-held = gathered-held F σ (P .low) (s .tau) (blockOf W b xs) (kept (h .tau) (P .numbers .tau)) block fewer
     where
       block : Each (Small f (2 ^ P .e)) (blockOf W b xs)
       block = each-take (Small f (2 ^ P .e)) (W .block) (drop (W .block * b) xs) (each-drop (Small f (2 ^ P .e)) (W .block * b) xs (small F P (h .work)))
@@ -153,7 +153,7 @@ module _ {W : Width} (F : Fitting W) {s : State} {b : ℕ} {xs : List Float} (P 
   -- ---- the next state
   opens : (e : ℕ) {sigma t : Float} (rounds : ℕ) → Positive f sigma (2 ^ (M + e)) → e ≤ F .top → Number f t
       → StateNumbers W (roundOf W (s .n) sigma t rounds)
-  opens e rounds S l N = record { sigma = S .number; bounds = sigma-sound F (s .n) e S l; t = N; tau = zero-positive f .number }
+  opens e rounds S l N = record { sigma = S .number; bounds = sigma-bounds F (s .n) e S l; t = N; tau = zero-positive f .number }
 
   -- rules 1 and 2
   afresh : (rounds : ℕ) → Answered W (fresh W (plusZero f) (s .n) (largest f ys) rounds)
@@ -171,7 +171,8 @@ module _ {W : Width} (F : Fitting W) {s : State} {b : ℕ} {xs : List Float} (P 
 
       -- sigma is that of a run's first round over this area
       first : Begun W F e (freshRound W (s .n) (largest f ys) 0) ys
-      first = begins (largest f ys) (P .some) (P .few) (turned-length F P (h .work) ∙ P .long) (largest-small f _ ys (turned-small F P (h .work)))
+      first = begins (largest f ys) (P .numbers .counts .some) (P .numbers .counts .few)
+          (turned-length F P (h .work) ∙ P .long) (largest-small f _ ys (turned-small F P (h .work)))
           (omega (arith, least))
 
   -- rule 4: sigma is above 2^-1022, so that 2^M eps times it is at least 2^M units
@@ -197,7 +198,7 @@ module _ {W : Width} (F : Fitting W) {s : State} {b : ℕ} {xs : List Float} (P 
   goes-on : StateNumbers W next
   goes-on = record {
     sigma = σ .power .number;
-    bounds = sigma-sound F (s .n) (P .e) (σ .power) (P .low);
+    bounds = sigma-bounds F (s .n) (P .e) (σ .power) (P .low);
     t = t-held .number;
     tau = tau-held .number;
   }

@@ -24,8 +24,8 @@ use Rattle.extract.specs.Extract.{gathered}
 use Rattle.rounds.specs.Round.{blockOf, inRound}
 use Rattle.rounds.specs.Fitting.{Fitting}
 use Rattle.rounds.specs.InUnits.{Small, Tau, wholes, all-ready, gathers, left-small}
-use Rattle.rounds.specs.Begun.{Begun, begun-rounds, first-tau, tau-bound}
-use Rattle.walk.specs.Stepping.{Stepping}
+use Rattle.rounds.specs.Begun.{Begun, first-tau, tau-bound}
+use Rattle.walk.specs.Stepping.{Stepping, begun-numbers}
 use Rattle.runs.specs.CloseUnits.{zero-whole}
 use Rattle.runs.specs.Taken.{pendingAt, takenOf, midArea}
 use Rattle.runs.specs.TakenLaws.{Over, taken-nothing, taken-fewer, mixed-nothing, mixed-each, mixed-length}
@@ -119,14 +119,9 @@ module _ {W : Width} {F : Fitting W} {e : ℕ} {s : State} {xs : List Float} (B 
   pub mid-stepping : {P : ℕ} {tau : Float} → Mid P tau → 0 < P
       → Stepping W F e (inRound s tau P) (midArea W s P xs)
   mid-stepping {P} T l = record {
-    some = B .some;
-    few = B .few;
+    numbers = begun-numbers B P (tau-bound B (T .tau-is) (omega (arith, count-small P, ceil-ge (s .n + 2))));
     count = mixed-length (pendingAt W P) (W .format) (s .sigma) 0 xs ∙ B .count;
-    rounds = begun-rounds B;
-    low = omega (arith, B .lowered);
-    scale = B .scale;
-    t = B .kept;
-    tau = tau-bound B (T .tau-is) (omega (arith, count-small P, ceil-ge (s .n + 2)));
+    sigma = B .scale .power .units;
     work = mixed-each (pendingAt W P) (W .format) (s .sigma) (Small (W .format) (2 ^ e)) (λ x X. left-small (B .scale) X) 0 xs (B .work);
     left = l;
     inside = T .inside;

@@ -20,8 +20,8 @@ use Rattle.kinds.specs.declared.Verdict.the-variants.{Good, Refused}
 use Rattle.sound.specs.Sound.{unitsAt, badPlace, sound, gated}
 use Rattle.sound.specs.Places.{firstAbove}
 use Rattle.sound.specs.PlacesLaws.{places-same}
-use Rattle.sound.specs.SigmaLaws.{Sigma, sigma-holds, sigma-exponent}
-use Rattle.sound.specs.SoundLaws.{Numbers}
+use Rattle.sound.specs.SigmaLaws.{Sigma, sigma-holds, sigma-exponent, sigma-true}
+use Rattle.sound.specs.Numbers.{Numbers}
 
 -- ---- "On a block step: 4, 8, 6, 7."
 module _ (W : Width) (s : State) (b : ℕ) (xs : List Float) where
@@ -80,7 +80,7 @@ module _ (W : Width) (top : ℕ) (is : unitsAt W (W .magnitude) ≡ 2 ^ top) (s 
     k = ceil (magnitude (W .format) (s .sigma))
 
     sigma : Sigma W (s .n) (s .sigma)
-    sigma = sigma-holds W (s .n) (s .sigma) (N .sigma)
+    sigma = sigma-holds W (s .n) (s .sigma) (sigma-true W top is (s .n) (s .sigma) (N .sigma))
 
     exps : (exponentOf (s .n) ≤ k) × (k ≤ exponentOf (s .n) + top)
     exps = sigma-exponent W top is (s .n) sigma

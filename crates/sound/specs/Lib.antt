@@ -1,5 +1,6 @@
 -- Sound states, and the gate of a block step.
 pub mod Sound
+pub mod Numbers
 pub mod Places
 pub mod WithinLaws
 pub mod SigmaLaws

@@ -106,10 +106,8 @@ module _ {W : Width} {F : Fitting W} {n : ℕ} {s : State} {xs : List Float} (R 
       let B = R .begun in
       let l : 2 ^ R .e ≤ 2 ^ F .top = pow-mono (omega (arith, B .lowered)) in
       rw (T, Y) (record {
-        some = B .some;
-        few = B .few;
+        counts = record { some = B .some; few = B .few; rounds = begun-rounds B };
         count = remainders-length (W .format) (s .sigma) xs ∙ B .count;
-        rounds = begun-rounds B;
         work = each-weaker (Small (W .format) (2 ^ R .e)) (Small (W .format) (unitsAt W (W .magnitude)))
             (λ x X. record { number = X .number; within = rw (F .top-is) (le-trans (X .within) l) })
             (allLeft W s xs) (remainders-small (B .scale) xs (B .work));

@@ -19,7 +19,7 @@ add-rounds : tie.Need-add-rounds
 add-rounds c = search needs
 
 fresh-requires : tie.Need-fresh-requires
-fresh-requires c κs = let p = c .before .before .before .before .pre in (p .count, p .few, p .work)
+fresh-requires c κs = let p = c .before .before .before .before .pre in (p .count, p .counts .few, p .work)
 
 returns : tie.Need-returns
 returns c =

@@ -21,7 +21,7 @@ held : (c : tie.After-slice-known) → Each (λ x. T (fits binary64 x)) (c .befo
 held c = each-from (λ x. T (fits binary64 x)) (c .before .args .work .now) nan (λ i l. c .slice-known .given i)
 
 take-requires : tie.Need-take-requires
-take-requires c κs = let P = through (c .before) in (P .few, P .long, P .inside)
+take-requires c κs = let P = through (c .before) in (P .numbers .counts .few, P .long, P .inside)
 
 close-requires : tie.Need-close-requires
 close-requires c κs =
