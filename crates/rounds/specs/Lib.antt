@@ -1,7 +1,7 @@
 -- One round of the faithful walk.
 pub mod Round
 pub mod Exactness
-pub mod Closing
+pub mod Closable
 pub mod Fitting
 pub mod InUnits
 pub mod Begun

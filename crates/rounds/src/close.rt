@@ -9,7 +9,7 @@ ghost use mathlib.Core.Path.{_≡_};
 ghost use Prim.Native.Nat.{_≤_};
 ghost use Rattle.kinds.specs.Limits.{doubles};
 ghost use Rattle.rounds.specs.Round.{scaled, finished, closed};
-ghost use Rattle.rounds.specs.Closing.{Closing};
+ghost use Rattle.rounds.specs.Closable.{Closable};
 
 // 2^-53 is this power of two in units of 2^-1074.
 const EPS: u32 = 1021;
@@ -32,7 +32,7 @@ fn finish(tau1: f64, t: f64, tau: f64, work: &[f64]) -> f64
 
 // "When the last pending block of a round is taken the round closes and counts."
 pub fn close(s: State, work: &[f64]) -> Step
-    requires { ⌜ Closing doubles s (now work) ⌝ }
+    requires { ⌜ Closable doubles s (now work) ⌝ }
     ensures { λ r. ⌜ r ≡ closed doubles s (now (work .entry)) ⌝ }
 {
     let n = s.n;

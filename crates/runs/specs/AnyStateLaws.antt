@@ -26,7 +26,7 @@ use Rattle.extract.specs.Extract.{plusZero, highPart, gathered, lastSum, larges
 use Rattle.extract.specs.ExtractLaws.{largest-le}
 use Rattle.extract.specs.LargestLaws.{Positive, zero-positive}
 use Rattle.sound.specs.Sound.{unitsAt, gated}
-use Rattle.sound.specs.PassedLaws.{Passed}
+use Rattle.sound.specs.AdmittedLaws.{Admitted}
 use Rattle.sound.specs.Numbers.{FiniteWithin}
 use Rattle.rounds.specs.Round.{blockOf, turned, takenState, roundOf, freshRound, fresh, scaled, finished, closed}
 use Rattle.rounds.specs.ClosedLaws.{tau1Of, finishes, furtherRound, fresh-each, closed-each, not-finishes}
@@ -38,7 +38,7 @@ use Rattle.rounds.specs.InUnits.{Small, Scale, sum-plus, high-small}
 use Rattle.walk.specs.Walk.{taken, stepped}
 use Rattle.walk.specs.StepLaws.{stepped-good}
 use Rattle.walk.specs.Stepping.{sigma-bounds}
-use Rattle.walk.specs.Accepted.{passes, scale, small, turned-small, turned-length}
+use Rattle.walk.specs.Admitted.{admits, scale, small, turned-small, turned-length}
 use Rattle.runs.specs.CloseUnits.{zero-whole, sums, last-sum, Held, held, wider, plus, tau1-units, tau2-units}
 use Rattle.runs.specs.AnyState.{Floats, StateNumbers, SumNumber, Answered, Stepped}
 
@@ -103,7 +103,7 @@ not-zero f x X z m =
     eqb-false _ _ (sym (eq-units f x (plusZero f) X (zero-positive f .number)) ∙ z) none
 
 -- ---- a state that is sound, and a block that is pending
-module _ {W : Width} (F : Fitting W) {s : State} {b : ℕ} {xs : List Float} (P : Passed W (F .top) s b xs) (h : Floats W s xs) where
+module _ {W : Width} (F : Fitting W) {s : State} {b : ℕ} {xs : List Float} (P : Admitted W (F .top) s b xs) (h : Floats W s xs) where
   abbrev f : Format
   f = W .format
 
@@ -147,8 +147,8 @@ module _ {W : Width} (F : Fitting W) {s : State} {b : ℕ} {xs : List Float} (P 
       let l : 2 ^ (M + P .e) ≤ 2 ^ (F .bound + 1) = pow-mono (omega (arith, M-most, P .low, F .tau-room)) in
       record { number = S .0; within = omega (arith, S .2, pow-add 2 M (P .e), l) }
 
-  carried-held : Held f (F .bound + 1 + 1) (tau1Of W next)
-  carried-held = tau1-units (F .bound + 1) room t-held tau-held .1
+  tau1-held : Held f (F .bound + 1 + 1) (tau1Of W next)
+  tau1-held = tau1-units (F .bound + 1) room t-held tau-held .1
 
   -- ---- the next state
   opens : (e : ℕ) {sigma t : Float} (rounds : ℕ) → Positive f sigma (2 ^ (M + e)) → e ≤ F .top → Number f t
@@ -177,7 +177,7 @@ module _ {W : Width} (F : Fitting W) {s : State} {b : ℕ} {xs : List Float} (P 
 
   -- rule 4: sigma is above 2^-1022, so that 2^M eps times it is at least 2^M units
   further : finishes W next ≡ false → StateNumbers W (furtherRound W next)
-  further r = opens (M + P .e - prec f) (s .rounds + 1) lowered (omega (arith, σ .few, P .low)) (carried-held .number)
+  further r = opens (M + P .e - prec f) (s .rounds + 1) lowered (omega (arith, σ .few, P .low)) (tau1-held .number)
     where
       normal : prec f ≤ M + P .e
       normal = normal-above f (M + P .e) (σ .power) (not-finishes W next r .0)
@@ -189,7 +189,7 @@ module _ {W : Width} (F : Fitting W) {s : State} {b : ℕ} {xs : List Float} (P 
   -- rule 3
   ends : eq (tau1Of W next) (plusZero f) ≡ false → SumNumber W (finished f (tau1Of W next) (s .t) (next .tau) ys)
   ends z =
-      let S = sum-number (F .bound + 1) room t-held tau-held ys T-held (λ m. absurd (not-zero f (tau1Of W next) (carried-held .number) z m)) in
+      let S = sum-number (F .bound + 1) room t-held tau-held ys T-held (λ m. absurd (not-zero f (tau1Of W next) (tau1-held .number) z m)) in
       record { number = S .0; plus = S .1 }
 
   closes : Answered W (closed W next ys)
@@ -215,4 +215,4 @@ module _ {W : Width} (F : Fitting W) {s : State} {b : ℕ} {xs : List Float} (P 
       by false = goes-on
 
 pub any-state : {W : Width} (F : Fitting W) (s : State) (b : ℕ) (xs : List Float) → Floats W s xs → gated W s b xs ≡ Good → Stepped W (stepped W s b xs)
-any-state {W} F s b xs h g = subst (Stepped W) (stepped-good W s b xs (gated W s b xs) g) (passed F (passes F s b xs (h .sigma) g) h)
+any-state {W} F s b xs h g = subst (Stepped W) (stepped-good W s b xs (gated W s b xs) g) (passed F (admits F s b xs (h .sigma) g) h)

@@ -25,7 +25,7 @@ use Rattle.walk.specs.Walk.{faithfulOf}
 use Rattle.runs.specs.Runs.{Ran, tried, members}
 
 -- as a round closes, with tau and the area that all its blocks have left: tau1 is t', tau2 is tau - (tau1 - t)
-pub record Closing (W : Width) (ps : List ℕ) (t tau : Float) (left : List Float) : Type 0 where
+pub record AtClose (W : Width) (ps : List ℕ) (t tau : Float) (left : List Float) : Type 0 where
   -- "at a finish by rule 3, tau1 plus tau2 plus the work numbers is S"
   pub conserves : let f = W .format in let tau1 = add f t tau in let tau2 = sub f tau (sub f tau1 t) in
       value f tau1 +ℤ value f tau2 +ℤ exactSum (map (value f) left) ≡ sumOf f ps
@@ -50,7 +50,7 @@ pub record Going (W : Width) (ps : List ℕ) (r : Ran) (s : State) : Type 0 wher
   -- document 01: "t plus tau plus all work numbers is S exactly"
   pub conserves : value (W .format) (s .t) +ℤ value (W .format) (s .tau) +ℤ exactSum (map (value (W .format)) (r .walk .area)) ≡ sumOf (W .format) ps
   pub closes : (b : ℕ) → has (s .pending) b ≡ true → without (s .pending) b ≡ 0
-      → Closing W ps (s .t) (gathered (W .format) (s .sigma) (s .tau) (blockOf W b (r .walk .area))) (tried W r b .walk .area)
+      → AtClose W ps (s .t) (gathered (W .format) (s .sigma) (s .tau) (blockOf W b (r .walk .area))) (tried W r b .walk .area)
   -- the accepted steps are those of the rounds closed, and the blocks taken since
   pub steps : r .steps + members (s .pending) (blocksOf W (s .n)) ≡ s .rounds * blocksOf W (s .n) + blocksOf W (s .n)
   pub rounds : s .rounds ≤ W .rounds

@@ -45,7 +45,7 @@ use Rattle.runs.specs.Conserved.{mid-conserves, finish-conserves}
 use Rattle.runs.specs.MidStep.{last-tau, all-left, mid-accepted, mid-refused}
 use Rattle.runs.specs.Runs.{Ran, heeded, tried}
 use Rattle.runs.specs.Reached.{tried-more, During, reached-refuses}
-use Rattle.runs.specs.Demand3.{Closing, Going}
+use Rattle.runs.specs.Demand3.{AtClose, Going}
 
 -- the values of floats, summed, are their units summed
 sum-values : (f : Format) (xs : List Float) → exactSum (map (value f) xs) ≡ int (total (wholes f xs))
@@ -117,7 +117,7 @@ module _ {W : Width} (F : Fitting W) (ps : List ℕ) (work : List Float) where
 
     -- the round that its last block closes, whatever tau and the area are written as
     closing : (tau : Float) (left : List Float) → tau ≡ allTaken W (D .first) (D .xs) .tau
-        → left ≡ allLeft W (D .first) (D .xs) → Closing W ps (D .first .t) tau left
+        → left ≡ allLeft W (D .first) (D .xs) → AtClose W ps (D .first .t) tau left
     closing tau left e i =
         let f = W .format in
         let tau1 = tau1Of W (allTaken W (D .first) (D .xs)) in

@@ -18,7 +18,7 @@ use Rattle.walk.specs.Walk.{opened, rising, stepped, faithfulOf}
 use Rattle.runs.specs.AnyState.{Floats, Stepped}
 use Rattle.runs.specs.AnyStateLaws.{any-state}
 use Rattle.runs.specs.Faithful.{FaithfulSum, faithful-promised}
-use Rattle.runs.specs.Runs.{runOf, joined, members}
+use Rattle.runs.specs.Runs.{runOf, inTurn, members}
 use Rattle.runs.specs.AnyRun.{any-run}
 use Rattle.runs.specs.Demand3.{Going, Finished}
 use Rattle.runs.specs.Demand3Laws.{run-goes, run-finishes, run-bounded, run-at-once, run-left}
@@ -43,11 +43,11 @@ faithful-32 = faithful-promised singles-fit
 
 -- ---- demand 3
 pub any-run-64 : (ps : List ℕ) (work : List Float) → Accepted doubles ps work → (π : ℕ → List ℕ)
-    → ((i : ℕ) → Perm (π i) (rising (blocksOf doubles (length ps)))) → runOf doubles ps work (joined π 51 0) .walk ≡ faithfulOf doubles ps work
+    → ((i : ℕ) → Perm (π i) (rising (blocksOf doubles (length ps)))) → runOf doubles ps work (inTurn π 51 0) .walk ≡ faithfulOf doubles ps work
 any-run-64 = any-run doubles-fit
 
 pub any-run-32 : (ps : List ℕ) (work : List Float) → Accepted singles ps work → (π : ℕ → List ℕ)
-    → ((i : ℕ) → Perm (π i) (rising (blocksOf singles (length ps)))) → runOf singles ps work (joined π 20 0) .walk ≡ faithfulOf singles ps work
+    → ((i : ℕ) → Perm (π i) (rising (blocksOf singles (length ps)))) → runOf singles ps work (inTurn π 20 0) .walk ≡ faithfulOf singles ps work
 any-run-32 = any-run singles-fit
 
 module _ (ps : List ℕ) (work : List Float) (bs : List ℕ) where

@@ -28,7 +28,7 @@ use Rattle.rounds.specs.Begun.{Begun, first-tau, tau-bound}
 use Rattle.walk.specs.Stepping.{Stepping, begun-numbers}
 use Rattle.runs.specs.CloseUnits.{zero-whole}
 use Rattle.runs.specs.Taken.{pendingAt, takenOf, midArea}
-use Rattle.runs.specs.TakenLaws.{Over, taken-nothing, taken-fewer, mixed-nothing, mixed-each, mixed-length}
+use Rattle.runs.specs.TakenLaws.{Throughout, taken-nothing, taken-fewer, mixed-nothing, mixed-each, mixed-length}
 use Rattle.runs.specs.OneBlock.{count-then, total-then}
 use Rattle.runs.specs.MembersLaws.{has-positive}
 
@@ -56,7 +56,7 @@ module _ {W : Width} {F : Fitting W} {e : ℕ} {s : State} {xs : List Float} (B 
       (omega (arith, lt-div-mul-add {a = s .n + (W .block - 1)} {b = W .block} (F .block), F .block))
 
   -- as the round opens every block is pending, and the area is the list
-  begins-all : Over (λ j. pendingAt W (s .pending) j ≡ true) 0 (length xs)
+  begins-all : Throughout (λ j. pendingAt W (s .pending) j ≡ true) 0 (length xs)
   begins-all j l h = rw (B .pending) (has-full (block-below j (omega (arith, B .count))))
 
   pub begins-area : midArea W s (s .pending) xs ≡ xs

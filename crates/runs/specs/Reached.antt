@@ -36,7 +36,7 @@ use Rattle.walk.specs.Run.{Running, run-ends, run-goes}
 use Rattle.runs.specs.Taken.{midArea}
 use Rattle.runs.specs.Summing.{Summing}
 use Rattle.runs.specs.OpenedSum.{zeroOf, opened-zero, opened-round, opened-summing}
-use Rattle.runs.specs.SumRun.{Closed, ends, goes, sums-close}
+use Rattle.runs.specs.SumRun.{SumNext, ends, goes, sums-close}
 use Rattle.runs.specs.MidRound.{Mid, mid-begins, begins-area, begins-some, mid-takes}
 use Rattle.runs.specs.MidStep.{mid-goes, mid-closes, mid-refused}
 use Rattle.runs.specs.Runs.{Ran, heeded, tried, members}
@@ -157,7 +157,7 @@ module _ (W : Width) (F : Fitting W) (ps : List ℕ) (work : List Float) where
             let m : members (D .pending) B ≡ 1 = omega (arith, fewer, rw z at fewer, members-none B) in
             rw (add-one (s .rounds), suc-mul (s .rounds) B) (omega (arith, D .steps))
 
-        go : {a : Step} → Closed W F (difference (sumOf (W .format) ps)) s left a → closed W (allTaken W s (D .xs)) left ≡ a
+        go : {a : Step} → SumNext W F (difference (sumOf (W .format) ps)) s left a → closed W (allTaken W s (D .xs)) left ≡ a
             → Reached (heeded r (outcome a left))
         go (ends x N G) e = inr (record {
           sum = x;

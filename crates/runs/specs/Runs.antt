@@ -42,9 +42,9 @@ members P zero = 0
 members P (suc count) = cond (has P count) 1 0 + members P count
 
 -- the first k orders of a sequence from i on, one after another
-unfoldable pub joined : (ℕ → List ℕ) → ℕ → ℕ → List ℕ
-joined π zero i = []
-joined π (suc k) i = π i ++ joined π k (suc i)
+unfoldable pub inTurn : (ℕ → List ℕ) → ℕ → ℕ → List ℕ
+inTurn π zero i = []
+inTurn π (suc k) i = π i ++ inTurn π k (suc i)
 
 -- that many rounds from round i on, each with its blocks in the order that π gives for it
 unfoldable pub ordered : Width → (ℕ → List ℕ) → ℕ → ℕ → Walked → Walked

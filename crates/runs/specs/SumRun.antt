@@ -27,14 +27,14 @@ use Rattle.runs.specs.CloseUnits.{zero-whole}
 use Rattle.runs.specs.Summing.{Summing, finished-units, sums-nothing, sums-restart, sums-finish, sums-further}
 
 -- ---- how a round over numbers that sum to S closes
-pub data Closed (W : Width) (F : Fitting W) (S : Whole) (s : State) (ys : List Float) : Step → Type 0 where
-  ends : (x : Float) → Number (W .format) x → Faithful (prec (W .format)) (whole (W .format) x) S → Closed W F S s ys (Done x (s .rounds + 1))
-  goes : (e : ℕ) (s' : State) → s' .n ≡ s .n → s' .rounds ≡ s .rounds + 1 → Summing W F S e s' ys → Closed W F S s ys (More s')
+pub data SumNext (W : Width) (F : Fitting W) (S : Whole) (s : State) (ys : List Float) : Step → Type 0 where
+  ends : (x : Float) → Number (W .format) x → Faithful (prec (W .format)) (whole (W .format) x) S → SumNext W F S s ys (Done x (s .rounds + 1))
+  goes : (e : ℕ) (s' : State) → s' .n ≡ s .n → s' .rounds ≡ s .rounds + 1 → Summing W F S e s' ys → SumNext W F S s ys (More s')
 
 module _ {W : Width} {F : Fitting W} {S : Whole} {e : ℕ} {s : State} {xs : List Float} (A : Summing W F S e s xs) where
-  pub sums-close : Closed W F S s (allLeft W s xs) (closedBy W (largest (W .format) (allLeft W s xs)) (allTaken W s xs) (allLeft W s xs))
+  pub sums-close : SumNext W F S s (allLeft W s xs) (closedBy W (largest (W .format) (allLeft W s xs)) (allTaken W s xs) (allLeft W s xs))
   sums-close =
-      let P = Closed W F S s (allLeft W s xs) in
+      let P = SumNext W F S s (allLeft W s xs) in
       closed-each P W (largest (W .format) (allLeft W s xs)) (allTaken W s xs) (allLeft W s xs)
       (λ z. fresh-each P W _ (s .n) _ _ (λ a. ends _ (zero-positive f .number) (nothing z a))
       (λ a. goes _ _ refl refl (sums-restart A z a)))
@@ -69,7 +69,7 @@ module _ {W : Width} {F : Fitting W} {S : Whole} {n : ℕ} where
     sum-goes : (s' : State) → closed W (allTaken W s xs) (allLeft W s xs) ≡ More s' → SumRunning W F S n s' (allLeft W s xs) × (s' .rounds ≡ s .rounds + 1)
     sum-goes s' h = go (sums-close (A .summing)) h
       where
-        go : {q : Step} → Closed W F S s (allLeft W s xs) q → q ≡ More s'
+        go : {q : Step} → SumNext W F S s (allLeft W s xs) q → q ≡ More s'
             → SumRunning W F S n s' (allLeft W s xs) × (s' .rounds ≡ s .rounds + 1)
         go (ends x N G) h = apart (cc)
         go (goes e next same more B) h =
@@ -84,7 +84,7 @@ module _ {W : Width} {F : Fitting W} {S : Whole} {n : ℕ} where
         R : Running W F n s xs
         R = sum-running A
 
-        go : {q : Step} → Closed W F S s (allLeft W s xs) q → q ≡ Done x r
+        go : {q : Step} → SumNext W F S s (allLeft W s xs) q → q ≡ Done x r
             → Faithfully W S (roundsFrom W (blocksOf W n) (suc k) (outcome (More s) xs))
         go (ends y N G) e =
             let v : y ≡ x = cc in

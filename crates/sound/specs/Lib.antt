@@ -8,4 +8,4 @@ pub mod DoublesLaws
 pub mod PlacesLaws
 pub mod SoundLaws
 pub mod GateLaws
-pub mod PassedLaws
+pub mod AdmittedLaws

@@ -22,25 +22,25 @@ verdictOf (More s) = verdicts.Good
 verdictOf (Done x r) = verdicts.Good
 verdictOf (Refused k i) = verdicts.Refused k i
 
-pub record Accepted (a : Step) : Type 0 where
+pub record Unrefused (a : Step) : Type 0 where
   pub good : verdictOf a ≡ verdicts.Good
 
-done : {x : Float} {r : ℕ} → Accepted (Done x r)
+done : {x : Float} {r : ℕ} → Unrefused (Done x r)
 done = record { good = refl }
 
-more : {s : State} → Accepted (More s)
+more : {s : State} → Unrefused (More s)
 more = record { good = refl }
 
-either : (t : Bool) {a b : Step} → Accepted a → Accepted b → Accepted (cond t a b)
+either : (t : Bool) {a b : Step} → Unrefused a → Unrefused b → Unrefused (cond t a b)
 either true A B = A
 either false A B = B
 
-pub fresh-accepted : (W : Width) (zero : Float) (n mu rounds : ℕ) → Accepted (fresh W zero n mu rounds)
-fresh-accepted W zero n mu rounds = fresh-each Accepted W zero n mu rounds (λ a. done) (λ a. more)
+pub fresh-accepted : (W : Width) (zero : Float) (n mu rounds : ℕ) → Unrefused (fresh W zero n mu rounds)
+fresh-accepted W zero n mu rounds = fresh-each Unrefused W zero n mu rounds (λ a. done) (λ a. more)
 
-closed-accepted : (W : Width) (mu : ℕ) (s : State) (xs : List Float) → Accepted (closedBy W mu s xs)
-closed-accepted W mu s xs = closed-each Accepted W mu s xs (λ z. fresh-accepted W (plusZero (W .format)) (s .n) mu (s .rounds + 1)) (λ z r. done) (λ z r. more)
+closed-accepted : (W : Width) (mu : ℕ) (s : State) (xs : List Float) → Unrefused (closedBy W mu s xs)
+closed-accepted W mu s xs = closed-each Unrefused W mu s xs (λ z. fresh-accepted W (plusZero (W .format)) (s .n) mu (s .rounds + 1)) (λ z r. done) (λ z r. more)
 
-pub taken-accepted : (W : Width) (s : State) (b : ℕ) (work : List Float) → Accepted (taken W s b work .answer)
+pub taken-accepted : (W : Width) (s : State) (b : ℕ) (work : List Float) → Unrefused (taken W s b work .answer)
 unfolding taken
 taken-accepted W s b work = either (eqb (takenState W s b work .pending) 0) (closed-accepted W _ (takenState W s b work) (turned W (s .sigma) b work)) more

@@ -17,7 +17,7 @@ use Rattle.kinds.specs.declared.Step.the-variants.{More, Done, Refused}
 use Rattle.extract.specs.ExtractLaws.{remainders-length}
 use Rattle.rounds.specs.Round.{allTaken, allLeft, closed}
 use Rattle.rounds.specs.InUnits.{Small, remainders-small}
-use Rattle.rounds.specs.Closing.{Closing}
+use Rattle.rounds.specs.Closable.{Closable}
 use Rattle.rounds.specs.Fitting.{Fitting}
 use Rattle.rounds.specs.Begun.{Begun, begun-rounds}
 use Rattle.rounds.specs.Closes.{Next, ends, goes, falls}
@@ -101,8 +101,8 @@ module _ {W : Width} {F : Fitting W} {n : ℕ} {s : State} {xs : List Float} (R 
   remaining = omega (arith, begun-rounds (R .begun))
 
   -- what the code of a close asks
-  pub walk-closing : Closing W taken ys
-  walk-closing =
+  pub walk-closable : Closable W taken ys
+  walk-closable =
       let B = R .begun in
       let l : 2 ^ R .e ≤ 2 ^ F .top = pow-mono (omega (arith, B .lowered)) in
       rw (T, Y) (record {

@@ -11,7 +11,7 @@ use Rattle.sound.specs.Numbers.{Counts}
 use Rattle.rounds.specs.InUnits.{Small}
 
 -- n and the rounds are those of a sound state, and the work numbers are as small as a list's may be
-pub record Closing (W : Width) (s : State) (xs : List Float) : Type 0 where
+pub record Closable (W : Width) (s : State) (xs : List Float) : Type 0 where
   pub counts : Counts W (s .n) (s .rounds)
   pub count : length xs ≡ s .n
   pub work : Each (Small (W .format) (unitsAt W (W .magnitude))) xs

@@ -24,7 +24,7 @@ use Rattle.sound.specs.SigmaLaws.{Sigma, sigma-holds, sigma-exponent, si
 use Rattle.sound.specs.SoundLaws.{at-most-holds, pending-holds, sound-holds}
 use Rattle.sound.specs.GateLaws.{Open, gated-open}
 
-pub record Passed (W : Width) (top : ℕ) (s : State) (b : ℕ) (xs : List Float) : Type 0 where
+pub record Admitted (W : Width) (top : ℕ) (s : State) (b : ℕ) (xs : List Float) : Type 0 where
   pub long : length xs ≡ s .n
   pub numbers : Numbers W s
   pub e : ℕ
@@ -48,9 +48,9 @@ all-within W most (x ∷ xs) h = go (atMost W most x) refl h (all-within W most 
     go false e h more = absurd (omega arith)
 
 -- 2^top is the largest magnitude in units, and the largest sigma is a float
-pub passed : (W : Width) (top : ℕ) → unitsAt W (W .magnitude) ≡ 2 ^ top → ((n : ℕ) → n ≤ W .length → exponentOf n + top < powers (W .format))
-    → (s : State) (b : ℕ) (xs : List Float) → T (fits (W .format) (s .sigma)) → gated W s b xs ≡ Good → Passed W top s b xs
-passed W top is room s b xs fit h = record {
+pub admitted : (W : Width) (top : ℕ) → unitsAt W (W .magnitude) ≡ 2 ^ top → ((n : ℕ) → n ≤ W .length → exponentOf n + top < powers (W .format))
+    → (s : State) (b : ℕ) (xs : List Float) → T (fits (W .format) (s .sigma)) → gated W s b xs ≡ Good → Admitted W top s b xs
+admitted W top is room s b xs fit h = record {
   long = O .long;
   numbers = N;
   e = k - exponentOf (s .n);
