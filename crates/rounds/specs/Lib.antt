@@ -9,6 +9,5 @@ pub mod FreshRound
 pub mod Blocks
 pub mod Closes
 pub mod Instances
-pub mod CutLaws
 pub mod SigmaLaws
 pub mod ClosedLaws

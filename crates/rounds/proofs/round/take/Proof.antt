@@ -10,7 +10,7 @@ use lib.Seq.{drop-drop}
 use Rattle.extract.specs.Extract.{gathered}
 use Rattle.kinds.specs.Limits.{doubles}
 use Rattle.rounds.specs.Round.{blockOf, turned, inRound}
-use Rattle.rounds.specs.CutLaws.{take-cut, drop-cut}
+use Rattle.rounds.proofs.CutLaws.{take-cut, drop-cut}
 use Rattle.rounds.proofs.round.take.Statement.{statement}
 use Rattle.rounds.proofs.round.take.Tie as tie
 
