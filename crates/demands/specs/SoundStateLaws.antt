@@ -19,7 +19,8 @@ use Rattle.lists.specs.Bitset.{has}
 use Rattle.lists.specs.Each.{Each}
 use Rattle.kinds.specs.Limits.{Width, doubles, exponentOf, blocksOf}
 use Rattle.kinds.specs.declared.State.{State}
-use Rattle.sound.specs.Sound.{unitsAt, soundPending, soundPlace, badPlace, sound}
+use Rattle.judge.specs.Table.{sizeOf}
+use Rattle.sound.specs.Sound.{soundPending, soundPlace, badPlace, sound}
 use Rattle.sound.specs.Numbers.{limitExponent}
 use Rattle.sound.specs.SigmaLaws.{both-true}
 use Rattle.sound.specs.SoundLaws.{numbers-true, pending-holds, sound-holds}
@@ -96,7 +97,7 @@ module _ (W : Width) (s : State) where
   pending-sound p h = simp (lt-ltb _ _ (has-some (s .pending) (p .0) (p .1)), lt-ltb _ _ (all-below (blocksOf W (s .n)) (s .pending) h))
 
   -- ---- all of it, where the largest magnitude is a power of two
-  module _ (top : ℕ) (is : unitsAt W (W .magnitude) ≡ 2 ^ top) (xs : List Float) where
+  module _ (top : ℕ) (is : sizeOf W (W .magnitude) ≡ 2 ^ top) (xs : List Float) where
     holds : sound W s xs ≡ true → SoundState W s xs
     unfolding Place
     holds h =
@@ -128,6 +129,6 @@ sound-doubles s = sound-state doubles s (doubles-fit .top) (doubles-fit .top-is)
 pub limit-doubles : limitExponent doubles ≡ 2074
 limit-doubles = magnitude-exponent
 
-pub carried-doubles : unitsAt doubles (doubles .carried) ≡ 2 ^ 2086
+pub carried-doubles : sizeOf doubles (doubles .carried) ≡ 2 ^ 2086
 unfolding magnitude ofBits
 carried-doubles = refl

@@ -20,7 +20,8 @@ use Rattle.kinds.specs.declared.Verdict.{Verdict}
 use Rattle.kinds.specs.declared.Verdict.the-variants as verdicts
 use Rattle.judge.specs.Judge.{judged, zeroSign}
 use Rattle.judge.specs.JudgeLaws.{list-when}
-use Rattle.sound.specs.Sound.{unitsAt, gated}
+use Rattle.judge.specs.Table.{sizeOf}
+use Rattle.sound.specs.Sound.{gated}
 use Rattle.rounds.specs.Fitting.{Fitting}
 use Rattle.walk.specs.NoRefusal.{verdictOf, fresh-accepted, taken-accepted}
 use Rattle.walk.specs.Walk.{Walked, opened, openedAfter, stepped, steppedAfter, faithfulOf}
@@ -70,7 +71,7 @@ module _ (W : Width) (s : State) (b : ℕ) (work : List Float) where
   }
   step-after (verdicts.Refused l j) = record { from = refl; kept = λ k i e. refl }
 
-  module _ (top : ℕ) (is : unitsAt W (W .magnitude) ≡ 2 ^ top) (k i : ℕ) where
+  module _ (top : ℕ) (is : sizeOf W (W .magnitude) ≡ 2 ^ top) (k i : ℕ) where
     pub step-refused : (stepped W s b work .answer ≡ Refused k i) ↔ StepWhen W s b work (verdicts.Refused k i)
     step-refused = refusals (step-after (gated W s b work)) (StepWhen W s b work) (step-when W top is s b work) k i
 

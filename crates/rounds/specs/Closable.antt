@@ -6,7 +6,7 @@ use lib.Ieee.{Float}
 use Rattle.lists.specs.Each.{Each}
 use Rattle.kinds.specs.Limits.{Width}
 use Rattle.kinds.specs.declared.State.{State}
-use Rattle.sound.specs.Sound.{unitsAt}
+use Rattle.judge.specs.Table.{sizeOf}
 use Rattle.sound.specs.Numbers.{Counts}
 use Rattle.rounds.specs.InUnits.{Small}
 
@@ -14,4 +14,4 @@ use Rattle.rounds.specs.InUnits.{Small}
 pub record Closable (W : Width) (s : State) (xs : List Float) : Type 0 where
   pub counts : Counts W (s .n) (s .rounds)
   pub count : length xs ≡ s .n
-  pub work : Each (Small (W .format) (unitsAt W (W .magnitude))) xs
+  pub work : Each (Small (W .format) (sizeOf W (W .magnitude))) xs

@@ -8,7 +8,7 @@ ghost use lib.ListN.{length};
 ghost use Rattle.units.specs.Rounding.{ceil};
 ghost use Rattle.ieee.specs.Units.{negative, magnitude};
 ghost use Rattle.exponent.specs.Power.{powerOf};
-ghost use Rattle.sound.specs.Sound.{unitsAt};
+ghost use Rattle.judge.specs.Table.{sizeOf};
 ghost use Rattle.kinds.specs.Limits.{doubles, exponentOf, blocksOf};
 ghost use Rattle.rounds.specs.InUnits.{Small};
 ghost use Rattle.rounds.specs.Round.{turned, takenState, allTaken, allLeft, roundOf};
@@ -24,7 +24,7 @@ pub fn begin(n: usize, sigma: f64, t: f64, rounds: u32) -> State
 
 // "e the least whole number with mu at most 2^e, sigma = 2^(M+e)"
 pub fn sigma(n: usize, mu: f64) -> f64
-    requires { ⌜ (n ≤ doubles .length) × Small (doubles .format) (unitsAt doubles (doubles .magnitude)) mu × (negative mu ≡ false) ⌝ }
+    requires { ⌜ (n ≤ doubles .length) × Small (doubles .format) (sizeOf doubles (doubles .magnitude)) mu × (negative mu ≡ false) ⌝ }
     ensures { λ r. ⌜ r ≡ powerOf (doubles .format) (exponentOf n + ceil (magnitude (doubles .format) mu)) ⌝ }
 {
     exponent::power(Doubles::of(n).exponent() + exponent::ceiling(mu))

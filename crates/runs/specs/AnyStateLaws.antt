@@ -25,7 +25,8 @@ use Rattle.kinds.specs.declared.Verdict.the-variants.{Good}
 use Rattle.extract.specs.Extract.{plusZero, highPart, gathered, lastSum, largest}
 use Rattle.extract.specs.ExtractLaws.{largest-le}
 use Rattle.extract.specs.LargestLaws.{Positive, zero-positive}
-use Rattle.sound.specs.Sound.{unitsAt, gated}
+use Rattle.judge.specs.Table.{sizeOf}
+use Rattle.sound.specs.Sound.{gated}
 use Rattle.sound.specs.AdmittedLaws.{Admitted}
 use Rattle.sound.specs.Numbers.{FiniteWithin}
 use Rattle.rounds.specs.Round.{blockOf, turned, takenState, roundOf, freshRound, fresh, scaled, finished, closed}
@@ -125,7 +126,7 @@ module _ {W : Width} (F : Fitting W) {s : State} {b : ℕ} {xs : List Float} (P 
   room : F .bound + 1 + 5 ≤ low f + emax f
   room = omega (arith, F .sum-room)
 
-  kept : {x : Float} → T (fits f x) → FiniteWithin f (unitsAt W (W .carried)) x → Held f (F .bound) x
+  kept : {x : Float} → T (fits f x) → FiniteWithin f (sizeOf W (W .carried)) x → Held f (F .bound) x
   kept fit X = held (record { number = record { fit = fit; fini = X .fini }; within = rw (F .bound-is) at (X .small) })
 
   t-held : Held f (F .bound + 1) (s .t)

@@ -16,7 +16,8 @@ use Rattle.exponent.specs.Power.{powers, powerOf}
 use Rattle.kinds.specs.Limits.{Width, exponentOf, blocksOf}
 use Rattle.kinds.specs.declared.State.{State}
 use Rattle.kinds.specs.declared.Verdict.the-variants.{Good}
-use Rattle.sound.specs.Sound.{unitsAt, atMost, soundSigma, soundPending, badPlace, gated}
+use Rattle.judge.specs.Table.{sizeOf}
+use Rattle.sound.specs.Sound.{atMost, soundSigma, soundPending, badPlace, gated}
 use Rattle.sound.specs.Numbers.{FiniteWithin, Numbers}
 use Rattle.sound.specs.Places.{firstAbove}
 use Rattle.sound.specs.PlacesLaws.{places-same}
@@ -48,7 +49,7 @@ all-within W most (x ∷ xs) h = go (atMost W most x) refl h (all-within W most 
     go false e h more = absurd (omega arith)
 
 -- 2^top is the largest magnitude in units, and the largest sigma is a float
-pub admitted : (W : Width) (top : ℕ) → unitsAt W (W .magnitude) ≡ 2 ^ top → ((n : ℕ) → n ≤ W .length → exponentOf n + top < powers (W .format))
+pub admitted : (W : Width) (top : ℕ) → sizeOf W (W .magnitude) ≡ 2 ^ top → ((n : ℕ) → n ≤ W .length → exponentOf n + top < powers (W .format))
     → (s : State) (b : ℕ) (xs : List Float) → T (fits (W .format) (s .sigma)) → gated W s b xs ≡ Good → Admitted W top s b xs
 admitted W top is room s b xs fit h = record {
   long = O .long;

@@ -17,7 +17,8 @@ use Rattle.exponent.specs.PowerLaws.{power-number, power-negative, power-magnit
 use Rattle.kinds.specs.Limits.{Width, exponentOf, blocksOf}
 use Rattle.kinds.specs.declared.State.{State}
 use Rattle.kinds.specs.declared.Verdict.the-variants.{Good, Refused}
-use Rattle.sound.specs.Sound.{unitsAt, badPlace, sound, gated}
+use Rattle.judge.specs.Table.{sizeOf}
+use Rattle.sound.specs.Sound.{badPlace, sound, gated}
 use Rattle.sound.specs.Places.{firstAbove}
 use Rattle.sound.specs.PlacesLaws.{places-same}
 use Rattle.sound.specs.SigmaLaws.{Sigma, sigma-holds, sigma-exponent, sigma-true}
@@ -71,7 +72,7 @@ module _ (W : Width) (s : State) (b : ℕ) (xs : List Float) where
       go false q r t P Q R S e = apart (cc)
 
 -- ---- 2^-M sigma as a float. 2^top is the largest magnitude in units
-module _ (W : Width) (top : ℕ) (is : unitsAt W (W .magnitude) ≡ 2 ^ top) (s : State) (N : Numbers W s) (room : exponentOf (s .n) + top < powers (W .format))
+module _ (W : Width) (top : ℕ) (is : sizeOf W (W .magnitude) ≡ 2 ^ top) (s : State) (N : Numbers W s) (room : exponentOf (s .n) + top < powers (W .format))
   where
     abbrev f : Format
     f = W .format

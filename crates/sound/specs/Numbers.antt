@@ -9,11 +9,11 @@ use Rattle.units.specs.Rounding.{ceil}
 use Rattle.ieee.specs.Units.{negative, magnitude}
 use Rattle.kinds.specs.Limits.{Width, exponentOf}
 use Rattle.kinds.specs.declared.State.{State}
-use Rattle.sound.specs.Sound.{unitsAt}
+use Rattle.judge.specs.Table.{sizeOf}
 
 -- the exponent of the largest magnitude in units: 2^1000 is 2^2074 units
 abbrev pub limitExponent : Width → ℕ
-limitExponent W = ceil (unitsAt W (W .magnitude))
+limitExponent W = ceil (sizeOf W (W .magnitude))
 
 -- the float 2^k units, for some k between two bounds
 pub record PowerBetween (f : Format) (least most : ℕ) (x : Float) : Type 0 where
@@ -43,5 +43,5 @@ pub record Numbers (W : Width) (s : State) : Type 0 where
   pub counts : Counts W (s .n) (s .rounds)
   pub sigma : SigmaBetween W (s .n) (s .sigma)
   -- "t and tau are finite, of magnitude at most 2^1012"
-  pub t : FiniteWithin (W .format) (unitsAt W (W .carried)) (s .t)
-  pub tau : FiniteWithin (W .format) (unitsAt W (W .carried)) (s .tau)
+  pub t : FiniteWithin (W .format) (sizeOf W (W .carried)) (s .t)
+  pub tau : FiniteWithin (W .format) (sizeOf W (W .carried)) (s .tau)

@@ -21,7 +21,8 @@ use Rattle.lists.specs.Apart.{apart}
 use Rattle.exponent.specs.Power.{powers, powerOf}
 use Rattle.exponent.specs.PowerLaws.{power-number, power-negative, power-magnitude, power-whole, power-same}
 use Rattle.kinds.specs.Limits.{Width, exponentOf}
-use Rattle.sound.specs.Sound.{unitsAt, soundSigma}
+use Rattle.judge.specs.Table.{sizeOf}
+use Rattle.sound.specs.Sound.{soundSigma}
 use Rattle.sound.specs.Numbers.{limitExponent, SigmaBetween}
 use Rattle.sound.specs.WithinLaws.{between, positive-whole}
 
@@ -34,7 +35,7 @@ pub record Sigma (W : Width) (n : ℕ) (x : Float) : Type 0 where
   pub positive : negative x ≡ false
   pub power : magnitude (W .format) x ≡ 2 ^ ceil (magnitude (W .format) x)
   pub least : 2 ^ exponentOf n ≤ magnitude (W .format) x
-  pub most : magnitude (W .format) x ≤ 2 ^ exponentOf n * unitsAt W (W .magnitude)
+  pub most : magnitude (W .format) x ≤ 2 ^ exponentOf n * sizeOf W (W .magnitude)
 
 pub sigma-holds : (W : Width) (n : ℕ) (x : Float) → soundSigma W n x ≡ true → Sigma W n x
 unfolding soundSigma
@@ -44,7 +45,7 @@ sigma-holds W n x h =
     let B = not (negative x) in
     let C = eqb m (2 ^ ceil m) in
     let D = leb (2 ^ exponentOf n) m in
-    let E = leb m (2 ^ exponentOf n * unitsAt W (W .magnitude)) in
+    let E = leb m (2 ^ exponentOf n * sizeOf W (W .magnitude)) in
     let e = both-true (A && B && C && D) E h in
     let d = both-true (A && B && C) D (e .0) in
     let c = both-true (A && B) C (d .0) in
@@ -54,7 +55,7 @@ sigma-holds W n x h =
       positive = not-true (negative x) (b .1);
       power = eqb-true m (2 ^ ceil m) (c .1);
       least = leb-true (2 ^ exponentOf n) m (d .1);
-      most = leb-true m (2 ^ exponentOf n * unitsAt W (W .magnitude)) (e .1);
+      most = leb-true m (2 ^ exponentOf n * sizeOf W (W .magnitude)) (e .1);
     }
 
 exponents : {m : ℕ} (M top : ℕ) → 2 ^ M ≤ m → m ≤ 2 ^ (M + top) → (M ≤ ceil m) × (ceil m ≤ M + top)
@@ -128,8 +129,8 @@ module _ (f : Format) (M top : ℕ) (room : M + top < powers f) (x : Float) (fit
       l = omega (arith, inside-exponent I)
 
 -- ---- a sound sigma is in range and equals the power of two at its exponent. 2^top is the largest magnitude in units
-module _ (W : Width) (top : ℕ) (is : unitsAt W (W .magnitude) ≡ 2 ^ top) (n : ℕ) where
-  high : 2 ^ exponentOf n * unitsAt W (W .magnitude) ≡ 2 ^ (exponentOf n + top)
+module _ (W : Width) (top : ℕ) (is : sizeOf W (W .magnitude) ≡ 2 ^ top) (n : ℕ) where
+  high : 2 ^ exponentOf n * sizeOf W (W .magnitude) ≡ 2 ^ (exponentOf n + top)
   high = rw is (sym (pow-add 2 (exponentOf n) top))
 
   pub sigma-exponent : {x : Float} → Sigma W n x → (exponentOf n ≤ ceil (magnitude (W .format) x)) × (ceil (magnitude (W .format) x) ≤ exponentOf n + top)
@@ -162,7 +163,7 @@ module _ (W : Width) (top : ℕ) (is : unitsAt W (W .magnitude) ≡ 2 ^ top) (n 
       most : 2 ^ P .k ≤ 2 ^ exponentOf n * 2 ^ top
       most = rw (← (pow-add 2 (exponentOf n) top)) (pow-mono (omega (arith, P .to, limit-is)))
 
-module _ (W : Width) (top : ℕ) (is : unitsAt W (W .magnitude) ≡ 2 ^ top) (n : ℕ) (room : exponentOf n + top < powers (W .format))
+module _ (W : Width) (top : ℕ) (is : sizeOf W (W .magnitude) ≡ 2 ^ top) (n : ℕ) (room : exponentOf n + top < powers (W .format))
     (x : Float) (fit : T (fits (W .format) x)) where
   pub sigma-inside : soundSigma W n x ≡ true → Inside (W .format) (exponentOf n) top x
   sigma-inside h =
@@ -174,7 +175,7 @@ module _ (W : Width) (top : ℕ) (is : unitsAt W (W .magnitude) ≡ 2 ^ top) (n 
   sigma-in h =
       let I = range-inside (W .format) (exponentOf n) top room x fit h in
       let m = magnitude (W .format) x in
-      let most = 2 ^ exponentOf n * unitsAt W (W .magnitude) in
+      let most = 2 ^ exponentOf n * sizeOf W (W .magnitude) in
       all (finite x) (not (negative x)) (eqb m (2 ^ ceil m)) (leb (2 ^ exponentOf n) m) (leb m most)
       (is-true (finite x) (I .number .fini)) (ap not (I .positive)) (le-leb (2 ^ exponentOf n) m (I .least)) (le-leb m most (rw (high W top is n) (I .most)))
       ∙ sym (inside-power (W .format) (exponentOf n) top room x fit I)

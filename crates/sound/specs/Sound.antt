@@ -4,25 +4,22 @@ use mathlib.Core.List.{List, [], _∷_}
 use Prim.Native.Nat.{ℕ, _+_, _*_, _^_}
 use lib.Dec.{leb, ltb, eqb}
 use lib.ListN.{length}
-use lib.Ieee.{Float, ofBits}
+use lib.Ieee.{Float}
 use lib.Ieee.Scale.{finite}
 use Rattle.units.specs.Rounding.{ceil}
 use Rattle.ieee.specs.Units.{negative, magnitude}
 use Rattle.lists.specs.Bitset.{has}
+use Rattle.judge.specs.Table.{sizeOf}
 use Rattle.kinds.specs.Limits.{Width, exponentOf, blocksOf}
 use Rattle.kinds.specs.declared.State.{State}
 use Rattle.kinds.specs.declared.Verdict.{Verdict}
 use Rattle.kinds.specs.declared.Verdict.the-variants.{Good, Refused}
 
--- the magnitude of a pattern, in units
-abbrev pub unitsAt : Width → ℕ → ℕ
-unitsAt W p = magnitude (W .format) (ofBits (W .format) p)
-
 -- "sigma is a power of two from 2^(M-1074) to 2^(1000+M)": in units from 2^M to 2^M times the limit
 unfoldable pub soundSigma : Width → ℕ → Float → Bool
 soundSigma W n sigma =
     let m = magnitude (W .format) sigma in
-    finite sigma && not (negative sigma) && eqb m (2 ^ ceil m) && leb (2 ^ exponentOf n) m && leb m (2 ^ exponentOf n * unitsAt W (W .magnitude))
+    finite sigma && not (negative sigma) && eqb m (2 ^ ceil m) && leb (2 ^ exponentOf n) m && leb m (2 ^ exponentOf n * sizeOf W (W .magnitude))
 
 -- "finite, of magnitude at most" so many units
 unfoldable pub atMost : Width → ℕ → Float → Bool
@@ -32,7 +29,7 @@ atMost W most x = finite x && leb (magnitude (W .format) x) most
 unfoldable pub soundNumbers : Width → State → Bool
 soundNumbers W s =
     leb 1 (s .n) && leb (s .n) (W .length) && leb (s .rounds) (W .rounds) && soundSigma W (s .n) (s .sigma)
-    && atMost W (unitsAt W (W .carried)) (s .t) && atMost W (unitsAt W (W .carried)) (s .tau)
+    && atMost W (sizeOf W (W .carried)) (s .t) && atMost W (sizeOf W (W .carried)) (s .tau)
 
 -- "the pending set is not empty and has no bit at or above B"
 unfoldable pub soundPending : Width → State → Bool

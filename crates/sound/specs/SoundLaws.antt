@@ -16,7 +16,8 @@ use Rattle.ieee.specs.Fractions.{same-test}
 use Rattle.lists.specs.Bitset.{full}
 use Rattle.kinds.specs.Limits.{Width, blocksOf}
 use Rattle.kinds.specs.declared.State.{State}
-use Rattle.sound.specs.Sound.{unitsAt, soundSigma, atMost, soundNumbers, soundPending, badPlace, sound}
+use Rattle.judge.specs.Table.{sizeOf}
+use Rattle.sound.specs.Sound.{soundSigma, atMost, soundNumbers, soundPending, badPlace, sound}
 use Rattle.sound.specs.Numbers.{FiniteWithin, Numbers}
 use Rattle.sound.specs.SigmaLaws.{both-true, sigma-between, sigma-true}
 
@@ -43,8 +44,8 @@ module _ (W : Width) (s : State) where
   pub numbers-are : 1 ≤ s .n → s .n ≤ W .length
       → soundNumbers W s
       ≡ (leb (s .rounds) (W .rounds) && soundSigma W (s .n) (s .sigma)
-      && atMost W (unitsAt W (W .carried)) (s .t)
-      && atMost W (unitsAt W (W .carried)) (s .tau))
+      && atMost W (sizeOf W (W .carried)) (s .t)
+      && atMost W (sizeOf W (W .carried)) (s .tau))
   unfolding soundNumbers
   numbers-are h k = rw (le-leb 1 (s .n) h, le-leb (s .n) (W .length) k)
 
@@ -79,7 +80,7 @@ module _ (W : Width) (s : State) where
     sound-places h k = rw (h, k)
 
 -- ---- the tests are what they say, where the largest magnitude is 2^top units
-module _ (W : Width) (top : ℕ) (is : unitsAt W (W .magnitude) ≡ 2 ^ top) (s : State) where
+module _ (W : Width) (top : ℕ) (is : sizeOf W (W .magnitude) ≡ 2 ^ top) (s : State) where
   pub numbers-hold : soundNumbers W s ≡ true → Numbers W s
   unfolding soundNumbers
   numbers-hold h =
@@ -87,8 +88,8 @@ module _ (W : Width) (top : ℕ) (is : unitsAt W (W .magnitude) ≡ 2 ^ top) (s 
       let B = leb (s .n) (W .length) in
       let C = leb (s .rounds) (W .rounds) in
       let D = soundSigma W (s .n) (s .sigma) in
-      let E = atMost W (unitsAt W (W .carried)) (s .t) in
-      let F = atMost W (unitsAt W (W .carried)) (s .tau) in
+      let E = atMost W (sizeOf W (W .carried)) (s .t) in
+      let F = atMost W (sizeOf W (W .carried)) (s .tau) in
       let f = both-true (A && B && C && D && E) F h in
       let e = both-true (A && B && C && D) E (f .0) in
       let d = both-true (A && B && C) D (e .0) in
@@ -101,8 +102,8 @@ module _ (W : Width) (top : ℕ) (is : unitsAt W (W .magnitude) ≡ 2 ^ top) (s 
           rounds = omega (arith, leb-true (s .rounds) (W .rounds) (c .1));
         };
         sigma = sigma-between W top is (s .n) (s .sigma) (d .1);
-        t = at-most-holds W (unitsAt W (W .carried)) (s .t) (e .1);
-        tau = at-most-holds W (unitsAt W (W .carried)) (s .tau) (f .1);
+        t = at-most-holds W (sizeOf W (W .carried)) (s .t) (e .1);
+        tau = at-most-holds W (sizeOf W (W .carried)) (s .tau) (f .1);
       }
 
   pub numbers-true : Numbers W s → soundNumbers W s ≡ true
@@ -113,8 +114,8 @@ module _ (W : Width) (top : ℕ) (is : unitsAt W (W .magnitude) ≡ 2 ^ top) (s 
         le-leb (s .n) (W .length) (omega (arith, N .counts .few)),
         le-leb (s .rounds) (W .rounds) (omega (arith, N .counts .rounds)),
         sigma-true W top is (s .n) (s .sigma) (N .sigma),
-        at-most-true W (unitsAt W (W .carried)) (s .t) (N .t),
-        at-most-true W (unitsAt W (W .carried)) (s .tau) (N .tau),
+        at-most-true W (sizeOf W (W .carried)) (s .t) (N .t),
+        at-most-true W (sizeOf W (W .carried)) (s .tau) (N .tau),
       )
 
   pub sound-holds : (xs : List Float) → sound W s xs ≡ true → Numbers W s × (soundPending W s ≡ true) × (badPlace W s xs ≡ length xs)

@@ -10,7 +10,8 @@ ghost use lib.Ieee.Scale.{finite};
 ghost use Rattle.units.specs.Rounding.{ceil};
 ghost use Rattle.ieee.specs.Units.{magnitude, negative};
 ghost use Rattle.kinds.specs.Limits.{doubles};
-ghost use Rattle.sound.specs.Sound.{unitsAt, soundSigma, atMost, soundNumbers, soundPending};
+ghost use Rattle.judge.specs.Table.{sizeOf};
+ghost use Rattle.sound.specs.Sound.{soundSigma, atMost, soundNumbers, soundPending};
 
 // Whether x is finite and no larger than the limit. A NaN passes no comparison, so it fails this one.
 pub fn at_most(x: f64, limit: f64) -> bool
@@ -22,7 +23,7 @@ pub fn at_most(x: f64, limit: f64) -> bool
 
 // The exponent of the largest magnitude of a list, 2^1000, counted in units.
 fn top() -> u32
-    ensures { λ r. ⌜ r ≡ ceil (unitsAt doubles (doubles .magnitude)) ⌝ }
+    ensures { λ r. ⌜ r ≡ ceil (sizeOf doubles (doubles .magnitude)) ⌝ }
 {
     exponent::ceiling(f64::from_bits(Doubles::MAGNITUDE))
 }

@@ -16,7 +16,8 @@ use Rattle.exponent.specs.Power.{powers}
 use Rattle.exponent.specs.PowerLaws.{power-number, power-negative, power-magnitude}
 use Rattle.extract.specs.Extract.{remainders}
 use Rattle.extract.specs.ExtractLaws.{remainders-length}
-use Rattle.sound.specs.Sound.{unitsAt, gated}
+use Rattle.judge.specs.Table.{sizeOf}
+use Rattle.sound.specs.Sound.{gated}
 use Rattle.sound.specs.AdmittedLaws.{Admitted, admitted}
 use Rattle.sound.specs.Numbers.{FiniteWithin}
 use Rattle.rounds.specs.Round.{blockOf, turned, takenState}
@@ -68,6 +69,6 @@ module _ {W : Width} (F : Fitting W) {s : State} {b : ℕ} {xs : List Float} (P 
   admitted-closable = record {
     counts = P .numbers .counts;
     count = turned-length ∙ P .long;
-    work = each-weaker (Small (W .format) (2 ^ P .e)) (Small (W .format) (unitsAt W (W .magnitude)))
+    work = each-weaker (Small (W .format) (2 ^ P .e)) (Small (W .format) (sizeOf W (W .magnitude)))
         (λ x X. record { number = X .number; within = rw (F .top-is) (le-trans (X .within) (pow-mono (P .low))) }) (turned W (s .sigma) b xs) turned-small;
   }

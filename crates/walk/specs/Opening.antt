@@ -12,11 +12,10 @@ use Rattle.units.specs.Ceiling.{ceil-least}
 use Rattle.lists.specs.Each.{Each, each-from, each-weaker}
 use Rattle.kinds.specs.Limits.{Width, exponentOf}
 use Rattle.judge.specs.Judge.{floats}
-use Rattle.judge.specs.Table.{Allowed}
+use Rattle.judge.specs.Table.{Allowed, sizeOf}
 use Rattle.judge.specs.FirstFaultLaws.{allowed-float, allowed-size}
 use Rattle.extract.specs.Extract.{largest}
 use Rattle.extract.specs.ExtractLaws.{largest-le}
-use Rattle.sound.specs.Sound.{unitsAt}
 use Rattle.rounds.specs.Round.{allZero, freshRound}
 use Rattle.rounds.specs.Fitting.{Fitting}
 use Rattle.rounds.specs.InUnits.{Small}
@@ -27,9 +26,9 @@ module _ {W : Width} {ps : List ℕ} (A : Allowed W ps) where
   floats-length : length (floats W ps) ≡ length ps
   floats-length = length-map ps (ofBits (W .format))
 
-  pub allowed-small : Each (Small (W .format) (unitsAt W (W .magnitude))) (floats W ps)
+  pub allowed-small : Each (Small (W .format) (sizeOf W (W .magnitude))) (floats W ps)
   allowed-small =
-      each-from (Small (W .format) (unitsAt W (W .magnitude))) (floats W ps) nan
+      each-from (Small (W .format) (sizeOf W (W .magnitude))) (floats W ps) nan
       (λ i h. let l : i < length ps = omega (arith, floats-length) in record { number = allowed-float A i l; within = allowed-size A i l })
 
   pub opens : (F : Fitting W) → length ps ≤ W .length → allZero (W .format) (floats W ps) ≡ false

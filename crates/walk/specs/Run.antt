@@ -22,7 +22,7 @@ use Rattle.rounds.specs.Fitting.{Fitting}
 use Rattle.rounds.specs.Begun.{Begun, begun-rounds}
 use Rattle.rounds.specs.Closes.{Next, ends, goes, falls}
 use Rattle.walk.specs.Walk.{Walked, onward, rising, roundsFrom}
-use Rattle.sound.specs.Sound.{unitsAt}
+use Rattle.judge.specs.Table.{sizeOf}
 use Rattle.walk.specs.Rising.{round-closes}
 
 module _ (W : Width) (blocks : ℕ) where
@@ -108,7 +108,7 @@ module _ {W : Width} {F : Fitting W} {n : ℕ} {s : State} {xs : List Float} (R 
       rw (T, Y) (record {
         counts = record { some = B .some; few = B .few; rounds = begun-rounds B };
         count = remainders-length (W .format) (s .sigma) xs ∙ B .count;
-        work = each-weaker (Small (W .format) (2 ^ R .e)) (Small (W .format) (unitsAt W (W .magnitude)))
+        work = each-weaker (Small (W .format) (2 ^ R .e)) (Small (W .format) (sizeOf W (W .magnitude)))
             (λ x X. record { number = X .number; within = rw (F .top-is) (le-trans (X .within) l) })
             (allLeft W s xs) (remainders-small (B .scale) xs (B .work));
       })
