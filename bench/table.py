@@ -11,7 +11,7 @@ Written by `bench/run --record`; docs/PERFORMANCE.md says what is compared and w
 # the sums in the order of sums.c, and then fsum.py's: a name for the tables, and what it is
 SUMS = (
     ("naive", "the naive sum, a loop in C"),
-    ("walk in C, gcc", "document 01's walk in C, which judges the list, copies it and finds its largest magnitude in three passes, as the library does"),
+    ("walk in C, gcc", "the scope's walk in C, which judges the list, copies it and finds its largest magnitude in three passes, as the library does"),
     ("walk in C, clang", "the same source by the kit's clang"),
     ("merged walk, gcc", "the walk in C with the judgement and the largest magnitude in one pass over the patterns"),
     ("merged walk, clang", "the same source by the kit's clang"),

@@ -1,4 +1,4 @@
-/* Document 01's faithful walk in C, undivided: blocks in rising order are the whole area in rising order, and tau is one serial sum. Written from document 01;
+/* The faithful walk of docs/SCOPE.md in C, undivided: blocks in rising order are the whole area in rising order, and tau is one serial sum. Written from it;
    bench/main.c holds its answers, rounds and remainders to the library's, bit for bit. Each operation on doubles is rounded once: compile it without
    contraction (-ffp-contract=off) and without -ffast-math. COMPILER is the name that stands before its two functions. */
 #include "walk.h"
@@ -36,7 +36,7 @@ static unsigned ceiling(uint64_t mu)
     return (unsigned)(mu >> 52) + (mu % NORMAL == 0 ? 51 : 52);
 }
 
-/* M, the least whole number with 2^M at least n + 2. */
+/* M, rule L7 */
 static unsigned spread(size_t n)
 {
     return 64 - (unsigned)__builtin_clzll(n + 1);
@@ -87,19 +87,19 @@ static struct answer rounds(double mu, double *work, size_t n)
         }
         a.rounds++;
         tau1 = t + tau;
-        if (tau1 == 0.0) { /* rules 1 and 2 */
+        if (tau1 == 0.0) { /* rules W1 and W2 */
             mu = largest(work, n);
             if (mu == 0.0)
                 return a;
             sigma = power(m + ceiling(to_bits(mu)));
             t = 0.0;
-        } else if (sigma <= of_bits(NORMAL) || __builtin_fabs(tau1) >= power(1021 + 2 * m + 1) * sigma) { /* rule 3 */
+        } else if (sigma <= of_bits(NORMAL) || __builtin_fabs(tau1) >= power(1021 + 2 * m + 1) * sigma) { /* rule W3 */
             double tau2 = tau - (tau1 - t), rest = 0.0;
             for (size_t i = 0; i < n; i++)
                 rest += work[i];
             a.sum = tau1 + (tau2 + rest);
             return a;
-        } else { /* rule 4 */
+        } else { /* rule W4 */
             sigma = power(1021 + m) * sigma;
             t = tau1;
         }

@@ -1,4 +1,4 @@
-/* Document 01's faithful walk in C, undivided, for comparison with the library's. */
+/* The scope's faithful walk in C, undivided, for comparison with the library's. */
 #ifndef WALK_H
 #define WALK_H
 

@@ -1,4 +1,4 @@
-"""Document 01's nearest sum, parts and register in exact integers, written from the document alone: they know nothing of the library's code.
+"""The nearest sum, the parts and the register in exact integers, written from the scope alone: they know nothing of the library's code.
 
 Calls take and give patterns. Inside, a number is its whole units of 2^-1074. A refusal is raised.
 """

@@ -1,6 +1,6 @@
 #!/usr/bin/env python3
 """The C calls against exact integers: builds the archive and tests/host/driver.c with the kit alone, hands the driver seeded requests in batches, and compares
-each answer, its code and every element of every array, with what document 01 asks for. A NaN in an array of doubles is compared by being one.
+each answer, its code and every element of every array, with what docs/SCOPE.md asks for. A NaN in an array of doubles is compared by being one.
 
     python3 tests/host.py                  20,000 lists, and a short run against answers with one flipped bit
     python3 tests/host.py --lists 200000   a larger run

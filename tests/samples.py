@@ -127,7 +127,7 @@ def shaped():
 
 
 def examples():
-    """Document 01's sums 1 to 9."""
+    """The lists of rules T1 to T9."""
     tiny, top = 0x3CA << 52, 0x463 << 52
     yield from ([], [ONE], [SIGN, SIGN], [ONE, SIGN | ONE], [ONE, tiny], [ONE, tiny, UNIT], [top, ONE, SIGN | top], [UNIT, UNIT], [MAGNITUDE + 1])
 

@@ -4,7 +4,7 @@
     python3 tests/sheets.py          exit status 1 where one differs
     python3 tests/sheets.py --make   writes tests/sheets/NAME.sheet and NAME.out
 
-NAME.sheet is what the program reads and NAME.out what it must print: document 01's order of refusals is written here, the sums are those of tests/walk.py and
+NAME.sheet is what the program reads and NAME.out what it must print: rule O5's order of refusals is written here, the sums are those of tests/walk.py and
 tests/exact.py, and where a line is written by hand beside its sheet the two have to agree. Nothing of the library is used. Each sheet is read as a file and
 through a pipe in small pieces, each written when the program has taken the one before, and there are inputs longer than the program's buffer.
 """
@@ -33,7 +33,7 @@ SIGN, INFINITY, ONE, LIMIT = exact.SIGN, exact.INFINITY, exact.ONE, exact.MAGNIT
 TOP, TINY = 0x4630000000000000, 0x3CA0000000000000  # 2^100, 2^-53
 
 
-# ---- document 01, "The contribution sheet"
+# ---- rule H1
 def sheet(patterns, version=1, count=None):
     header = bytes([version]) + (len(patterns) if count is None else count).to_bytes(4, "big")
     return header + b"".join(pattern.to_bytes(8, "big") for pattern in patterns)

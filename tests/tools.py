@@ -1,5 +1,5 @@
 #!/usr/bin/env python3
-"""Holds tools/sheet to document 01's sheets and to exact fractions, and the sheets of examples/ to their texts. Needs nothing built.
+"""Holds tools/sheet to the scope's sheets and to exact fractions, and the sheets of examples/ to their texts. Needs nothing built.
 
     python3 tests/tools.py        exit status 1 on a difference
 

@@ -1,5 +1,5 @@
 #!/usr/bin/env python3
-"""What crates/trial must write: document 01's sums of its lists, in exact integers.
+"""What crates/trial must write: the sums of its lists, in exact integers.
 
     python3 tests/trial.py > crates/trial/stdout     the expected lines
     python3 tests/trial.py --check                   exit status 1 where crates/trial/stdout differs

@@ -1,7 +1,7 @@
 #!/usr/bin/env python3
-"""The faithful walk of document 01 in exact integers, written from the document alone: tests/trial.py and tests/host.py hold the library to it.
+"""The faithful walk in exact integers, written from the scope alone: tests/trial.py and tests/host.py hold the library to it.
 
-    python3 tests/walk.py        checks it against Python's doubles, against exact sums and against the document's cases; exit status 1 on a difference
+    python3 tests/walk.py        checks it against Python's doubles, against exact sums and against its cases; exit status 1 on a difference
 
 Calls take and give patterns: a list, a work area (which they change) and a state's three doubles. Inside, a double is its whole number of units of 2^-1074,
 and -0 is a zero of its own. An answer is ("more", State), ("done", pattern, rounds) or ("refused", number, place).
@@ -74,7 +74,7 @@ def sub(x, y):
 
 # ---- the walk's numbers
 def exponent_of(n):
-    """M: the least whole number with 2^M at least n + 2."""
+    """M, rule L7."""
     return (n + 1).bit_length()
 
 
@@ -366,7 +366,7 @@ def answer_of(patterns):
 
 
 def check_witnesses(chance):
-    """Document 01's cases, and lists at which a likely mistake shows."""
+    """The cases of rules T1 to T12, and lists at which a likely mistake shows."""
     tiny, top = 0x3CA << 52, 0x463 << 52
     for k, (patterns, pattern, rounds, area) in enumerate([
         ([], 0, 0, []),
@@ -464,14 +464,14 @@ def check_foreign_witnesses():
     for numbers, last in (((half, half + 2**51), 1), ((half + 2**51, half), 2)):
         answer = both_steps(s, [*numbers] + [0] * 63, 0)
         expect("tau's order", answer == ("more", s._replace(tau=CARRIED + last, pending=2)), answer)
-    # rule 4 with a block that was not taken: too large for the next sigma
+    # rule W4 with a block that was not taken: too large for the next sigma
     s, area = State(sigma, bits(2.0**-43), 0, 65, 1, 0), [0] * 64 + [ONE]
     answer = both_steps(s, area, 0)
-    expect("rule 4", answer == ("more", State(bits(2.0**-38), bits(2.0**-43), 0, 65, 3, 1)), answer)
-    expect("rule 4, next", both_steps(answer[1], area, 0) == ("refused", 8, 0))
-    # a finish by rule 3 that answers +0
+    expect("rule W4", answer == ("more", State(bits(2.0**-38), bits(2.0**-43), 0, 65, 3, 1)), answer)
+    expect("rule W4, next", both_steps(answer[1], area, 0) == ("refused", 8, 0))
+    # a finish by rule W3 that answers +0
     answer = both_steps(State(sigma, ONE, 0, 65, 1, 0), [0] * 64 + [SIGN | ONE], 0)
-    expect("+0 by rule 3", answer == ("done", 0, 1), answer)
+    expect("+0 by rule W3", answer == ("done", 0, 1), answer)
     # a restart that looks at a block not taken, in readings' own numbers
     area = [0] * 128 + [bits(2.0**-60)]
     answer = both_steps(State(sigma, 0, 0, 129, 3, 0), area, 0)

@@ -1,4 +1,4 @@
-"""The C calls: each as a request to the driver, with the answer that document 01 asks for.
+"""The C calls: each as a request to the driver, with the answer that docs/SCOPE.md asks for.
 
 The answers come from the models of tests/exact.py (sums, parts and registers in whole units) and tests/walk.py (the faithful walk); what is said here is how
 they lie in arrays and which lengths are refused. Sheets are read as by tests/sheets.py. An array is its bytes, of whatever its elements are.
@@ -50,7 +50,7 @@ def unpacked(data):
 
 
 def heard(number, place):
-    """ "the refusal number plus 32·(place + 1) where a place is told and plus 0 where none is" """
+    """A refusal's code, rule C3."""
     return number + 32 * (place + 1) if number in (2, 3) else number
 
 
@@ -178,7 +178,7 @@ def nearest_of(patterns):
 
 
 def byte_lengths(data, out):
-    """ "A list above 32,752 bytes is refusal 1; other lengths that aren't a multiple of 8, and wrong lengths of the 16 .. bytes, are refusal 4." """
+    """Rule C6, for a sum."""
     if len(data) > SIZE * exact.LENGTH:
         raise Refused(1, 0)
     if len(data) % SIZE or len(out) != SUM:

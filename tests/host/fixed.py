@@ -122,7 +122,7 @@ def there_and_back(chance):
 
 
 def register_examples(chance):
-    """Document 01's registers 10, 11 and 12."""
+    """The registers of rules T10, T11 and T12."""
     data = yield from entries(register_of(0), [(WITHDRAW, ONE)])
     assert data == packed([0] * 16 + [2**64 - 2**50] + [ONES] * 16), data.hex()
     data = yield from entries(data, [(ADD, ONE)])
@@ -160,8 +160,8 @@ WITNESSES = [
     witness(1, SIGMA, 0, 0, 1, 50, 0, 0, SMALL),  # a 51st round that goes on, and is followed by 8
     witness(1, SIGMA, 0, 0, 1, 50, 0, 0, ONE),  # one that finishes
     witness(65, TOP_SIGMA, 0, walk.CARRIED, 3, 0, MAGNITUDE, 0, MAGNITUDE),  # tau above 2^1012, and then 8
-    witness(65, SIGMA, 0x3D4 << 52, 0, 1, 0, 0, 64, ONE),  # a block not taken that is too large after rule 4
-    witness(65, SIGMA, ONE, 0, 1, 0, 0, 64, SIGN | ONE),  # a finish by rule 3 that answers +0
+    witness(65, SIGMA, 0x3D4 << 52, 0, 1, 0, 0, 64, ONE),  # a block not taken that is too large after rule W4
+    witness(65, SIGMA, ONE, 0, 1, 0, 0, 64, SIGN | ONE),  # a finish by rule W3 that answers +0
     witness(129, SIGMA, 0, 0, 3, 0, 0, 128, SMALL),  # a restart by a block not taken
     witness(65, 128, SIGN, SIGN, 2, 0, 1, 0, 1),  # the least sigma
     witness(65, 64, SIGN, SIGN, 2, 0, 0, 0, 0),  # half of it

@@ -1,4 +1,4 @@
--- The C calls on the caller's own arrays: what each returns, and what it leaves in every array that it is lent. Definitions only.
+-- Rule C9, the C calls on the caller's own arrays: what each returns, and what it leaves in every array that it is lent. Definitions only.
 use mathlib.Core.Bool.{cond}
 use mathlib.Core.List.{List, [], _∷_}
 use Prim.Native.Nat.{ℕ, _+_}
@@ -27,7 +27,7 @@ codeOf (parts b) = 0
 codeOf accepted = 0
 codeOf (count n) = 0
 
--- ---- the values that an accepted call writes to its array of numbers; a refused one leaves it
+-- ---- rule C10: the values that an accepted call writes to its array of numbers; a refused one leaves it
 abbrev pub valuesOf : Heard → List ℕ → List ℕ
 valuesOf (refused k p) before = before
 valuesOf (more sigma t tau n pending rounds) before = before
@@ -37,7 +37,7 @@ valuesOf (parts b) before = cond b 1 0 ∷ []
 valuesOf accepted before = before
 valuesOf (count n) before = n ∷ []
 
--- a walk in ten numbers: 1, the state's, and three that are kept for later; or 2, the sum's pattern, its rounds, and zeros
+-- rule C11, a walk in ten numbers: 1, the state's, and three that are kept for later; or 2, the sum's pattern, its rounds, and zeros
 abbrev pub walkNumbers : ℕ
 walkNumbers = 10
 
@@ -85,7 +85,8 @@ stepArrays numbers work b =
 unfoldable pub faithfulArrays : List ℕ → List Float → List ℕ → Returned Float
 faithfulArrays ps work out =
     let w = faithfulOf doubles ps work in
-    cond (eqb (length out) 2) (returned (codeOf (stepHeard doubles (w .answer))) (w .area) (valuesOf (stepHeard doubles (w .answer)) out)) (returned (tooManyOr4 ps) work out)
+    let h = stepHeard doubles (w .answer) in
+    cond (eqb (length out) 2) (returned (codeOf h) (w .area) (valuesOf h out)) (returned (tooManyOr4 ps) work out)
 
 -- ---- the other sums of a list
 unfoldable pub nearestArrays : List ℕ → List ℕ → Outcome ℕ ℕ

@@ -40,7 +40,8 @@ heard-returned {A} {X} heard written values b {r} {vs} {w} {a} {xs} c v e q =
     ∙ ap (λ (x : Outcome A X). returned (codeOf (heard (x .answer))) (x .area) (written (heard (x .answer)) values)) e
 
 pub walk-returned : (numbers : List ℕ) {r : ℕ} {ns : List ℕ} {w : Walked} {a : Step} {xs : List Float}
-    → outcome r ns ≡ outcome (codeOf (stepHeard doubles a)) (walkValues (stepHeard doubles a) numbers) → outcome a xs ≡ w → returned r xs ns ≡ walkReturned w numbers
+    → outcome r ns ≡ outcome (codeOf (stepHeard doubles a)) (walkValues (stepHeard doubles a) numbers) → outcome a xs ≡ w
+    → returned r xs ns ≡ walkReturned w numbers
 walk-returned numbers {r} {ns} {w} {a} {xs} t e =
     ap (λ (o : Outcome ℕ ℕ). returned (o .answer) xs (o .area)) t ∙ ap (λ (x : Walked). walkReturned x numbers) e
 
@@ -78,7 +79,7 @@ module _ (numbers : List ℕ) (work : List Float) (b : ℕ) where
     step-length h = walk-refused 4 (step-refused (stateIn numbers) b work 4 0 .1 (wrong-length h))
 
     pub step-rounds : length work ≡ getD numbers 4 0 → 2 ^ 32 ≤ getD numbers 6 0 → returned 8 work numbers ≡ stepArrays numbers work b
-    step-rounds h r = walk-refused 8 (step-refused (stateIn numbers) b work 8 0 .1 (not-sound h (λ S. omega (arith, S .rounds))))
+    step-rounds h r = walk-refused 8 (step-refused (stateIn numbers) b work 8 0 .1 (not-sound h (λ S. omega (arith, S .numbers .counts .rounds))))
 
 module _ (ps : List ℕ) (work : List Float) (out : List ℕ) where
   pub faithful-other : (length out ≡ 2 → ⊥) → faithfulArrays ps work out ≡ returned (tooManyOr4 ps) work out

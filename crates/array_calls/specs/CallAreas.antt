@@ -70,12 +70,14 @@ read-determined bytes area out = returned-determined (readArrays bytes area out)
 module _ (ps : List ℕ) (work : List Float) (values : List ℕ) where
   pub open-left : (openArrays ps work values .code ≡ 0 → ⊥) → Left (openArrays ps work values) work values
   unfolding openArrays
-  open-left = call-left (stepHeard doubles) steps.Refused (step-is doubles) (opened doubles ps work) work (refusals.open-leaves ps work) walkValues values walk-left
+  open-left = call-left (stepHeard doubles) steps.Refused (step-is doubles) (opened doubles ps work) work (refusals.open-leaves ps work)
+      walkValues values walk-left
       (eqb (length values) walkNumbers) (tooManyOr4 ps)
 
   pub faithful-left : (faithfulArrays ps work values .code ≡ 0 → ⊥) → Left (faithfulArrays ps work values) work values
   unfolding faithfulArrays
-  faithful-left = call-left (stepHeard doubles) steps.Refused (step-is doubles) (faithfulOf doubles ps work) work (refusals.faithful-leaves ps work) valuesOf values values-left
+  faithful-left = call-left (stepHeard doubles) steps.Refused (step-is doubles) (faithfulOf doubles ps work) work (refusals.faithful-leaves ps work)
+      valuesOf values values-left
       (eqb (length values) 2) (tooManyOr4 ps)
 
   pub parts-left : (partsArrays ps work values .code ≡ 0 → ⊥) → Left (partsArrays ps work values) work values

@@ -1,4 +1,4 @@
-// A set of small numbers as the bits of one 64-bit number. "The pending set is one 64-bit number, bit b for block b."
+// A set of small numbers as the bits of one 64-bit number: rules WS2 and F9.
 ghost use mathlib.Core.Path.{_≡_};
 ghost use Prim.Native.Nat.{_≤_, _<_};
 ghost use Rattle.lists.specs.Bitset.{has, without, full};

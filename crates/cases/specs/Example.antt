@@ -51,7 +51,7 @@ good xs h = ap (λ (b : Bool). judged doubles b true three) (eq-eqb (length xs) 
 
 run : (xs : List Float) → W.roundsFrom doubles 1 51 (W.openedAfter doubles Good three xs) ≡ outcome (Done one 2) threeZeros
 unfolding
-    W.openedAfter W.steppedAfter W.taken W.rising W.roundsFrom R.turned R.roundOf R.fresh R.scaled R.finished R.closed
+    W.openedAfter W.steppedAfter W.taken W.rising W.roundsFrom R.turned R.fresh R.scaled R.finished R.closedBy
     N.soundSigma N.atMost N.soundNumbers N.soundPending N.badPlace N.sound N.gated remainders gathered lastSum largest powerOf ceil
     nearestFloat value ofBits toBits add sub mul le eq
 run xs = refl

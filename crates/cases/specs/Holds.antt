@@ -113,7 +113,7 @@ rows-hold (r ∷ rs) t (suc k) d h = rows-hold rs (and-r (passes r) (every rs) t
 
 computed : every table ≡ true
 unfolding
-    every table judged firstFault faultOf W.openedAfter W.steppedAfter W.taken W.rising W.roundsFrom R.turned R.roundOf R.fresh R.scaled R.finished R.closed
+    every table judged firstFault faultOf W.openedAfter W.steppedAfter W.taken W.rising W.roundsFrom R.turned R.fresh R.scaled R.finished R.closedBy
     N.soundSigma N.atMost N.soundNumbers N.soundPending N.badPlace N.sound N.gated remainders gathered lastSum largest powerOf ceil
     S.nearestAfter S.partsAfter S.parts enter rounded number digits signed residue nearestFloat value
     ofBits toBits add sub mul le eq
@@ -121,7 +121,7 @@ computed = refl
 
 computed-bounds : every bounds ≡ true
 unfolding
-    every bounds judged firstFault faultOf W.openedAfter W.steppedAfter W.taken W.rising W.roundsFrom R.turned R.roundOf R.fresh R.scaled R.finished R.closed
+    every bounds judged firstFault faultOf W.openedAfter W.steppedAfter W.taken W.rising W.roundsFrom R.turned R.fresh R.scaled R.finished R.closedBy
     N.soundSigma N.atMost N.soundNumbers N.soundPending N.badPlace N.sound N.gated remainders gathered lastSum largest powerOf ceil
     S.partsAfter S.parts signed residue nearestFloat value
     ofBits toBits add sub mul le eq

@@ -1,4 +1,4 @@
--- Demand 1: any two results that meet a public contract are equal, the answer and the final content of every lent area. Each contract is one equation with
+-- Rule K1: any two results that meet a public contract are equal, the answer and what every lent area holds afterwards. Each contract is one equation with
 -- the result on one side; the hypotheses here are the contracts. Assumes nothing.
 use mathlib.Core.Path.{_≡_}
 use mathlib.Core.List.{List}

@@ -1,4 +1,4 @@
--- Demand 1, each refusal exactly when, for the eight calls of walk, sums and register: each is refused with k exactly when the row of k says and no earlier
+-- Rules D1 and O6, for the eight calls of walk, sums and register: each is refused with k exactly when the row of k says and no earlier
 -- one holds, and a refused call leaves every lent area as it was. Assumes nothing.
 use mathlib.Core.Path.{_≡_, ap}
 use mathlib.Core.Logic.{_↔_}

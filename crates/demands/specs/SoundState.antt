@@ -1,54 +1,28 @@
--- Document 01's "Sound state" in propositions, clause by clause. Definitions only.
+-- A sound state in propositions, clause by clause: rules WS3 to WS8. Definitions only.
 use mathlib.Core.Path.{_≡_}
 use mathlib.Core.Bool.{true, false}
 use mathlib.Core.List.{List}
-use Prim.Native.Nat.{ℕ, _+_, _*_, _^_, _≤_}
+use Prim.Native.Nat.{ℕ, _*_, _^_, _≤_}
 use lib.Dec.{T}
 use lib.Ieee.{Float, Format}
 use lib.Ieee.Scale.{finite}
-use Rattle.units.specs.Rounding.{ceil}
-use Rattle.ieee.specs.Units.{negative, magnitude}
+use Rattle.ieee.specs.Units.{magnitude}
 use Rattle.lists.specs.Bitset.{has}
 use Rattle.lists.specs.Each.{Each}
 use Rattle.kinds.specs.Limits.{Width, exponentOf, blocksOf}
 use Rattle.kinds.specs.declared.State.{State}
-use Rattle.sound.specs.Sound.{unitsAt}
+use Rattle.sound.specs.Numbers.{Numbers}
 
--- the exponent of the largest magnitude in units: 2^1000 is 2^2074 units
-abbrev pub limitExponent : Width → ℕ
-limitExponent W = ceil (unitsAt W (W .magnitude))
-
--- the float 2^k units, for some k between two bounds
-pub record PowerBetween (f : Format) (least most : ℕ) (x : Float) : Type 0 where
-  pub k : ℕ
-  pub fini : T (finite x)
-  pub positive : negative x ≡ false
-  pub power : magnitude f x ≡ 2 ^ k
-  pub from : least ≤ k
-  pub to : k ≤ most
-
--- "finite, of magnitude at most" so many units
-pub record FiniteWithin (f : Format) (most : ℕ) (x : Float) : Type 0 where
-  pub fini : T (finite x)
-  pub small : magnitude f x ≤ most
-
--- "finite, of magnitude at most 2^-M sigma": 2^M times it is at most sigma
+-- rule WS8 for one number
 pub record WorkNumber (f : Format) (M : ℕ) (sigma x : Float) : Type 0 where
   pub fini : T (finite x)
   pub small : 2 ^ M * magnitude f x ≤ magnitude f sigma
 
 pub record SoundState (W : Width) (s : State) (xs : List Float) : Type 0 where
-  -- "n is 1 to 4,094; rounds closed 0 to 50"
-  pub some : 1 ≤ s .n
-  pub few : s .n ≤ W .length
-  pub rounds : s .rounds ≤ W .rounds
-  -- "the pending set is not empty and has no bit at or above B"
+  -- rules WS3, WS4, WS6 and WS7: each is a field of `sound/Numbers`
+  pub numbers : Numbers W s
+  -- rule WS5
   pub pending : (b : ℕ) × (has (s .pending) b ≡ true)
   pub inside : (b : ℕ) → blocksOf W (s .n) ≤ b → has (s .pending) b ≡ false
-  -- "sigma is a power of two from 2^(M-1074) to 2^(1000+M)"
-  pub sigma : PowerBetween (W .format) (exponentOf (s .n)) (limitExponent W + exponentOf (s .n)) (s .sigma)
-  -- "t and tau are finite, of magnitude at most 2^1012"
-  pub t : FiniteWithin (W .format) (unitsAt W (W .carried)) (s .t)
-  pub tau : FiniteWithin (W .format) (unitsAt W (W .carried)) (s .tau)
-  -- "every work number is finite, of magnitude at most 2^-M sigma"
+  -- rule WS8
   pub work : Each (WorkNumber (W .format) (exponentOf (s .n)) (s .sigma)) xs

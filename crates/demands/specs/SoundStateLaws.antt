@@ -1,5 +1,5 @@
--- The test of a sound state holds exactly where document 01's clauses do. Assumes nothing.
-use mathlib.Core.Path.{_≡_, refl, ap, _∙_}
+-- The test of a sound state holds exactly where rules WS3 to WS8 do. Assumes nothing.
+use mathlib.Core.Path.{_≡_, refl}
 use mathlib.Core.Logic.{_↔_}
 use mathlib.Core.Bool.{Bool, true, false, cond}
 use mathlib.Core.List.{List, [], _∷_}
@@ -10,23 +10,23 @@ use native.Mathlib.Omega.{arith}
 use borrow.Author.Tests.{eq-eqb, ne-eqb, eqb-true, eqb-false, le-leb, leb-true, lt-ltb}
 use lib.Dec.{leb}
 use lib.ListN.{length}
-use lib.Pow.{pow-pos, pow-add, pow-mono}
+use lib.Pow.{pow-pos, pow-mono}
 use lib.Ieee.{Float, ofBits}
 use lib.Ieee.Bits.{is-true}
 use lib.Ieee.Scale.{finite}
-use Rattle.units.specs.Rounding.{ceil}
-use Rattle.units.specs.Ceiling.{ceil-power}
 use Rattle.ieee.specs.Units.{magnitude}
 use Rattle.lists.specs.Bitset.{has}
 use Rattle.lists.specs.Each.{Each}
 use Rattle.kinds.specs.Limits.{Width, doubles, exponentOf, blocksOf}
 use Rattle.kinds.specs.declared.State.{State}
-use Rattle.sound.specs.Sound.{unitsAt, soundSigma, atMost, soundNumbers, soundPending, soundPlace, badPlace, sound}
-use Rattle.sound.specs.SigmaLaws.{split, Sigma, sigma-holds, sigma-exponent}
-use Rattle.sound.specs.SoundLaws.{Numbers, pending-holds, sound-holds}
+use Rattle.judge.specs.Table.{sizeOf}
+use Rattle.sound.specs.Sound.{soundPending, soundPlace, badPlace, sound}
+use Rattle.sound.specs.Numbers.{limitExponent}
+use Rattle.sound.specs.SigmaLaws.{both-true}
+use Rattle.sound.specs.SoundLaws.{numbers-true, pending-holds, sound-holds}
 use Rattle.sound.specs.DoublesLaws.{magnitude-exponent}
 use Rattle.rounds.specs.Instances.{doubles-fit}
-use Rattle.demands.specs.SoundState.{PowerBetween, FiniteWithin, WorkNumber, SoundState, limitExponent}
+use Rattle.demands.specs.SoundState.{WorkNumber, SoundState}
 
 -- ---- a set with no member from B on is below 2^B, and one that isn't 0 has a member
 
@@ -86,99 +86,49 @@ module _ (W : Width) (s : State) where
       go : (c : Bool) → soundPlace W s x ≡ c → cond c (badPlace W s xs + 1) 0 ≡ suc (length xs)
           → (badPlace W s xs ≡ length xs → Each Place xs) → Place x × Each Place xs
       go true e h more =
-          let a = split (finite x) (leb (2 ^ exponentOf (s .n) * magnitude (W .format) x) (magnitude (W .format) (s .sigma))) e in
+          let a = both-true (finite x) (leb (2 ^ exponentOf (s .n) * magnitude (W .format) x) (magnitude (W .format) (s .sigma))) e in
           let l : 2 ^ exponentOf (s .n) * magnitude (W .format) x ≤ magnitude (W .format) (s .sigma) = leb-true _ _ (a .1) in
           (record { fini = rw (a .0) tt; small = omega arith }, more (omega arith))
       go false e h more = absurd (omega arith)
-
-  -- ---- t and tau
-  within-sound : (x : Float) → FiniteWithin (W .format) (unitsAt W (W .carried)) x → atMost W (unitsAt W (W .carried)) x ≡ true
-  unfolding atMost
-  within-sound x X = simp (is-true (finite x) (X .fini), le-leb _ _ (X .small))
 
   -- ---- the pending set
   pending-sound : (b : ℕ) × (has (s .pending) b ≡ true) → ((b : ℕ) → blocksOf W (s .n) ≤ b → has (s .pending) b ≡ false) → soundPending W s ≡ true
   unfolding soundPending
   pending-sound p h = simp (lt-ltb _ _ (has-some (s .pending) (p .0) (p .1)), lt-ltb _ _ (all-below (blocksOf W (s .n)) (s .pending) h))
 
-  -- ---- sigma, and all of it, where the largest magnitude is a power of two
-  module _ (top : ℕ) (is : unitsAt W (W .magnitude) ≡ 2 ^ top) where
-    top-is : limitExponent W ≡ top
-    top-is = ap ceil is ∙ ceil-power top
+  -- ---- all of it, where the largest magnitude is a power of two
+  module _ (top : ℕ) (is : sizeOf W (W .magnitude) ≡ 2 ^ top) (xs : List Float) where
+    holds : sound W s xs ≡ true → SoundState W s xs
+    unfolding Place
+    holds h =
+        let S = sound-holds W top is s xs h in
+        let P = pending-holds W s (S .1) in
+        record {
+          numbers = S .0;
+          pending = member (blocksOf W (s .n)) (s .pending) (P .1) (P .0);
+          inside = λ b h. none-above (blocksOf W (s .n)) (s .pending) (P .1) b (omega arith);
+          work = places-hold xs (S .2);
+        }
 
-    SigmaIs : Type 0
-    SigmaIs = PowerBetween (W .format) (exponentOf (s .n)) (limitExponent W + exponentOf (s .n)) (s .sigma)
+    -- the test is true exactly for a sound state
+    pub sound-state : (sound W s xs ≡ true) ↔ SoundState W s xs
+    unfolding sound Place
+    sound-state = (
+      holds,
+      λ S. simp (
+        numbers-true W top is s (S .numbers),
+        pending-sound (S .pending) (λ b h. S .inside b (omega arith)),
+        eq-eqb _ _ (places-sound xs (S .work)),
+      ),
+    )
 
-    sigma-hold : soundSigma W (s .n) (s .sigma) ≡ true → SigmaIs
-    unfolding SigmaIs
-    sigma-hold h =
-        let S : Sigma W (s .n) (s .sigma) = sigma-holds W (s .n) (s .sigma) h in
-        let e = sigma-exponent W top is (s .n) S in
-        record { k = _; fini = S .fini; positive = S .positive; power = S .power; from = omega (arith, e .0); to = omega (arith, e .1, top-is) }
-
-    sigma-sound : SigmaIs → soundSigma W (s .n) (s .sigma) ≡ true
-    unfolding soundSigma SigmaIs
-    sigma-sound P =
-        simp (
-          is-true (finite (s .sigma)) (P .fini),
-          P .positive,
-          P .power,
-          ceil-power (P .k),
-          eq-eqb (2 ^ P .k) _ refl,
-          le-leb (2 ^ exponentOf (s .n)) (2 ^ P .k) (pow-mono (omega (arith, P .from))),
-          is,
-          le-leb (2 ^ P .k) (2 ^ exponentOf (s .n) * 2 ^ top) most,
-        )
-      where
-        most : 2 ^ P .k ≤ 2 ^ exponentOf (s .n) * 2 ^ top
-        most = rw (← (pow-add 2 (exponentOf (s .n)) top)) (pow-mono (omega (arith, P .to, top-is)))
-
-    module _ (xs : List Float) where
-      holds : sound W s xs ≡ true → SoundState W s xs
-      unfolding Place SigmaIs
-      holds h =
-          let S = sound-holds W s xs h in
-          let N : Numbers W s = S .0 in
-          let P = pending-holds W s (S .1) in
-          record {
-            some = omega (arith, N .some);
-            few = omega (arith, N .few);
-            rounds = omega (arith, N .rounds);
-            pending = member (blocksOf W (s .n)) (s .pending) (P .1) (P .0);
-            inside = λ b h. none-above (blocksOf W (s .n)) (s .pending) (P .1) b (omega arith);
-            sigma = sigma-hold (N .sigma);
-            t = record { fini = N .t .fini; small = N .t .small };
-            tau = record { fini = N .tau .fini; small = N .tau .small };
-            work = places-hold xs (S .2);
-          }
-
-      numbers-sound : SoundState W s xs → soundNumbers W s ≡ true
-      unfolding soundNumbers SigmaIs
-      numbers-sound S =
-          simp (
-            le-leb 1 (s .n) (omega (arith, S .some)),
-            le-leb (s .n) (W .length) (omega (arith, S .few)),
-            le-leb (s .rounds) (W .rounds) (omega (arith, S .rounds)),
-            sigma-sound (S .sigma),
-            within-sound (s .t) (S .t),
-            within-sound (s .tau) (S .tau),
-          )
-
-      -- "state not sound (below)": the test is true exactly for a sound state
-      pub sound-state : (sound W s xs ≡ true) ↔ SoundState W s xs
-      unfolding sound Place
-      sound-state = (
-        holds,
-        λ S. simp (numbers-sound S, pending-sound (S .pending) (λ b h. S .inside b (omega arith)), eq-eqb _ _ (places-sound xs (S .work))),
-      )
-
--- ---- document 01's numbers: the limit 2^1000 is 2^2074 units, and 2^1012 is 2^2086
+-- ---- the scope's numbers: the limit 2^1000 is 2^2074 units, and 2^1012 is 2^2086
 pub sound-doubles : (s : State) (xs : List Float) → (sound doubles s xs ≡ true) ↔ SoundState doubles s xs
 sound-doubles s = sound-state doubles s (doubles-fit .top) (doubles-fit .top-is)
 
 pub limit-doubles : limitExponent doubles ≡ 2074
 limit-doubles = magnitude-exponent
 
-pub carried-doubles : unitsAt doubles (doubles .carried) ≡ 2 ^ 2086
+pub carried-doubles : sizeOf doubles (doubles .carried) ≡ 2 ^ 2086
 unfolding magnitude ofBits
 carried-doubles = refl

@@ -1,4 +1,4 @@
--- Document 01's table of refusals for a block step, for the walk of a list and for rounding a register: what each answer is given exactly for.
+-- Rules D1 and O6 for a block step, for the walk of a list and for rounding a register: what each answer is given exactly for.
 -- Definitions only.
 use mathlib.Core.Path.{_≡_}
 use mathlib.Core.Bool.{true, false}
@@ -20,15 +20,15 @@ use Rattle.judge.specs.Table.{ListWhen}
 use Rattle.words.specs.Words.{wordCount, wholeOf}
 use Rattle.demands.specs.SoundState.{SoundState}
 
--- "On a block step: 4, 8, 6, 7.", each where none before it holds. None tells a place.
+-- rule O2, each where none before it holds. None tells a place.
 pub data StepWhen (W : Width) (s : State) (b : ℕ) (work : List Float) : Verdict → Type 0 where
-  -- "a lent area other than the parts slice has the wrong length": "the work area must have length n"
+  -- rules R4 and A2
   wrong-length : (length work ≡ s .n → ⊥) → StepWhen W s b work (Refused 4 0)
-  -- "state not sound"
+  -- rule R8
   not-sound : length work ≡ s .n → (SoundState W s work → ⊥) → StepWhen W s b work (Refused 8 0)
-  -- "block number at or above B"
+  -- rule R6
   no-block : length work ≡ s .n → SoundState W s work → blocksOf W (s .n) ≤ b → StepWhen W s b work (Refused 6 0)
-  -- "block already taken in this round"
+  -- rule R7
   taken-before : length work ≡ s .n → SoundState W s work → b < blocksOf W (s .n) → has (s .pending) b ≡ false → StepWhen W s b work (Refused 7 0)
   accepted : length work ≡ s .n → SoundState W s work → b < blocksOf W (s .n) → has (s .pending) b ≡ true → StepWhen W s b work Good
 
@@ -36,7 +36,7 @@ pub data StepWhen (W : Width) (s : State) (b : ℕ) (work : List Float) : Verdic
 abbrev pub WalkWhen : Width → List ℕ → List Float → Verdict → Type 0
 WalkWhen W ps work = ListWhen W (eqb (length work) (length ps)) true ps
 
--- "On rounding a register: 4, 10." "refusal 10 is given when its magnitude is 2^2098 - 2^2044 units or more"
+-- rule O4, with rules R4 and R10; `limit` is rule G5's
 pub data RoundWhen (ws : List ℕ) : Nearest → Type 0 where
   wrong-words : (length ws ≡ wordCount → ⊥) → RoundWhen ws (nearests.Refused 4 0)
   beyond : length ws ≡ wordCount → limit binary64 ≤ natAbs (wholeOf ws) → RoundWhen ws (nearests.Refused 10 0)

@@ -1,4 +1,4 @@
--- The gate of a block step gives each verdict exactly when its row of document 01's table says, and so does rounding a register. Assumes nothing.
+-- The gate of a block step gives each verdict exactly when its row says (rule O6), and so does rounding a register. Assumes nothing.
 use mathlib.Core.Path.{_≡_, refl}
 use mathlib.Core.Logic.{_↔_, inl, inr}
 use mathlib.Core.Bool.{Bool, true, false}
@@ -21,14 +21,15 @@ use Rattle.kinds.specs.declared.Nearest.{Nearest}
 use Rattle.words.specs.Words.{wordCount, wholeOf}
 use Rattle.register.specs.Register.{rounded}
 use Rattle.register.specs.RoundedLaws.{rounded-length, rounded-beyond, rounded-sum}
-use Rattle.sound.specs.Sound.{unitsAt, sound, gated}
+use Rattle.judge.specs.Table.{sizeOf}
+use Rattle.sound.specs.Sound.{sound, gated}
 use Rattle.sound.specs.GateLaws.{gated-4, gated-8, gated-6, gated-7, gated-good}
 use Rattle.demands.specs.SoundState.{SoundState}
 use Rattle.demands.specs.SoundStateLaws.{sound-state}
 use Rattle.demands.specs.Tables.{StepWhen, wrong-length, not-sound, no-block, taken-before, accepted, RoundWhen, wrong-words, beyond, nearest}
 
 -- ---- a block step, where the largest magnitude is 2^top units
-module _ (W : Width) (top : ℕ) (is : unitsAt W (W .magnitude) ≡ 2 ^ top) (s : State) (b : ℕ) (work : List Float) where
+module _ (W : Width) (top : ℕ) (is : sizeOf W (W .magnitude) ≡ 2 ^ top) (s : State) (b : ℕ) (work : List Float) where
   tested : SoundState W s work → sound W s work ≡ true
   tested = sound-state W s top is work .1
 

@@ -1,4 +1,4 @@
--- The walk's three calls: each is refused exactly when its row of document 01's table says, and a refused call leaves the work area as it was. An accepted
+-- The walk's three calls: each is refused exactly when its row says (rule O6), and a refused call leaves the work area as it was. An accepted
 -- step answers no refusal, for any state that the gate lets pass; nor does the undivided call, for widths that fit. Assumes nothing.
 use mathlib.Core.Path.{_≡_, refl, sym, ap, subst, _∙_}
 use mathlib.Core.Logic.{_↔_}
@@ -18,9 +18,10 @@ use Rattle.kinds.specs.declared.Step.{Step}
 use Rattle.kinds.specs.declared.Step.the-variants.{More, Done, Refused}
 use Rattle.kinds.specs.declared.Verdict.{Verdict}
 use Rattle.kinds.specs.declared.Verdict.the-variants as verdicts
-use Rattle.judge.specs.Judge.{judged, floats, zeroSign}
+use Rattle.judge.specs.Judge.{judged, zeroSign}
 use Rattle.judge.specs.JudgeLaws.{list-when}
-use Rattle.sound.specs.Sound.{unitsAt, gated}
+use Rattle.judge.specs.Table.{sizeOf}
+use Rattle.sound.specs.Sound.{gated}
 use Rattle.rounds.specs.Fitting.{Fitting}
 use Rattle.walk.specs.NoRefusal.{verdictOf, fresh-accepted, taken-accepted}
 use Rattle.walk.specs.Walk.{Walked, opened, openedAfter, stepped, steppedAfter, faithfulOf}
@@ -70,7 +71,7 @@ module _ (W : Width) (s : State) (b : ℕ) (work : List Float) where
   }
   step-after (verdicts.Refused l j) = record { from = refl; kept = λ k i e. refl }
 
-  module _ (top : ℕ) (is : unitsAt W (W .magnitude) ≡ 2 ^ top) (k i : ℕ) where
+  module _ (top : ℕ) (is : sizeOf W (W .magnitude) ≡ 2 ^ top) (k i : ℕ) where
     pub step-refused : (stepped W s b work .answer ≡ Refused k i) ↔ StepWhen W s b work (verdicts.Refused k i)
     step-refused = refusals (step-after (gated W s b work)) (StepWhen W s b work) (step-when W top is s b work) k i
 
@@ -80,7 +81,7 @@ module _ (W : Width) (s : State) (b : ℕ) (work : List Float) where
   pub step-leaves : (k i : ℕ) → stepped W s b work .answer ≡ Refused k i → stepped W s b work .area ≡ work
   step-leaves = leaves (step-after (gated W s b work))
 
--- ---- opening, and the undivided call: "Order on a list: 1, 4, .. then the lowest bad place with its own fault (2 or 3)."
+-- ---- opening, and the undivided call: rule O1 without 5
 
 module _ (W : Width) (ps : List ℕ) (work : List Float) where
   verdict : Verdict
@@ -93,7 +94,7 @@ module _ (W : Width) (ps : List ℕ) (work : List Float) where
   open-after : (v : Verdict) → After v work (openedAfter W v ps work)
   unfolding openedAfter
   open-after verdicts.Good = record {
-    from = fresh-accepted W (nearestFloat (W .format) (zeroSign ps) (pos 0)) (length ps) (floats W ps) 0 .good;
+    from = fresh-accepted W (nearestFloat (W .format) (zeroSign ps) (pos 0)) (length ps) _ 0 .good;
     kept = λ k i e. apart (cc);
   }
   open-after (verdicts.Refused l j) = record { from = refl; kept = λ k i e. refl }

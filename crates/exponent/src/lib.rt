@@ -1,5 +1,4 @@
-// Powers of two: the least one at or above a number, and the float of one. All is read off patterns, and no double is scaled: "Scaling mu by 2^53 in
-// doubles .. overflows near 2^1000."
+// Powers of two: the least one at or above a number, and the float of one. All is read off patterns, and no double is scaled (rule E5).
 use kinds::DIGITS;
 use kinds::LEAST_NORMAL;
 ghost use mathlib.Core.Path.{_≡_};
@@ -23,7 +22,7 @@ pub fn power(k: u32) -> f64
     f64::from_bits(((k + 1 - DIGITS) as u64) << DIGITS)
 }
 
-// The least whole number e with a pattern's magnitude at most 2^e units. The pattern has no sign, and stands for a number.
+// Rule F4: the first power of two, 2^e units, that a pattern's magnitude doesn't exceed. The pattern has no sign, and stands for a number.
 fn exponent(p: u64) -> u32
     requires { ⌜ p < ones binary64 * hid binary64 ⌝ }
     ensures { λ r. ⌜ r ≡ ceil (patternUnits binary64 p) ⌝ }
@@ -41,7 +40,7 @@ fn exponent(p: u64) -> u32
     field + DIGITS
 }
 
-// Document 01's e for the largest magnitude mu, counted in units: "the least whole number with mu at most 2^e".
+// e of rule WO3, counted in units.
 pub fn ceiling(mu: f64) -> u32
     requires { ⌜ T (finite mu) × (negative mu ≡ false) ⌝ }
     ensures { λ r. ⌜ r ≡ ceil (magnitude binary64 mu) ⌝ }

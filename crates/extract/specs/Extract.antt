@@ -1,5 +1,5 @@
 -- One area of the faithful walk over lib.Ieee's operations: taking its numbers, adding them up, and the largest magnitude. Definitions only.
--- Each operation is one rounded operation of the format.
+-- Rule WB2: each operation is one rounded operation of the format.
 use mathlib.Core.Bool.{cond}
 use mathlib.Core.List.{List, map, foldl, foldr}
 use Prim.Native.Nat.{ℕ, max}
@@ -9,7 +9,7 @@ use Rattle.ieee.specs.Units.{magnitude}
 abbrev pub plusZero : Format → Float
 plusZero f = ofBits f 0
 
--- ---- "Taking a block, places in rising order: q = (sigma + p) - sigma, then p becomes p - q, and tau becomes tau + q."
+-- ---- rule WB1: taking numbers
 abbrev pub highPart : Format → Float → Float → Float
 highPart f sigma p = sub f (add f sigma p) sigma
 
@@ -22,14 +22,14 @@ remainders f sigma xs = map (remainderOf f sigma) xs
 unfoldable pub gathered : Format → Float → Float → List Float → Float
 gathered f sigma tau xs = foldl (λ t p. add f t (highPart f sigma p)) tau xs
 
--- ---- "T is the work area added up from +0 in rising order"
+-- ---- T of rule W3; rule E4 has why there is one chain
 unfoldable pub lastSum : Format → List Float → Float
 lastSum f xs = foldl (add f) (plusZero f) xs
 
--- ---- rule 3's "magnitude of t'"
+-- ---- a magnitude, for rule W3's test
 abbrev pub absolute : Format → Float → Float
 absolute f x = cond (lt x (plusZero f)) (neg x) x
 
--- ---- "mu is the largest magnitude", in units
+-- ---- mu of rule WO3, in units
 unfoldable pub largest : Format → List Float → ℕ
 largest f xs = foldr (λ x m. max (magnitude f x) m) 0 xs

@@ -1,4 +1,4 @@
--- A number without its sign: as a float, which rule 3 compares, and as a pattern, and the larger of two patterns. Assumes nothing.
+-- A number without its sign: as a float, which rule W3 compares, and as a pattern, and the larger of two patterns. Assumes nothing.
 use mathlib.Core.Path.{_≡_, refl, sym, ap, _∙_}
 use mathlib.Core.Bool.{Bool, true, false, not, cond}
 use Prim.Native.Nat.{ℕ, _+_, _-_, _*_, _%_, _≤_, _<_, max}

@@ -1,4 +1,4 @@
-// One area of the faithful walk: taking its numbers, adding them up, and the largest magnitude. "Each is one rounded double operation."
+// One area of the faithful walk: taking its numbers, adding them up, and the largest magnitude. Rules WB2 and F8: on f64, rounded once each.
 use kinds::SIGN;
 ghost use mathlib.Core.Path.{_≡_};
 ghost use mathlib.Core.Bool.{false};
@@ -14,7 +14,7 @@ pub struct Extracted {
     pub tau: f64,
 }
 
-// "Taking a block, places in rising order: q = (sigma + p) - sigma, then p becomes p - q, and tau becomes tau + q."
+// Rule WB1, for the places of a block.
 pub fn extract(block: &mut [f64], sigma: f64, tau: f64) -> Extracted
     ensures { λ r. ⌜ (r .tau ≡ gathered binary64 sigma tau (now (block .entry))) × (now (block .exit) ≡ remainders binary64 sigma (now (block .entry))) ⌝ }
 {
@@ -30,7 +30,7 @@ pub fn extract(block: &mut [f64], sigma: f64, tau: f64) -> Extracted
     Extracted { tau: sum }
 }
 
-// "T is the work area added up from +0 in rising order"
+// T of rule W3: one chain over the whole area, since in pieces it rounds otherwise (rule E4).
 pub fn last_sum(work: &[f64]) -> f64
     ensures { λ r. ⌜ r ≡ lastSum binary64 (now (work .entry)) ⌝ }
 {
@@ -53,7 +53,7 @@ pub fn absolute(x: f64) -> f64
     x
 }
 
-// "mu is the largest magnitude": +0 of an empty area. Patterns without their sign are in the order of their magnitudes; they are compared, and not the doubles,
+// mu of rule WO3: +0 of an empty area. Patterns without their sign are in the order of their magnitudes; they are compared, and not the doubles,
 // since the compiler takes the greatest whole number of several places at once.
 pub fn largest(work: &[f64]) -> f64
     requires { ⌜ Each (λ x. T (finite x)) (now work) ⌝ }

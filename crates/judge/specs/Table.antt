@@ -47,12 +47,12 @@ pub record Passed (W : Width) (area parts : Bool) (ps : List ℕ) : Type 0 where
 
 -- the table, a row for each verdict; no other number is given for a list
 pub data ListWhen (W : Width) (area parts : Bool) (ps : List ℕ) : Verdict → Type 0 where
-  -- "more than 4,094 numbers"
+  -- rule R1
   too-many : W .length < length ps → ListWhen W area parts ps (Refused 1 0)
-  -- "a lent area other than the parts slice has the wrong length"
+  -- rule R4
   wrong-area : length ps ≤ W .length → T (not area) → ListWhen W area parts ps (Refused 4 0)
-  -- "parts slice of length 0 or above 8"
+  -- rule R5
   wrong-parts : length ps ≤ W .length → T area → T (not parts) → ListWhen W area parts ps (Refused 5 0)
-  -- "the lowest bad place with its own fault (2 or 3)"
+  -- rules R2 and R3, at the first bad place
   bad-number : Passed W area parts ps → (k i : ℕ) → First W ps k i → ListWhen W area parts ps (Refused k i)
   allowed : Passed W area parts ps → Allowed W ps → ListWhen W area parts ps Good

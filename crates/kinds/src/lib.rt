@@ -46,10 +46,10 @@ impl Doubles {
     // rule L10: the most
     pub const PARTS: usize = 8;
 
-    // "t and tau are finite, of magnitude at most 2^1012"
+    // rule WS7: the pattern of 2^1012
     pub const CARRIED: u64 = 0x7F30_0000_0000_0000;
 
-    // "rounds closed 0 to 50"
+    // rule WS4
     pub const ROUNDS: u32 = 50;
 
     // Ties the constants to the definitions: where one of either moves, this is refused.

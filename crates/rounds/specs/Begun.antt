@@ -12,62 +12,71 @@ use Rattle.units.specs.Ceiling.{ceil-ge}
 use Rattle.units.specs.Turns.{tau-zero}
 use Rattle.ieee.specs.Units.{whole}
 use Rattle.ieee.specs.Sum.{whole-mag}
+use Rattle.lists.specs.Bitset.{full}
 use Rattle.lists.specs.Each.{Each, each-take}
-use Rattle.kinds.specs.Limits.{Width, exponentOf}
+use Rattle.kinds.specs.Limits.{Width, exponentOf, blocksOf}
+use Rattle.kinds.specs.declared.State.{State}
 use Rattle.extract.specs.Extract.{plusZero, gathered}
 use Rattle.extract.specs.LargestLaws.{zero-positive}
+use Rattle.rounds.specs.Round.{allTaken}
 use Rattle.rounds.specs.Fitting.{Fitting}
 use Rattle.rounds.specs.InUnits.{Small, Scale, Tau, gathers}
 
--- as a round opens: sigma is 2^(M + e) units, the work numbers are at most 2^e, and each round closed has lowered e by prec - M or more
-pub record Begun (W : Width) (F : Fitting W) (e n : ℕ) (sigma t : Float) (rounds : ℕ) (xs : List Float) : Type 0 where
-  pub some : 1 ≤ n
-  pub few : n ≤ W .length
-  pub count : length xs ≡ n
-  pub lowered : rounds * (prec (W .format) - exponentOf n) + e ≤ F .top
-  pub scale : Scale (W .format) (exponentOf n) e sigma
-  pub kept : Small (W .format) (2 ^ F .bound) t
+-- a state that opens a round of a run, with its work area: sigma is 2^(M + e) units, the work numbers are at most 2^e, each round closed has lowered e by
+-- prec - M or more, nothing was gathered and every block is pending
+pub record Begun (W : Width) (F : Fitting W) (e : ℕ) (s : State) (xs : List Float) : Type 0 where
+  pub some : 1 ≤ s .n
+  pub few : s .n ≤ W .length
+  pub count : length xs ≡ s .n
+  pub lowered : s .rounds * (prec (W .format) - exponentOf (s .n)) + e ≤ F .top
+  pub scale : Scale (W .format) (exponentOf (s .n)) e (s .sigma)
+  pub kept : Small (W .format) (2 ^ F .bound) (s .t)
   pub work : Each (Small (W .format) (2 ^ e)) xs
+  pub tau : s .tau ≡ plusZero (W .format)
+  pub pending : s .pending ≡ full (blocksOf W (s .n))
 
-module _ {W : Width} {F : Fitting W} {e n : ℕ} {sigma t : Float} {rounds : ℕ} {xs : List Float} (B : Begun W F e n sigma t rounds xs) where
+module _ {W : Width} {F : Fitting W} {e : ℕ} {s : State} {xs : List Float} (B : Begun W F e s xs) where
   -- the rounds closed are fewer than the width allows
-  pub begun-rounds : rounds ≤ W .rounds
+  pub begun-rounds : s .rounds ≤ W .rounds
   begun-rounds =
       let p = prec (W .format) in
-      let apart : p - F .most ≤ p - exponentOf n = omega (arith, F .most-is n (B .few)) in
-      let h : rounds * (p - exponentOf n) < suc (W .rounds) * (p - exponentOf n) =
+      let M = exponentOf (s .n) in
+      let apart : p - F .most ≤ p - M = omega (arith, F .most-is (s .n) (B .few)) in
+      let h : s .rounds * (p - M) < suc (W .rounds) * (p - M) =
       omega (arith, B .lowered, F .enough, mul-le-mul-left (suc (W .rounds)) apart) in
-      let l : rounds < suc (W .rounds) = lt-of-mul-lt-mul-right (p - exponentOf n) h in omega arith
+      let l : s .rounds < suc (W .rounds) = lt-of-mul-lt-mul-right (p - M) h in omega arith
 
-  pub first-tau : Tau (B .scale) 0 (plusZero (W .format))
+  pub first-tau : Tau (B .scale) 0 (s .tau)
   unfolding whole
-  first-tau = record {
-    number = zero-positive (W .format) .number;
-    units = rw (zero-positive (W .format) .sign, zero-positive (W .format) .units) (tau-zero (prec (W .format)) (exponentOf n) e);
-    plus = λ z. zero-positive (W .format) .sign;
-  }
+  first-tau =
+      let z = zero-positive (W .format) in
+      rw (B .tau) (record {
+        number = z .number;
+        units = rw (z .sign, z .units) (tau-zero (prec (W .format)) (exponentOf (s .n)) e);
+        plus = λ h. z .sign;
+      })
 
-  fewer : (k : ℕ) → length (take k xs) ≤ 2 ^ exponentOf n
-  fewer k = omega (arith, length-take k xs, B .count, ceil-ge (n + 2))
+  fewer : (k : ℕ) → length (take k xs) ≤ 2 ^ exponentOf (s .n)
+  fewer k = omega (arith, length-take k xs, B .count, ceil-ge (s .n + 2))
 
   -- tau after the first k numbers
-  pub tau-taken : (k : ℕ) → Tau (B .scale) (length (take k xs)) (gathered (W .format) sigma (plusZero (W .format)) (take k xs))
+  pub tau-taken : (k : ℕ) → Tau (B .scale) (length (take k xs)) (gathered (W .format) (s .sigma) (s .tau) (take k xs))
   tau-taken k =
       let z : 0 + length (take k xs) ≡ length (take k xs) = omega arith in
       rw z at (gathers (B .scale) (take k xs) first-tau (each-take (Small (W .format) (2 ^ e)) k xs (B .work)) (omega (arith, fewer k)) .0)
 
   -- tau stays within what a sound state may have
-  pub tau-bound : {c : ℕ} {tau : Float} → Tau (B .scale) c tau → c ≤ 2 ^ exponentOf n → Small (W .format) (2 ^ F .bound) tau
+  pub tau-bound : {c : ℕ} {tau : Float} → Tau (B .scale) c tau → c ≤ 2 ^ exponentOf (s .n) → Small (W .format) (2 ^ F .bound) tau
   tau-bound {c} {tau} T l =
-      let M = exponentOf n in
-      let most : 2 ^ (M + e) ≤ 2 ^ F .bound = pow-mono (omega (arith, F .most-is n (B .few), B .lowered, F .tau-room)) in
+      let M = exponentOf (s .n) in
+      let most : 2 ^ (M + e) ≤ 2 ^ F .bound = pow-mono (omega (arith, F .most-is (s .n) (B .few), B .lowered, F .tau-room)) in
       record {
         number = T .number;
         within = omega (arith, T .units .small, whole-mag (W .format) tau, mul-le-mul-right (2 ^ e) l, pow-add 2 M e, most);
       }
 
-  pub tau-small : (k : ℕ) → Small (W .format) (2 ^ F .bound) (gathered (W .format) sigma (plusZero (W .format)) (take k xs))
+  pub tau-small : (k : ℕ) → Small (W .format) (2 ^ F .bound) (gathered (W .format) (s .sigma) (s .tau) (take k xs))
   tau-small k = tau-bound (tau-taken k) (fewer k)
 
-  pub tau-all : Small (W .format) (2 ^ F .bound) (gathered (W .format) sigma (plusZero (W .format)) xs)
-  tau-all = rw (take-all n xs (omega (arith, B .count))) at (tau-small n)
+  pub tau-all : Small (W .format) (2 ^ F .bound) (allTaken W s xs .tau)
+  tau-all = rw (take-all (s .n) xs (omega (arith, B .count))) at (tau-small (s .n))

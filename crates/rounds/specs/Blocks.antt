@@ -10,85 +10,84 @@ use lib.Seq.{take-add, drop-drop, take-at, drop-at, length-take-le, take-all}
 use lib.Ieee.{Float}
 use Rattle.lists.specs.BitsetLaws.{without-from}
 use Rattle.kinds.specs.Limits.{Width, blocksOf}
-use Rattle.kinds.specs.States.{stateOf}
 use Rattle.kinds.specs.declared.State.{State}
-use Rattle.extract.specs.Extract.{plusZero, remainders, gathered}
+use Rattle.extract.specs.Extract.{remainders, gathered}
 use Rattle.extract.specs.ExtractLaws.{gathered-none, gathered-join, remainders-none, remainders-join, remainders-length}
-use Rattle.rounds.specs.Round.{blockOf, turned, takenState, roundOf}
+use Rattle.rounds.specs.Round.{blockOf, turned, inRound, takenState, allTaken, allLeft}
 use Rattle.rounds.specs.Fitting.{Fitting}
 use Rattle.rounds.specs.Begun.{Begun}
 
-module _ {W : Width} {F : Fitting W} {e n : ℕ} {sigma t : Float} {rounds : ℕ} {xs : List Float} (B : Begun W F e n sigma t rounds xs) where
+module _ {W : Width} {F : Fitting W} {e : ℕ} {s : State} {xs : List Float} (B : Begun W F e s xs) where
   -- ---- after the first j blocks
   unfoldable pub tauAt : ℕ → Float
-  tauAt j = gathered (W .format) sigma (plusZero (W .format)) (take (W .block * j) xs)
+  tauAt j = gathered (W .format) (s .sigma) (s .tau) (take (W .block * j) xs)
 
   unfoldable pub stateAt : ℕ → State
-  stateAt j = stateOf n sigma t (tauAt j) (2 ^ blocksOf W n - 2 ^ j) rounds
+  stateAt j = inRound s (tauAt j) (2 ^ blocksOf W (s .n) - 2 ^ j)
 
   unfoldable pub workAt : ℕ → List Float
-  workAt j = remainders (W .format) sigma (take (W .block * j) xs) ++ drop (W .block * j) xs
+  workAt j = remainders (W .format) (s .sigma) (take (W .block * j) xs) ++ drop (W .block * j) xs
 
   -- a block that there is starts inside the area
-  starts : (j : ℕ) → j < blocksOf W n → W .block * j < n
+  starts : (j : ℕ) → j < blocksOf W (s .n) → W .block * j < s .n
   starts j h =
       let b = W .block in
-      let l : suc j * b ≤ n + (b - 1) = le-div-iff-mul-le {k = b} (F .block) .0 h in
+      let l : suc j * b ≤ s .n + (b - 1) = le-div-iff-mul-le {k = b} (F .block) .0 h in
       omega (arith, l, mul-comm b j, F .block)
 
-  front : (j : ℕ) → j < blocksOf W n → length (remainders (W .format) sigma (take (W .block * j) xs)) ≡ W .block * j
+  front : (j : ℕ) → j < blocksOf W (s .n) → length (remainders (W .format) (s .sigma) (take (W .block * j) xs)) ≡ W .block * j
   front j h =
-      remainders-length (W .format) sigma (take (W .block * j) xs) ∙ length-take-le (W .block * j) xs (omega (arith, starts j h, B .count))
+      remainders-length (W .format) (s .sigma) (take (W .block * j) xs) ∙ length-take-le (W .block * j) xs (omega (arith, starts j h, B .count))
 
-  block-at : (j : ℕ) → j < blocksOf W n → blockOf W j (workAt j) ≡ take (W .block) (drop (W .block * j) xs)
+  block-at : (j : ℕ) → j < blocksOf W (s .n) → blockOf W j (workAt j) ≡ take (W .block) (drop (W .block * j) xs)
   unfolding workAt
-  block-at j h = ap (take (W .block)) (drop-at (remainders (W .format) sigma (take (W .block * j) xs)) _ (W .block * j) (front j h))
+  block-at j h = ap (take (W .block)) (drop-at (remainders (W .format) (s .sigma) (take (W .block * j) xs)) _ (W .block * j) (front j h))
 
-  next-tau : (j : ℕ) → j < blocksOf W n → gathered (W .format) sigma (tauAt j) (blockOf W j (workAt j)) ≡ tauAt (suc j)
+  next-tau : (j : ℕ) → j < blocksOf W (s .n) → gathered (W .format) (s .sigma) (tauAt j) (blockOf W j (workAt j)) ≡ tauAt (suc j)
   unfolding tauAt
   next-tau j h =
       let f = W .format in
       rw (block-at j h, mul-suc (W .block) j, take-add (W .block * j) (W .block) xs)
-      (sym (gathered-join f sigma (plusZero f) (take (W .block * j) xs) (take (W .block) (drop (W .block * j) xs))))
+      (sym (gathered-join f (s .sigma) (s .tau) (take (W .block * j) xs) (take (W .block) (drop (W .block * j) xs))))
 
-  pub next-work : (j : ℕ) → j < blocksOf W n → turned W sigma j (workAt j) ≡ workAt (suc j)
+  pub next-work : (j : ℕ) → j < blocksOf W (s .n) → turned W (s .sigma) j (workAt j) ≡ workAt (suc j)
   unfolding turned workAt
   next-work j h =
       let f = W .format in
       let k = W .block * j in
-      let done = remainders f sigma (take k xs) in
-      rw (block-at j h, take-at done (drop k xs) k (front j h), rest, mul-suc (W .block) j, take-add k (W .block) xs, remainders-join f sigma)
-      (sym (append-assoc done (remainders f sigma (take (W .block) (drop k xs))) (drop (k + W .block) xs)))
+      let done = remainders f (s .sigma) (take k xs) in
+      rw (block-at j h, take-at done (drop k xs) k (front j h), rest, mul-suc (W .block) j, take-add k (W .block) xs, remainders-join f (s .sigma))
+      (sym (append-assoc done (remainders f (s .sigma) (take (W .block) (drop k xs))) (drop (k + W .block) xs)))
     where
-      rest : drop (W .block * j + W .block) (remainders (W .format) sigma (take (W .block * j) xs) ++ drop (W .block * j) xs)
+      rest : drop (W .block * j + W .block) (remainders (W .format) (s .sigma) (take (W .block * j) xs) ++ drop (W .block * j) xs)
           ≡ drop (W .block * j + W .block) xs
       rest =
-          sym (drop-drop (W .block) (W .block * j) (remainders (W .format) sigma (take (W .block * j) xs) ++ drop (W .block * j) xs))
-          ∙ ap (drop (W .block)) (drop-at (remainders (W .format) sigma (take (W .block * j) xs)) (drop (W .block * j) xs) (W .block * j) (front j h))
+          sym (drop-drop (W .block) (W .block * j) (remainders (W .format) (s .sigma) (take (W .block * j) xs) ++ drop (W .block * j) xs))
+          ∙ ap (drop (W .block)) (drop-at (remainders (W .format) (s .sigma) (take (W .block * j) xs)) (drop (W .block * j) xs) (W .block * j) (front j h))
           ∙ drop-drop (W .block) (W .block * j) xs
 
-  pub next-state : (j : ℕ) → j < blocksOf W n → takenState W (stateAt j) j (workAt j) ≡ stateAt (suc j)
+  pub next-state : (j : ℕ) → j < blocksOf W (s .n) → takenState W (stateAt j) j (workAt j) ≡ stateAt (suc j)
   unfolding stateAt
-  next-state j h = λ i. stateOf n sigma t (next-tau j h i) (without-from h i) rounds
+  next-state j h = λ i. inRound s (next-tau j h i) (without-from h i)
 
   -- ---- before the first block, and after the last
-  pub first-state : stateAt 0 ≡ roundOf W n sigma t rounds
-  unfolding stateAt tauAt roundOf
-  first-state = rw (mul-zero (W .block), gathered-none (W .format) sigma)
+  pub first-state : stateAt 0 ≡ s
+  unfolding stateAt tauAt
+  first-state = rw (mul-zero (W .block), gathered-none (W .format) (s .sigma)) (λ i. inRound s (s .tau) (sym (B .pending) i))
 
   pub first-work : workAt 0 ≡ xs
   unfolding workAt
-  first-work = rw (mul-zero (W .block), remainders-none (W .format) sigma)
+  first-work = rw (mul-zero (W .block), remainders-none (W .format) (s .sigma))
 
-  pub covers : n ≤ W .block * blocksOf W n
-  covers = omega (arith, lt-div-mul-add {a = n + (W .block - 1)} {b = W .block} (F .block), mul-comm (W .block) (blocksOf W n), F .block)
+  pub covers : s .n ≤ W .block * blocksOf W (s .n)
+  covers = omega (arith, lt-div-mul-add {a = s .n + (W .block - 1)} {b = W .block} (F .block), mul-comm (W .block) (blocksOf W (s .n)), F .block)
 
-  pub last-state : stateAt (blocksOf W n) ≡ stateOf n sigma t (gathered (W .format) sigma (plusZero (W .format)) xs) 0 rounds
+  pub last-state : stateAt (blocksOf W (s .n)) ≡ allTaken W s xs
   unfolding stateAt tauAt
-  last-state = rw (take-all (W .block * blocksOf W n) xs (omega (arith, covers, B .count)), sub-self (2 ^ blocksOf W n))
+  last-state = rw (take-all (W .block * blocksOf W (s .n)) xs (omega (arith, covers, B .count)), sub-self (2 ^ blocksOf W (s .n)))
 
-  pub last-work : workAt (blocksOf W n) ≡ remainders (W .format) sigma xs
+  pub last-work : workAt (blocksOf W (s .n)) ≡ allLeft W s xs
   unfolding workAt
   last-work =
-      let l : length xs ≤ W .block * blocksOf W n = omega (arith, covers, B .count) in
-      rw (take-all (W .block * blocksOf W n) xs l, drop-of-length-le xs {i = W .block * blocksOf W n} l) (append-nil (remainders (W .format) sigma xs))
+      let l : length xs ≤ W .block * blocksOf W (s .n) = omega (arith, covers, B .count) in
+      rw (take-all (W .block * blocksOf W (s .n)) xs l, drop-of-length-le xs {i = W .block * blocksOf W (s .n)} l) (append-nil (allLeft W s xs))

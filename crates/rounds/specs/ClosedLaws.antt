@@ -1,27 +1,29 @@
--- What a close answers: rules 1 and 2 are a fresh start, as at an opening; one law for each case. Assumes nothing.
-use mathlib.Core.Path.{_≡_}
-use mathlib.Core.Bool.{Bool, true, false, _||_}
+-- What a close answers: rules W1 and W2 are a fresh start, as at an opening; one law for each case. Assumes nothing.
+use mathlib.Core.Path.{_≡_, refl}
+use mathlib.Core.Bool.{Bool, true, false, cond, _||_}
 use mathlib.Core.List.{List}
 use Prim.Native.Nat.{ℕ, _+_, _*_}
+use lib.Dec.{eqb}
 use lib.Ieee.{Float, add, le, eq}
+use Rattle.lists.specs.Apart.{apart}
 use Rattle.extract.specs.Extract.{plusZero, absolute}
 use Rattle.kinds.specs.Limits.{Width, exponentOf}
 use Rattle.kinds.specs.declared.State.{State}
+use Rattle.kinds.specs.declared.Step.{Step}
 use Rattle.kinds.specs.declared.Step.the-variants.{More, Done}
-use Rattle.rounds.specs.Round.{allZero, sigmaOf, roundOf, fresh, scaled, leastNormal, finished, closed}
+use Rattle.rounds.specs.Round.{roundOf, freshRound, fresh, scaled, leastNormal, finished, closedBy}
 
--- a round from the work area alone, or nothing to sum
-module _ (W : Width) (zero : Float) (n : ℕ) (xs : List Float) (rounds : ℕ) where
-  pub fresh-zero : allZero (W .format) xs ≡ true → fresh W zero n xs rounds ≡ Done zero rounds
+-- a round from mu alone, or nothing to sum
+module _ (W : Width) (zero : Float) (n mu rounds : ℕ) where
+  pub fresh-zero : eqb mu 0 ≡ true → fresh W zero n mu rounds ≡ Done zero rounds
   unfolding fresh
   fresh-zero a = rw a
 
-  pub fresh-round : allZero (W .format) xs ≡ false
-      → fresh W zero n xs rounds ≡ More (roundOf W n (sigmaOf (W .format) n xs) (plusZero (W .format)) rounds)
+  pub fresh-round : eqb mu 0 ≡ false → fresh W zero n mu rounds ≡ More (freshRound W n mu rounds)
   unfolding fresh
   fresh-round a = rw a
 
--- t' of a state, and rule 3's test
+-- t' of a state, rule 3's test, and the round that rule 4 opens
 abbrev pub tau1Of : Width → State → Float
 tau1Of W s = add (W .format) (s .t) (s .tau)
 
@@ -30,17 +32,58 @@ finishes W s =
     let f = W .format in
     le (s .sigma) (leastNormal f) || le (scaled f (2 * exponentOf (s .n) + 1) (s .sigma)) (absolute f (tau1Of W s))
 
-module _ (W : Width) (s : State) (xs : List Float) where
-  pub closed-zero : eq (tau1Of W s) (plusZero (W .format)) ≡ true → closed W s xs ≡ fresh W (plusZero (W .format)) (s .n) xs (s .rounds + 1)
-  unfolding closed
+abbrev pub furtherRound : Width → State → State
+furtherRound W s = roundOf W (s .n) (scaled (W .format) (exponentOf (s .n)) (s .sigma)) (tau1Of W s) (s .rounds + 1)
+
+-- what holds of each answer that a fresh start or a close may have holds of the one that it has
+module _ (P : Step → Type 0) (W : Width) where
+  pub fresh-each : (zero : Float) (n mu rounds : ℕ) → (eqb mu 0 ≡ true → P (Done zero rounds)) → (eqb mu 0 ≡ false → P (More (freshRound W n mu rounds)))
+      → P (fresh W zero n mu rounds)
+  unfolding fresh
+  fresh-each zero n mu rounds none some = go (eqb mu 0) refl
+    where
+      go : (a : Bool) → eqb mu 0 ≡ a → P (cond a (Done zero rounds) (More (freshRound W n mu rounds)))
+      go true a = none a
+      go false a = some a
+
+  module _ (mu : ℕ) (s : State) (xs : List Float) where
+    pub closed-each : (eq (tau1Of W s) (plusZero (W .format)) ≡ true → P (fresh W (plusZero (W .format)) (s .n) mu (s .rounds + 1)))
+        → (eq (tau1Of W s) (plusZero (W .format)) ≡ false → finishes W s ≡ true
+        → P (Done (finished (W .format) (tau1Of W s) (s .t) (s .tau) xs) (s .rounds + 1)))
+        → (eq (tau1Of W s) (plusZero (W .format)) ≡ false → finishes W s ≡ false → P (More (furtherRound W s)))
+        → P (closedBy W mu s xs)
+    unfolding closedBy
+    closed-each zero finish further = go (eq (tau1Of W s) (plusZero (W .format))) refl (finishes W s) refl
+      where
+        go : (z : Bool) → eq (tau1Of W s) (plusZero (W .format)) ≡ z → (r : Bool) → finishes W s ≡ r
+            → P
+            (cond z
+            (fresh W (plusZero (W .format)) (s .n) mu (s .rounds + 1))
+            (cond r (Done (finished (W .format) (tau1Of W s) (s .t) (s .tau) xs) (s .rounds + 1)) (More (furtherRound W s))))
+        go true z r h = zero z
+        go false z true h = finish z h
+        go false z false h = further z h
+
+-- a round that goes on passes neither test of rule 3
+pub not-finishes : (W : Width) (s : State) → finishes W s ≡ false
+    → (le (s .sigma) (leastNormal (W .format)) ≡ false)
+    × (le (scaled (W .format) (2 * exponentOf (s .n) + 1) (s .sigma)) (absolute (W .format) (tau1Of W s)) ≡ false)
+not-finishes W s h = neither _ _ h
+  where
+    neither : (a b : Bool) → (a || b) ≡ false → (a ≡ false) × (b ≡ false)
+    neither false b e = (refl, e)
+    neither true b e = apart (cc)
+
+module _ (W : Width) (mu : ℕ) (s : State) (xs : List Float) where
+  pub closed-zero : eq (tau1Of W s) (plusZero (W .format)) ≡ true → closedBy W mu s xs ≡ fresh W (plusZero (W .format)) (s .n) mu (s .rounds + 1)
+  unfolding closedBy
   closed-zero z = rw z
 
   pub closed-finish : eq (tau1Of W s) (plusZero (W .format)) ≡ false → finishes W s ≡ true
-      → closed W s xs ≡ Done (finished (W .format) (tau1Of W s) (s .t) (s .tau) xs) (s .rounds + 1)
-  unfolding closed
+      → closedBy W mu s xs ≡ Done (finished (W .format) (tau1Of W s) (s .t) (s .tau) xs) (s .rounds + 1)
+  unfolding closedBy
   closed-finish z r = rw (z, r)
 
-  pub closed-further : eq (tau1Of W s) (plusZero (W .format)) ≡ false → finishes W s ≡ false
-      → closed W s xs ≡ More (roundOf W (s .n) (scaled (W .format) (exponentOf (s .n)) (s .sigma)) (tau1Of W s) (s .rounds + 1))
-  unfolding closed
+  pub closed-further : eq (tau1Of W s) (plusZero (W .format)) ≡ false → finishes W s ≡ false → closedBy W mu s xs ≡ More (furtherRound W s)
+  unfolding closedBy
   closed-further z r = rw (z, r)

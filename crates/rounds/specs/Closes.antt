@@ -1,7 +1,7 @@
 -- How a round of a run closes: it ends the walk, or opens a round that has what a round of a run has, with e lowered by prec - M or more. Assumes nothing.
 use mathlib.Core.Path.{_≡_, refl, sym, ap, _∙_}
 use mathlib.Core.Logic.{_⊎_, inl, inr}
-use mathlib.Core.Bool.{Bool, true, false, cond, _||_}
+use mathlib.Core.Bool.{Bool, true, false}
 use mathlib.Core.List.{List}
 use Prim.Native.Nat.{ℕ, suc, _+_, _-_, _*_, _^_, _≤_, _<_}
 use native.Mathlib.Nat.{suc-mul, one-mul}
@@ -10,7 +10,7 @@ use native.Mathlib.Omega.{arith}
 use borrow.Author.Tests.{eqb-false, leb-true, leb-false}
 use lib.Dec.{leb, lit<}
 use lib.Pow.{pow-add, pow-mono, pow-lt}
-use lib.Ieee.{Float, Format, binary32, binary64, prec, low, hid, add, le, eq}
+use lib.Ieee.{Float, Format, binary32, binary64, prec, low, hid, le}
 use lib.Ieee.Fits.{mul-fits}
 use Rattle.units.specs.Rounding.{ceil}
 use Rattle.units.specs.Ceiling.{ceil-least}
@@ -23,19 +23,20 @@ use Rattle.ieee.specs.Compare.{le-units}
 use Rattle.ieee.specs.Product.{mul-powers}
 use Rattle.exponent.specs.Power.{powers, powerOf}
 use Rattle.exponent.specs.PowerLaws.{power-is, power-number, power-negative, power-magnitude, high-power}
-use Rattle.extract.specs.Extract.{plusZero, absolute, remainderOf, remainders, gathered, largest}
+use Rattle.extract.specs.Extract.{remainderOf, remainders, largest}
 use Rattle.extract.specs.ExtractLaws.{remainders-length, largest-le, largest-zero}
 use Rattle.extract.specs.LargestLaws.{Positive, Unsigned, positive-is, absolute-is}
 use Rattle.kinds.specs.Limits.{Width, exponentOf}
-use Rattle.kinds.specs.States.{stateOf}
+use Rattle.kinds.specs.declared.State.{State}
 use Rattle.kinds.specs.declared.Step.{Step}
 use Rattle.kinds.specs.declared.Step.the-variants.{More, Done}
 use Rattle.lists.specs.Each.{Each, each-map, each-weaker}
-use Rattle.rounds.specs.Round.{scaled, sigmaOf, allZero, leastNormal, finished, roundOf, fresh, closed}
+use Rattle.rounds.specs.Round.{allTaken, allLeft, scaled, allZero, leastNormal, freshRound, closedBy}
+use Rattle.rounds.specs.ClosedLaws.{tau1Of, finishes, furtherRound, not-finishes, fresh-each, closed-each}
 use Rattle.rounds.specs.Fitting.{Fitting}
 use Rattle.rounds.specs.InUnits.{Small, remainder-small}
 use Rattle.rounds.specs.Begun.{Begun, tau-all}
-use Rattle.rounds.specs.FreshRound.{begins}
+use Rattle.rounds.specs.FreshRound.{begins, largest-small}
 
 -- ---- 2^j eps times 2^k units are 2^c units, c = j + k - prec
 pub scaled-positive : (f : Format) (j k c : ℕ) {sigma : Float} → prec f ≤ low f → Positive f sigma (2 ^ k) → c + prec f ≡ j + k → j ≤ prec f
@@ -84,117 +85,113 @@ least-normal f =
     never : true ≡ false → ⊥
     never e = let z : _≡_ {A = ℕ} 0 1 = cc in omega arith
 
--- "sigma is at most 2^-1022": 2^(prec - 1) units are the least normal number
+-- rule W3's 2^-1022: 2^(prec - 1) units are the least normal number
 pub normal-above : (f : Format) (k : ℕ) {sigma : Float} → Positive f sigma (2 ^ k) → le sigma (leastNormal f) ≡ false → prec f ≤ k
 normal-above f k S u = elim (le-or-lt (prec f) k) [
   | inl l ↦ l
   | inr l ↦ absurd (omega (arith, above f S (least-normal f) u, pow-mono {i = k} {j = prec f - 1} (omega arith)))
 ]
 
--- ---- the close
--- t' as the round closes that took all of xs
-abbrev pub carried : Width → Float → Float → List Float → Float
-carried W sigma t xs = add (W .format) t (gathered (W .format) sigma (plusZero (W .format)) xs)
+-- ---- the close: it ends the walk, or a state of the same list with one round more opens the next round
+pub data Next (W : Width) (F : Fitting W) (s : State) (ys : List Float) : Step → Type 0 where
+  ends : (x : Float) → Next W F s ys (Done x (s .rounds + 1))
+  goes : (e : ℕ) (s' : State) → s' .n ≡ s .n → s' .rounds ≡ s .rounds + 1 → Begun W F e s' ys → Next W F s ys (More s')
 
-pub data Next (W : Width) (F : Fitting W) (n rounds : ℕ) (ys : List Float) : Step → Type 0 where
-  ends : (x : Float) → Next W F n rounds ys (Done x (rounds + 1))
-  goes : (e : ℕ) (sigma t : Float) → Begun W F e n sigma t (rounds + 1) ys → Next W F n rounds ys (More (roundOf W n sigma t (rounds + 1)))
-
-module _ {W : Width} {F : Fitting W} {e n : ℕ} {sigma t : Float} {rounds : ℕ} {xs : List Float} (B : Begun W F e n sigma t rounds xs) where
+module _ {W : Width} {F : Fitting W} {e : ℕ} {s : State} {xs : List Float} (B : Begun W F e s xs) where
   -- what a round leaves of each number, where it may leave anything
-  left : prec (W .format) ≤ exponentOf n + e → Each (Small (W .format) (2 ^ (exponentOf n + e - prec (W .format)))) (remainders (W .format) sigma xs)
+  left : prec (W .format) ≤ exponentOf (s .n) + e → Each (Small (W .format) (2 ^ (exponentOf (s .n) + e - prec (W .format)))) (allLeft W s xs)
   unfolding remainders
-  left h = each-map (Small f (2 ^ e)) (Small f (2 ^ (M + e - prec f))) (remainderOf f sigma) small xs (B .work)
+  left h = each-map (Small f (2 ^ e)) (Small f (2 ^ (M + e - prec f))) (remainderOf f (s .sigma)) small xs (B .work)
     where
       f : Format
       f = W .format
 
       M : ℕ
-      M = exponentOf n
+      M = exponentOf (s .n)
 
-      small : (x : Float) → Small f (2 ^ e) x → Small f (2 ^ (M + e - prec f)) (remainderOf f sigma x)
+      small : (x : Float) → Small f (2 ^ e) x → Small f (2 ^ (M + e - prec f)) (remainderOf f (s .sigma) x)
       small x X =
           let R = remainder-small (B .scale) X in
           let z : suc (M + e) - prec f ≡ suc (M + e - prec f) = omega arith in
           record { number = R .0; within = omega (arith, R .1, ap (λ (k : ℕ). 2 ^ k) z, pow-add 2 1 (M + e - prec f)) }
 
   -- and where it may not
-  none-left : exponentOf n + e < prec (W .format) → largest (W .format) (remainders (W .format) sigma xs) ≡ 0
+  none-left : exponentOf (s .n) + e < prec (W .format) → largest (W .format) (allLeft W s xs) ≡ 0
   unfolding remainders
-  none-left h = largest-zero f (remainders f sigma xs) (each-map (Small f (2 ^ e)) (λ y. magnitude f y ≡ 0) (remainderOf f sigma) zero xs (B .work))
+  none-left h =
+      largest-zero f (allLeft W s xs) (each-map (Small f (2 ^ e)) (λ y. magnitude f y ≡ 0) (remainderOf f (s .sigma)) zero xs (B .work))
     where
       f : Format
       f = W .format
 
       M : ℕ
-      M = exponentOf n
+      M = exponentOf (s .n)
 
-      zero : (x : Float) → Small f (2 ^ e) x → magnitude f (remainderOf f sigma x) ≡ 0
+      zero : (x : Float) → Small f (2 ^ e) x → magnitude f (remainderOf f (s .sigma) x) ≡ 0
       zero x X =
           let R = remainder-small (B .scale) X in
           let z : suc (M + e) - prec f ≡ 0 = omega arith in
           omega (arith, R .1, ap (λ (k : ℕ). 2 ^ k) z)
 
-  -- ---- rule 2: a restart
-  lower : (c : ℕ) → c + (prec (W .format) - exponentOf n) ≤ e → (rounds + 1) * (prec (W .format) - exponentOf n) + c ≤ F .top
-  lower c h = rw (add-one rounds, suc-mul rounds (prec (W .format) - exponentOf n)) (omega (arith, B .lowered))
+  -- ---- rule W2: a restart
+  lower : (c : ℕ) → c + (prec (W .format) - exponentOf (s .n)) ≤ e → (s .rounds + 1) * (prec (W .format) - exponentOf (s .n)) + c ≤ F .top
+  lower c h = rw (add-one (s .rounds), suc-mul (s .rounds) (prec (W .format) - exponentOf (s .n))) (omega (arith, B .lowered))
 
-  pub restarts : allZero (W .format) (remainders (W .format) sigma xs) ≡ false
-      → Begun W F (ceil (largest (W .format) (remainders (W .format) sigma xs))) n (sigmaOf (W .format) n (remainders (W .format) sigma xs))
-      (plusZero (W .format)) (rounds + 1) (remainders (W .format) sigma xs)
-  restarts z = go (le-or-lt (prec (W .format)) (exponentOf n + e))
+  pub restarts : allZero (W .format) (allLeft W s xs) ≡ false
+      → Begun W F (ceil (largest (W .format) (allLeft W s xs))) (freshRound W (s .n) (largest (W .format) (allLeft W s xs)) (s .rounds + 1)) (allLeft W s xs)
+  restarts z = go (le-or-lt (prec (W .format)) (exponentOf (s .n) + e))
     where
       f : Format
       f = W .format
 
       ys : List Float
-      ys = remainders f sigma xs
+      ys = allLeft W s xs
 
-      go : (prec f ≤ exponentOf n + e) ⊎ (exponentOf n + e < prec f) → Begun W F (ceil (largest f ys)) n (sigmaOf f n ys) (plusZero f) (rounds + 1) ys
+      go : (prec f ≤ exponentOf (s .n) + e) ⊎ (exponentOf (s .n) + e < prec f)
+          → Begun W F (ceil (largest f ys)) (freshRound W (s .n) (largest f ys) (s .rounds + 1)) ys
       go (inr l) = absurd (eqb-false _ 0 z (none-left l))
       go (inl l) =
-          let c = exponentOf n + e - prec f in
+          let c = exponentOf (s .n) + e - prec f in
           let least : ceil (largest f ys) ≤ c = ceil-least (largest-le f (2 ^ c) ys (each-weaker _ _ (λ y Y. Y .within) ys (left l))) in
-          begins (2 ^ c) (B .some) (B .few) (remainders-length f sigma xs ∙ B .count) (left l) (lower (ceil (largest f ys)) (omega (arith, B .scale .few)))
+          begins (largest f ys) (B .some) (B .few) (remainders-length f (s .sigma) xs ∙ B .count) (largest-small f _ ys (left l))
+          (lower (ceil (largest f ys)) (omega (arith, B .scale .few)))
 
-  -- ---- rule 4: a further round
-  next-number : Number (W .format) (carried W sigma t xs)
+  -- ---- rule W4: a further round
+  next-number : Number (W .format) (tau1Of W (allTaken W s xs))
   next-number =
       let f = W .format in
-      let tau = gathered f sigma (plusZero f) xs in
       let T = tau-all B in
       add-rounds (B .kept .number) (T .number) (F .bound + 1) (omega (arith, F .sum-room))
-      (omega (arith, whole-mag f t, B .kept .within, whole-mag f tau, T .within, pow-add 2 (F .bound) 1)) .number
+      (omega (arith, whole-mag f (s .t), B .kept .within, whole-mag f (allTaken W s xs .tau), T .within, pow-add 2 (F .bound) 1)) .number
 
-  half : exponentOf n + exponentOf n < prec (W .format)
-  half = omega (arith, F .most-is n (B .few), F .half)
+  half : exponentOf (s .n) + exponentOf (s .n) < prec (W .format)
+  half = omega (arith, F .most-is (s .n) (B .few), F .half)
 
-  pub below-normal : le sigma (leastNormal (W .format)) ≡ true → exponentOf n + e < prec (W .format)
-  below-normal u = elim (le-or-lt (prec f) (exponentOf n + e)) [
-    | inl l ↦ absurd (omega (arith, reached f (B .scale .power) (least-normal f) u, pow-lt {i = prec f - 1} {j = exponentOf n + e} (omega arith)))
+  pub below-normal : le (s .sigma) (leastNormal (W .format)) ≡ true → exponentOf (s .n) + e < prec (W .format)
+  below-normal u = elim (le-or-lt (prec f) (exponentOf (s .n) + e)) [
+    | inl l ↦ absurd (omega (arith, reached f (B .scale .power) (least-normal f) u, pow-lt {i = prec f - 1} {j = exponentOf (s .n) + e} (omega arith)))
     | inr l ↦ l
   ]
     where
       f : Format
       f = W .format
 
-  pub above-normal : le sigma (leastNormal (W .format)) ≡ false → prec (W .format) ≤ exponentOf n + e
-  above-normal u = normal-above (W .format) (exponentOf n + e) (B .scale .power) u
+  pub above-normal : finishes W (allTaken W s xs) ≡ false → prec (W .format) ≤ exponentOf (s .n) + e
+  above-normal r = normal-above (W .format) (exponentOf (s .n) + e) (B .scale .power) (not-finishes W (allTaken W s xs) r .0)
 
   -- 2^(2M+1) eps sigma, where eps sigma is a unit or more
-  pub threshold : prec (W .format) ≤ exponentOf n + e
-      → Positive (W .format) (scaled (W .format) (2 * exponentOf n + 1) sigma) (2 ^ (2 * exponentOf n + 1 + (exponentOf n + e) - prec (W .format)))
-  threshold l = scaled-positive (W .format) (2 * exponentOf n + 1) (exponentOf n + e) _ (F .fine) (B .scale .power) (omega (arith, l)) (omega (arith, half))
-      (omega (arith, half, B .scale .room))
+  pub threshold : prec (W .format) ≤ exponentOf (s .n) + e
+      → Positive (W .format) (scaled (W .format) (2 * exponentOf (s .n) + 1) (s .sigma))
+      (2 ^ (2 * exponentOf (s .n) + 1 + (exponentOf (s .n) + e) - prec (W .format)))
+  threshold l = scaled-positive (W .format) (2 * exponentOf (s .n) + 1) (exponentOf (s .n) + e) _ (F .fine) (B .scale .power) (omega (arith, l))
+      (omega (arith, half)) (omega (arith, half, B .scale .room))
 
-  pub further : le sigma (leastNormal (W .format)) ≡ false
-      → le (scaled (W .format) (2 * exponentOf n + 1) sigma) (absolute (W .format) (carried W sigma t xs)) ≡ false
-      → Begun W F (exponentOf n + e - prec (W .format)) n (scaled (W .format) (exponentOf n) sigma) (carried W sigma t xs) (rounds + 1)
-      (remainders (W .format) sigma xs)
-  further u v = record {
+  pub further : finishes W (allTaken W s xs) ≡ false
+      → Begun W F (exponentOf (s .n) + e - prec (W .format)) (furtherRound W (allTaken W s xs)) (allLeft W s xs)
+  further r = record {
     some = B .some;
     few = B .few;
-    count = remainders-length f sigma xs ∙ B .count;
+    count = remainders-length f (s .sigma) xs ∙ B .count;
     lowered = lower (M + e - prec f) (omega (arith, normal, B .scale .few));
     scale = record {
       some = B .scale .some;
@@ -203,49 +200,31 @@ module _ {W : Width} {F : Fitting W} {e n : ℕ} {sigma t : Float} {rounds : ℕ
       power = scaled-positive f M (M + e) (M + (M + e - prec f)) (F .fine) (B .scale .power) (omega (arith, normal)) (omega (arith, half))
           (omega (arith, B .scale .room));
     };
-    kept = record { number = next-number; within = omega (arith, above f (threshold normal) (absolute-is f next-number) v, pow-mono capped) };
+    kept = record {
+      number = next-number;
+      within = omega (arith, above f (threshold normal) (absolute-is f next-number) (not-finishes W (allTaken W s xs) r .1), pow-mono capped);
+    };
     work = left normal;
+    tau = refl;
+    pending = refl;
   }
     where
       f : Format
       f = W .format
 
       M : ℕ
-      M = exponentOf n
+      M = exponentOf (s .n)
 
       normal : prec f ≤ M + e
-      normal = above-normal u
+      normal = above-normal r
 
       capped : 2 * M + 1 + (M + e) - prec f ≤ F .bound
-      capped = omega (arith, F .most-is n (B .few), B .lowered, F .t-room)
+      capped = omega (arith, F .most-is (s .n) (B .few), B .lowered, F .t-room)
 
   -- ---- the four rules
-  pub falls : Next W F n rounds (remainders (W .format) sigma xs)
-      (closed W (stateOf n sigma t (gathered (W .format) sigma (plusZero (W .format)) xs) 0 rounds) (remainders (W .format) sigma xs))
-  unfolding closed fresh
+  pub falls : Next W F s (allLeft W s xs) (closedBy W (largest (W .format) (allLeft W s xs)) (allTaken W s xs) (allLeft W s xs))
   falls =
-      go (eq (carried W sigma t xs) (plusZero f)) (allZero f ys) refl (le sigma (leastNormal f)) refl
-      (le (scaled f (2 * M + 1) sigma) (absolute f (carried W sigma t xs))) refl
-    where
-      f : Format
-      f = W .format
-
-      M : ℕ
-      M = exponentOf n
-
-      ys : List Float
-      ys = remainders f sigma xs
-
-      go : (z a : Bool) → allZero f ys ≡ a → (u : Bool) → le sigma (leastNormal f) ≡ u
-          → (v : Bool) → le (scaled f (2 * M + 1) sigma) (absolute f (carried W sigma t xs)) ≡ v
-          → Next W F n rounds ys
-          (cond z
-          (cond a (Done (plusZero f) (rounds + 1)) (More (roundOf W n (sigmaOf f n ys) (plusZero f) (rounds + 1))))
-          (cond (u || v)
-          (Done (finished f (carried W sigma t xs) t (gathered f sigma (plusZero f) xs) ys) (rounds + 1))
-          (More (roundOf W n (scaled f M sigma) (carried W sigma t xs) (rounds + 1)))))
-      go true true a u h v i = ends _
-      go true false a u h v i = goes _ _ _ (restarts a)
-      go false b a true h v i = ends _
-      go false b a false h true i = ends _
-      go false b a false h false i = goes _ _ _ (further h i)
+      let P = Next W F s (allLeft W s xs) in
+      closed-each P W (largest (W .format) (allLeft W s xs)) (allTaken W s xs) (allLeft W s xs)
+      (λ z. fresh-each P W _ (s .n) _ _ (λ a. ends _) (λ a. goes _ _ refl refl (restarts a)))
+      (λ z r. ends _) (λ z r. goes _ _ refl refl (further r))

@@ -1,4 +1,4 @@
--- What demand 3 says of a place and of tau as a block is taken. Definitions only.
+-- What rule WE1 says of a place and of tau as a block is taken. Definitions only.
 use mathlib.Core.Path.{_≡_}
 use mathlib.Core.Bool.{false}
 use mathlib.Core.List.{List, [], _∷_}
@@ -7,7 +7,7 @@ use lib.Ieee.{Float, Format, add}
 use Rattle.ieee.specs.Units.{Number, magnitude, negative, value}
 use Rattle.extract.specs.Extract.{highPart, remainderOf}
 
--- Demand 3: "For each place both subtractions are exact: in units q is (sigma + p rounded) less sigma, and the remainder is p less q." All three are numbers.
+-- Both subtractions of rule WB1 are exact in units: q is the rounded sum less sigma, and the remainder is p less q. All three are numbers.
 pub record Exact (f : Format) (sigma x : Float) : Type 0 where
   pub raised-number : Number f (add f sigma x)
   pub high-number : Number f (highPart f sigma x)
@@ -15,7 +15,7 @@ pub record Exact (f : Format) (sigma x : Float) : Type 0 where
   pub high : value f (highPart f sigma x) ≡ value f (add f sigma x) -ℤ value f sigma
   pub remainder : value f (remainderOf f sigma x) ≡ value f x -ℤ value f (highPart f sigma x)
 
--- "the additions to tau are exact and tau is never -0": each of them, in rising order
+-- the additions to tau, each of them, in rising order: exact, and none leaves -0
 abbrev pub ExactSums : Format → Float → Float → List Float → Type 0
 ExactSums f sigma tau [] = Unit {0}
 ExactSums f sigma tau (x ∷ xs) =

@@ -3,15 +3,15 @@ use mathlib.Core.Path.{_≡_}
 use Prim.Native.Nat.{ℕ, suc, _+_, _-_, _*_, _^_, _≤_, _<_}
 use lib.Ieee.{prec, emax, low}
 use Rattle.kinds.specs.Limits.{Width, exponentOf}
-use Rattle.sound.specs.Sound.{unitsAt}
+use Rattle.judge.specs.Table.{sizeOf}
 
 pub record Fitting (W : Width) : Type 0 where
   -- the largest magnitude is 2^top units, t and tau of a sound state are at most 2^bound units, and M is at most `most`
   pub top : ℕ
   pub bound : ℕ
   pub most : ℕ
-  pub top-is : unitsAt W (W .magnitude) ≡ 2 ^ top
-  pub bound-is : unitsAt W (W .carried) ≡ 2 ^ bound
+  pub top-is : sizeOf W (W .magnitude) ≡ 2 ^ top
+  pub bound-is : sizeOf W (W .carried) ≡ 2 ^ bound
   pub most-is : (n : ℕ) → n ≤ W .length → exponentOf n ≤ most
   -- a block holds something
   pub block : 0 < W .block

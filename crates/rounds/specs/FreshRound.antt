@@ -1,5 +1,5 @@
--- A round that takes sigma from the work area, as an opening and a restart do, is one of a run. Assumes nothing.
-use mathlib.Core.Path.{_≡_}
+-- A round that takes sigma from mu, as an opening and a restart do, is one of a run. Assumes nothing.
+use mathlib.Core.Path.{_≡_, refl}
 use mathlib.Core.Bool.{false}
 use mathlib.Core.List.{List, [], _∷_}
 use Prim.Native.Nat.{ℕ, zero, suc, _+_, _-_, _*_, _^_, _≤_, _<_}
@@ -10,14 +10,14 @@ use lib.Ieee.{Float, Format, prec}
 use Rattle.units.specs.Rounding.{ceil}
 use Rattle.units.specs.Ceiling.{ceil-ge}
 use Rattle.ieee.specs.Units.{magnitude}
-use Rattle.lists.specs.Each.{Each, each-both}
+use Rattle.lists.specs.Each.{Each, each-weaker, each-both}
 use Rattle.kinds.specs.Limits.{Width, exponentOf}
-use Rattle.extract.specs.Extract.{plusZero, largest}
+use Rattle.extract.specs.Extract.{largest}
 use Rattle.extract.specs.ExtractLaws.{largest-bounds, largest-none}
 use Rattle.extract.specs.LargestLaws.{zero-positive}
 use Rattle.exponent.specs.Power.{powers}
 use Rattle.exponent.specs.PowerLaws.{power-number, power-negative, power-magnitude}
-use Rattle.rounds.specs.Round.{allZero, sigmaOf}
+use Rattle.rounds.specs.Round.{allZero, freshRound}
 use Rattle.rounds.specs.Fitting.{Fitting}
 use Rattle.rounds.specs.InUnits.{Small}
 use Rattle.rounds.specs.Begun.{Begun}
@@ -29,11 +29,10 @@ exponent-some n = positive (exponentOf n) (ceil-ge (n + 2))
     positive zero h = absurd (omega arith)
     positive (suc M) h = omega arith
 
--- ---- "mu is the largest magnitude, e the least whole number with mu at most 2^e, sigma = 2^(M+e), t = +0"
-module _ {W : Width} {F : Fitting W} {n rounds : ℕ} {xs : List Float} (most : ℕ) where
-  pub begins : 1 ≤ n → n ≤ W .length → length xs ≡ n → Each (Small (W .format) most) xs
-      → rounds * (prec (W .format) - exponentOf n) + ceil (largest (W .format) xs) ≤ F .top
-      → Begun W F (ceil (largest (W .format) xs)) n (sigmaOf (W .format) n xs) (plusZero (W .format)) rounds xs
+-- ---- rule WO3, with t = +0: mu is at least every magnitude
+module _ {W : Width} {F : Fitting W} {n rounds : ℕ} {xs : List Float} (mu : ℕ) where
+  pub begins : 1 ≤ n → n ≤ W .length → length xs ≡ n → Each (Small (W .format) mu) xs → rounds * (prec (W .format) - exponentOf n) + ceil mu ≤ F .top
+      → Begun W F (ceil mu) (freshRound W n mu rounds) xs
   begins some few count work lowered = record {
     some = some;
     few = few;
@@ -46,8 +45,9 @@ module _ {W : Width} {F : Fitting W} {n rounds : ℕ} {xs : List Float} (most : 
       power = record { number = power-number f inside; sign = power-negative f inside; units = power-magnitude f inside };
     };
     kept = record { number = zero-positive f .number; within = omega (arith, zero-positive f .units) };
-    work = each-both (Small f most) (λ y. magnitude f y ≤ largest f xs) (Small f (2 ^ ceil (largest f xs)))
-        (λ y Y h. record { number = Y .number; within = omega (arith, ceil-ge (largest f xs)) }) xs work (largest-bounds f xs);
+    work = each-weaker (Small f mu) (Small f (2 ^ ceil mu)) (λ y Y. record { number = Y .number; within = omega (arith, Y .within, ceil-ge mu) }) xs work;
+    tau = refl;
+    pending = refl;
   }
     where
       f : Format
@@ -56,8 +56,14 @@ module _ {W : Width} {F : Fitting W} {n rounds : ℕ} {xs : List Float} (most : 
       M-most : exponentOf n ≤ F .most
       M-most = F .most-is n few
 
-      inside : exponentOf n + ceil (largest f xs) < powers f
+      inside : exponentOf n + ceil mu < powers f
       inside = omega (arith, M-most, lowered, F .room)
+
+-- the largest magnitude is
+pub largest-small : (f : Format) (most : ℕ) (xs : List Float) → Each (Small f most) xs → Each (Small f (largest f xs)) xs
+largest-small f most xs h =
+    each-both (Small f most) (λ y. magnitude f y ≤ largest f xs) (Small f (largest f xs)) (λ y Y l. record { number = Y .number; within = l }) xs h
+    (largest-bounds f xs)
 
 pub some-left : (f : Format) (xs : List Float) → allZero f xs ≡ false → 1 ≤ length xs
 some-left f [] h = absurd (eqb-false _ 0 h (largest-none f))

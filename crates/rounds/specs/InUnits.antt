@@ -175,7 +175,7 @@ module _ {f : Format} {M e : ℕ} {sigma : Float} (σ : Scale f M e sigma) where
     plus = sum-plus tau (highPart f sigma x) (T .plus) (next-sum T X l);
   }
 
-  -- "the additions to tau are exact"
+  -- rule WE1, for tau
   tau-exact : {c : ℕ} {tau x : Float} → Tau c tau → Small f (2 ^ e) x → c < 2 ^ M
       → value f (add f tau (highPart f sigma x)) ≡ value f tau +ℤ value f (highPart f sigma x)
   tau-exact {tau = tau} {x} T X l =

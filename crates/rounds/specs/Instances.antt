@@ -1,4 +1,4 @@
--- Document 01's width fits the walk, and so do numbers for binary32: 2,046 numbers of magnitude at most 2^100, t and tau up to 2^111, 19 rounds closed.
+-- The scope's width fits the walk, and so do numbers for binary32: 2,046 numbers of magnitude at most 2^100, t and tau up to 2^111, 19 rounds closed.
 -- Assumes nothing.
 use mathlib.Core.Path.{refl}
 use native.Mathlib.Omega.{arith}

@@ -1,7 +1,7 @@
 -- One round of the faithful walk.
 pub mod Round
 pub mod Exactness
-pub mod Closing
+pub mod Closable
 pub mod Fitting
 pub mod InUnits
 pub mod Begun
@@ -9,6 +9,5 @@ pub mod FreshRound
 pub mod Blocks
 pub mod Closes
 pub mod Instances
-pub mod CutLaws
 pub mod SigmaLaws
 pub mod ClosedLaws

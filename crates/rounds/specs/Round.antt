@@ -1,5 +1,5 @@
 -- One round of the faithful walk: the blocks, sigma, how a round opens, and the four rules of its close. Definitions only.
--- Each operation is one rounded operation of the format.
+-- Rule WB2: each operation is one rounded operation of the format.
 use mathlib.Core.Bool.{Bool, cond, _||_}
 use mathlib.Core.List.{List, _++_}
 use Prim.Native.Nat.{ℕ, _+_, _-_, _*_}
@@ -16,38 +16,50 @@ use Rattle.kinds.specs.declared.Step.the-variants.{More, Done}
 use Rattle.extract.specs.Extract.{plusZero, remainders, gathered, lastSum, absolute, largest}
 use Rattle.exponent.specs.Power.{powerOf}
 
--- "Block b covers places 64b to 64b+63, cut at n."
+-- rule L8
 abbrev pub blockOf : Width → ℕ → List Float → List Float
 blockOf W b xs = take (W .block) (drop (W .block * b) xs)
 
--- block b turned into its remainders, and no other place
+-- rule WB1: block b turned into its remainders, and no other place
 unfoldable pub turned : Width → Float → ℕ → List Float → List Float
 turned W sigma b xs = take (W .block * b) xs ++ (remainders (W .format) sigma (blockOf W b xs) ++ drop (W .block * b + W .block) xs)
 
+-- the same round with another tau and pending set: the one place that writes out what a round keeps of its state
+abbrev pub inRound : State → Float → ℕ → State
+inRound s tau pending = stateOf (s .n) (s .sigma) (s .t) tau pending (s .rounds)
+
 -- the state after block b: tau has gathered its numbers, and it is pending no more
 abbrev pub takenState : Width → State → ℕ → List Float → State
-takenState W s b work =
-    stateOf (s .n) (s .sigma) (s .t) (gathered (W .format) (s .sigma) (s .tau) (blockOf W b work)) (without (s .pending) b) (s .rounds)
+takenState W s b work = inRound s (gathered (W .format) (s .sigma) (s .tau) (blockOf W b work)) (without (s .pending) b)
 
--- ---- "mu is the largest magnitude, e the least whole number with mu at most 2^e, sigma = 2^(M+e)"; mu and 2^e in units
+-- the state and its work area after every block, as its round closes
+abbrev pub allTaken : Width → State → List Float → State
+allTaken W s xs = inRound s (gathered (W .format) (s .sigma) (s .tau) xs) 0
+
+abbrev pub allLeft : Width → State → List Float → List Float
+allLeft W s xs = remainders (W .format) (s .sigma) xs
+
+-- every number is zero
 abbrev pub allZero : Format → List Float → Bool
 allZero f xs = eqb (largest f xs) 0
 
-abbrev pub sigmaOf : Format → ℕ → List Float → Float
-sigmaOf f n xs = powerOf f (exponentOf n + ceil (largest f xs))
+-- ---- rule WO3: sigma, with mu and 2^e in units
+abbrev pub sigmaOf : Format → ℕ → ℕ → Float
+sigmaOf f n mu = powerOf f (exponentOf n + ceil mu)
 
--- "a new round opens with tau = +0 and all blocks pending"
-unfoldable pub roundOf : Width → ℕ → Float → Float → ℕ → State
+-- rule WC2
+abbrev pub roundOf : Width → ℕ → Float → Float → ℕ → State
 roundOf W n sigma t rounds = stateOf n sigma t (plusZero (W .format)) (full (blocksOf W n)) rounds
 
--- mu, e and sigma from the work area, t = +0: as at an opening, so at a restart. Where every number is zero the answer is `zero`.
-unfoldable pub fresh : Width → Float → ℕ → List Float → ℕ → Step
-fresh W zero n xs rounds =
-    let f = W .format in
-    cond (allZero f xs) (Done zero rounds) (More (roundOf W n (sigmaOf f n xs) (plusZero f) rounds))
+-- rules WO3 and W2: an opening and a restart take e and sigma from mu alike, with t = +0. Rules WO2 and W1: where mu is zero the answer is `zero`.
+abbrev pub freshRound : Width → ℕ → ℕ → ℕ → State
+freshRound W n mu rounds = roundOf W n (sigmaOf (W .format) n mu) (plusZero (W .format)) rounds
+
+unfoldable pub fresh : Width → Float → ℕ → ℕ → ℕ → Step
+fresh W zero n mu rounds = cond (eqb mu 0) (Done zero rounds) (More (freshRound W n mu rounds))
 
 -- ---- the close
--- 2^j eps sigma, as the product of the float 2^j eps and sigma: eps is 2^-prec, and a unit 2^-low
+-- 2^j eps sigma, as the product of the float 2^j eps and sigma: eps (rule L3) is 2^-prec, and a unit 2^-low
 unfoldable pub scaled : Format → ℕ → Float → Float
 scaled f j sigma = mul f (powerOf f (low f + j - prec f)) sigma
 
@@ -55,19 +67,22 @@ scaled f j sigma = mul f (powerOf f (low f + j - prec f)) sigma
 abbrev pub leastNormal : Format → Float
 leastNormal f = ofBits f (hid f)
 
--- "tau1 = t'; tau2 = tau - (tau1 - t); .. the answer is tau1 + (tau2 + T)"
+-- the sum of rule W3
 unfoldable pub finished : Format → Float → Float → Float → List Float → Float
 finished f tau1 t tau xs = let tau2 = sub f tau (sub f tau1 t) in add f tau1 (add f tau2 (lastSum f xs))
 
--- rules 1 to 4 for a state whose last pending block was taken, and its work area
-unfoldable pub closed : Width → State → List Float → Step
-closed W s xs =
+-- rules WC1 and W1 to W4, for a state whose last pending block was taken and its work area, of which mu is the largest magnitude; rule WR2: the round counts
+unfoldable pub closedBy : Width → ℕ → State → List Float → Step
+closedBy W mu s xs =
     let f = W .format in
     let M = exponentOf (s .n) in
     let t' = add f (s .t) (s .tau) in
     let rounds = s .rounds + 1 in
     cond (eq t' (plusZero f))
-    (fresh W (plusZero f) (s .n) xs rounds)
+    (fresh W (plusZero f) (s .n) mu rounds)
     (cond (le (s .sigma) (leastNormal f) || le (scaled f (2 * M + 1) (s .sigma)) (absolute f t'))
     (Done (finished f t' (s .t) (s .tau) xs) rounds)
     (More (roundOf W (s .n) (scaled f M (s .sigma)) t' rounds)))
+
+abbrev pub closed : Width → State → List Float → Step
+closed W s xs = closedBy W (largest (W .format) xs) s xs

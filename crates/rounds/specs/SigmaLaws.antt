@@ -15,7 +15,7 @@ use Rattle.exponent.specs.Power.{powers}
 use Rattle.extract.specs.Extract.{plusZero, largest}
 use Rattle.extract.specs.ExtractLaws.{largest-le}
 use Rattle.extract.specs.LargestLaws.{Positive, zero-positive}
-use Rattle.sound.specs.Sound.{unitsAt}
+use Rattle.judge.specs.Table.{sizeOf}
 use Rattle.kinds.specs.Limits.{Width, exponentOf}
 use Rattle.rounds.specs.Fitting.{Fitting}
 use Rattle.rounds.specs.InUnits.{Small}
@@ -32,7 +32,7 @@ mu-small f {most = most} xs P h =
     let l : largest f xs ≤ most = largest-le f most xs (each-weaker _ _ (λ x X. X .within) xs h) in
     record { number = P .number; within = omega (arith, P .units) }
 
-pub sigma-exists : {W : Width} → Fitting W → (n mu : ℕ) → n ≤ W .length → mu ≤ unitsAt W (W .magnitude) → exponentOf n + ceil mu < powers (W .format)
+pub sigma-exists : {W : Width} → Fitting W → (n mu : ℕ) → n ≤ W .length → mu ≤ sizeOf W (W .magnitude) → exponentOf n + ceil mu < powers (W .format)
 sigma-exists F n mu few small =
     let m : mu ≤ 2 ^ F .top = rw (F .top-is) at small in
     omega (arith, F .room, F .most-is n few, ceil-least m)

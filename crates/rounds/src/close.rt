@@ -1,4 +1,4 @@
-// The close of a round: document 01's rules 1 to 4, in its order.
+// The close of a round: rules W1 to W4, in that order.
 use crate::fresh;
 use crate::round;
 use kinds::Doubles;
@@ -9,7 +9,7 @@ ghost use mathlib.Core.Path.{_≡_};
 ghost use Prim.Native.Nat.{_≤_};
 ghost use Rattle.kinds.specs.Limits.{doubles};
 ghost use Rattle.rounds.specs.Round.{scaled, finished, closed};
-ghost use Rattle.rounds.specs.Closing.{Closing};
+ghost use Rattle.rounds.specs.Closable.{Closable};
 
 // 2^-53 is this power of two in units of 2^-1074.
 const EPS: u32 = 1021;
@@ -22,7 +22,7 @@ fn scaled(j: u32, sigma: f64) -> f64
     exponent::power(EPS + j) * sigma
 }
 
-// "tau2 = tau - (tau1 - t); T is the work area added up from +0 in rising order; the answer is tau1 + (tau2 + T)"
+// The sum of rule W3.
 fn finish(tau1: f64, t: f64, tau: f64, work: &[f64]) -> f64
     ensures { λ r. ⌜ r ≡ finished (doubles .format) tau1 t tau (now (work .entry)) ⌝ }
 {
@@ -30,9 +30,9 @@ fn finish(tau1: f64, t: f64, tau: f64, work: &[f64]) -> f64
     tau1 + (tau2 + extract::last_sum(work))
 }
 
-// "When the last pending block of a round is taken the round closes and counts."
+// Rule WC1, for a state whose pending set is empty.
 pub fn close(s: State, work: &[f64]) -> Step
-    requires { ⌜ Closing doubles s (now work) ⌝ }
+    requires { ⌜ Closable doubles s (now work) ⌝ }
     ensures { λ r. ⌜ r ≡ closed doubles s (now (work .entry)) ⌝ }
 {
     let n = s.n;
@@ -40,15 +40,15 @@ pub fn close(s: State, work: &[f64]) -> Step
     let rounds = s.rounds + 1;
     let tau1 = s.t + s.tau;
     if tau1 == 0.0 {
-        // rules 1 and 2: "restart: mu, e, sigma from the work area as at opening"
+        // rules W1 and W2; rule E2 is to forget the second
         return fresh::fresh(0.0, n, work, rounds);
     }
     let m = Doubles::of(n).exponent();
     let enough = scaled(2 * m + 1, sigma);
-    // rule 3: "if sigma is at most 2^-1022 or the magnitude of t' is at least 2^(2M+1) eps sigma, finish"
+    // rule W3
     if (sigma <= f64::from_bits(LEAST_NORMAL)) | (enough <= extract::absolute(tau1)) {
         return Step::Done(finish(tau1, s.t, s.tau, work), rounds);
     }
-    // rule 4: "Otherwise sigma becomes 2^M eps sigma and t becomes t'."
+    // rule W4
     Step::More(round::begin(n, scaled(m, sigma), tau1, rounds))
 }

@@ -8,14 +8,12 @@ ghost use lib.ListN.{length};
 ghost use Rattle.units.specs.Rounding.{ceil};
 ghost use Rattle.ieee.specs.Units.{negative, magnitude};
 ghost use Rattle.exponent.specs.Power.{powerOf};
-ghost use Rattle.extract.specs.Extract.{gathered, remainders};
-ghost use Rattle.sound.specs.Sound.{unitsAt};
+ghost use Rattle.judge.specs.Table.{sizeOf};
 ghost use Rattle.kinds.specs.Limits.{doubles, exponentOf, blocksOf};
-ghost use Rattle.kinds.specs.States.{stateOf};
 ghost use Rattle.rounds.specs.InUnits.{Small};
-ghost use Rattle.rounds.specs.Round.{turned, takenState, roundOf};
+ghost use Rattle.rounds.specs.Round.{turned, takenState, allTaken, allLeft, roundOf};
 
-// "a new round opens with tau = +0 and all blocks pending"
+// Rule WC2.
 pub fn begin(n: usize, sigma: f64, t: f64, rounds: u32) -> State
     requires { ⌜ (1 ≤ n) × (n ≤ doubles .length) ⌝ }
     ensures { λ r. ⌜ r ≡ roundOf doubles n sigma t rounds ⌝ }
@@ -24,9 +22,9 @@ pub fn begin(n: usize, sigma: f64, t: f64, rounds: u32) -> State
     State::of(n, sigma, t, 0.0, bitset::full(blocks), rounds)
 }
 
-// "e the least whole number with mu at most 2^e, sigma = 2^(M+e)"
+// sigma of rule WO3.
 pub fn sigma(n: usize, mu: f64) -> f64
-    requires { ⌜ (n ≤ doubles .length) × Small (doubles .format) (unitsAt doubles (doubles .magnitude)) mu × (negative mu ≡ false) ⌝ }
+    requires { ⌜ (n ≤ doubles .length) × Small (doubles .format) (sizeOf doubles (doubles .magnitude)) mu × (negative mu ≡ false) ⌝ }
     ensures { λ r. ⌜ r ≡ powerOf (doubles .format) (exponentOf n + ceil (magnitude (doubles .format) mu)) ⌝ }
 {
     exponent::power(Doubles::of(n).exponent() + exponent::ceiling(mu))
@@ -39,7 +37,7 @@ fn least(a: usize, b: usize) -> usize
     if a <= b { a } else { b }
 }
 
-// "Block b covers places 64b to 64b+63, cut at n." Its numbers become their remainders, and no other place is written.
+// Rules L8 and WB1: a block's numbers become their remainders, and no other place is written.
 pub fn take(s: State, work: &mut [f64], block: usize) -> State
     requires { ⌜ (s .n ≤ doubles .length) × (length (now work) ≡ s .n) × (block < blocksOf doubles (s .n)) ⌝ }
     ensures { λ r. ⌜ (r ≡ takenState doubles s block (now (work .entry))) × (now (work .exit) ≡ turned doubles (s .sigma) block (now (work .entry))) ⌝ }
@@ -55,8 +53,7 @@ pub fn take(s: State, work: &mut [f64], block: usize) -> State
 // Every block of a round in rising order: that is the whole area in one extraction.
 pub fn take_all(s: State, work: &mut [f64]) -> State
     ensures { λ r. ⌜
-        (r ≡ stateOf (s .n) (s .sigma) (s .t) (gathered (doubles .format) (s .sigma) (s .tau) (now (work .entry))) 0 (s .rounds))
-        × (now (work .exit) ≡ remainders (doubles .format) (s .sigma) (now (work .entry)))
+        (r ≡ allTaken doubles s (now (work .entry))) × (now (work .exit) ≡ allLeft doubles s (now (work .entry)))
         ⌝ }
 {
     let taken = extract::extract(work, s.sigma, s.tau);

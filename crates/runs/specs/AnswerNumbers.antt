@@ -1,5 +1,5 @@
 -- What the undivided call answers, whatever list and work area it is handed: never a state; only a sum that is a number, so that its bits may be read,
--- after at most as many rounds as document 01 says; and only a refusal of the table. Assumes nothing.
+-- after at most as many rounds as rule WR3 has; and only a refusal of the table. Assumes nothing.
 use mathlib.Core.Path.{_≡_, refl, sym, ap, subst}
 use mathlib.Core.Bool.{true, not}
 use mathlib.Core.List.{List}
@@ -61,6 +61,6 @@ module _ (ps : List ℕ) (work : List Float) where
     pub faithful-no-nan : T (not (isNan x))
     faithful-no-nan = finite-no-nan x (done .0 .fini)
 
-    -- "hence at most 51"
+    -- rule WR3: never above 51
     pub faithful-rounds : r ≤ suc (doubles .rounds)
     faithful-rounds = done .1

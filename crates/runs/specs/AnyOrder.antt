@@ -13,39 +13,36 @@ use lib.Ieee.Fits.{and-l, and-r}
 use lib.Ieee.Bits.{is-true}
 use Rattle.lists.specs.Apart.{apart}
 use Rattle.lists.specs.Bitset.{has, without, full}
-use Rattle.lists.specs.BitsetLaws.{has-full}
 use Rattle.kinds.specs.Limits.{Width, blocksOf}
 use Rattle.kinds.specs.Outcome.{outcome}
-use Rattle.kinds.specs.States.{stateOf}
 use Rattle.kinds.specs.declared.State.{State}
 use Rattle.kinds.specs.declared.Step.{Step}
 use Rattle.kinds.specs.declared.Step.the-variants.{More, Done, Refused}
 use Rattle.kinds.specs.declared.Verdict.the-variants.{Good}
 use Rattle.judge.specs.Judge.{floats}
 use Rattle.judge.specs.Table.{ListWhen}
-use Rattle.extract.specs.Extract.{plusZero, remainders, gathered}
-use Rattle.rounds.specs.Round.{allZero, blockOf, roundOf, closed}
+use Rattle.extract.specs.Extract.{gathered}
+use Rattle.rounds.specs.Round.{allZero, blockOf, inRound, allTaken, allLeft, closed}
 use Rattle.rounds.specs.Fitting.{Fitting}
 use Rattle.rounds.specs.Begun.{Begun}
 use Rattle.walk.specs.Walk.{Walked, opened, onward, rising, roundsFrom, faithfulOf}
-use Rattle.walk.specs.Run.{Running, allTaken, allLeft, all-taken, still, run-round, run-running, run-accepted, run-done}
-use Rattle.runs.specs.Taken.{pendingAt, mixed}
-use Rattle.runs.specs.TakenLaws.{mixed-nothing}
-use Rattle.runs.specs.MidRound.{Mid, mid-begins, mid-takes, block-below}
-use Rattle.runs.specs.MidStep.{empty-has, has-positive, mid-goes, mid-closes}
+use Rattle.walk.specs.Run.{Running, still, run-round, run-running, run-accepted, run-done}
+use Rattle.runs.specs.Taken.{midArea}
+use Rattle.runs.specs.MidRound.{Mid, mid-begins, begins-area, begins-some, mid-takes}
+use Rattle.runs.specs.MidStep.{mid-goes, mid-closes}
+use Rattle.runs.specs.MembersLaws.{empty-has}
 use Rattle.runs.specs.Runs.{ordered}
 use Rattle.runs.specs.OrderLaws.{once, once-permuted}
 use Rattle.runs.specs.OpenedSum.{opened-zero, opened-round, opened-summing}
 
 -- ---- one round
-module _ {W : Width} {F : Fitting W} {e n : ℕ} {sigma t : Float} {rounds : ℕ} {xs : List Float} (B : Begun W F e n sigma t rounds xs) where
+module _ {W : Width} {F : Fitting W} {e : ℕ} {s : State} {xs : List Float} (B : Begun W F e s xs) where
   -- the close, and the state and the area in the middle
   end : Walked
-  end = outcome (closed W (stateOf n sigma t (gathered (W .format) sigma (plusZero (W .format)) xs) 0 rounds) (remainders (W .format) sigma xs))
-      (remainders (W .format) sigma xs)
+  end = outcome (closed W (allTaken W s xs) (allLeft W s xs)) (allLeft W s xs)
 
   at : ℕ → Float → Walked
-  at P tau = outcome (More (stateOf n sigma t tau P rounds)) (mixed (W .format) sigma (pendingAt W P) 0 xs)
+  at P tau = outcome (More (inRound s tau P)) (midArea W s P xs)
 
   -- after the last block nothing is left to take
   ended : (bs : List ℕ) (P : ℕ) → P ≡ 0 → T (once P bs) → foldl (onward W) end bs ≡ end
@@ -67,7 +64,7 @@ module _ {W : Width} {F : Fitting W} {e n : ℕ} {sigma t : Float} {rounds : ℕ
       rest = and-r (has P b) (once (without P b) bs) o
 
       tau' : Float
-      tau' = gathered (W .format) sigma tau (blockOf W b xs)
+      tau' = gathered (W .format) (s .sigma) tau (blockOf W b xs)
 
       go : (c : Bool) → eqb (without P b) 0 ≡ c
           → (0 < without P b → T (once (without P b) bs) → foldl (onward W) (at (without P b) tau') bs ≡ end)
@@ -77,16 +74,12 @@ module _ {W : Width} {F : Fitting W} {e n : ℕ} {sigma t : Float} {rounds : ℕ
           let n = eqb-false (without P b) 0 z in
           ap (λ (w : Walked). foldl (onward W) w bs) (mid-goes B M b h n) ∙ k (omega (arith, n)) rest
 
-  pub round-any-order : (bs : List ℕ) → T (once (full (blocksOf W n)) bs) → foldl (onward W) (outcome (More (roundOf W n sigma t rounds)) xs) bs
-      ≡ outcome (closed W (stateOf n sigma t (gathered (W .format) sigma (plusZero (W .format)) xs) 0 rounds) (remainders (W .format) sigma xs))
-      (remainders (W .format) sigma xs)
-  unfolding roundOf at end
+  pub round-any-order : (bs : List ℕ) → T (once (full (blocksOf W (s .n))) bs) → foldl (onward W) (outcome (More s) xs) bs
+      ≡ outcome (closed W (allTaken W s xs) (allLeft W s xs)) (allLeft W s xs)
+  unfolding at end
   round-any-order bs o =
-      let P = full (blocksOf W n) in
-      let blocks : 0 < blocksOf W n = let h = block-below B 0 (B .some) in omega arith in
-      let whole = mixed-nothing (pendingAt W P) (W .format) sigma 0 xs (λ j l h. has-full (block-below B j (omega (arith, B .count)))) in
-      ap (λ (l : List Float). foldl (onward W) (outcome (More (roundOf W n sigma t rounds)) l) bs) (sym whole)
-      ∙ from bs P (plusZero (W .format)) (mid-begins B) (has-positive P 0 (has-full blocks)) o
+      ap (λ (l : List Float). foldl (onward W) (outcome (More s) l) bs) (sym (begins-area B))
+      ∙ from bs (s .pending) (s .tau) (mid-begins B) (begins-some B) (rw (B .pending) o)
 
 -- ---- rounds, each in an order of its own
 ordered-done : (W : Width) (π : ℕ → List ℕ) (k i : ℕ) (x : Float) (r : ℕ) (ys : List Float) → ordered W π k i (outcome (Done x r) ys) ≡ outcome (Done x r) ys
@@ -97,10 +90,7 @@ ordered-done W π (suc k) i x r ys = ap (ordered W π k (suc i)) (still W 0 x r 
 module _ (W : Width) (F : Fitting W) (n : ℕ) (π : ℕ → List ℕ) (each : (i : ℕ) → T (once (full (blocksOf W n)) (π i))) where
   closing : {s : State} {xs : List Float} → Running W F n s xs → (i : ℕ)
       → foldl (onward W) (outcome (More s) xs) (π i) ≡ outcome (closed W (allTaken W s xs) (allLeft W s xs)) (allLeft W s xs)
-  closing {s} {xs} R i =
-      (λ j. foldl (onward W) (outcome (More (R .state j)) xs) (π i))
-      ∙ round-any-order (R .begun) (π i) (each i)
-      ∙ ap (λ (q : State). outcome (closed W q (allLeft W s xs)) (allLeft W s xs)) (all-taken R)
+  closing {s} {xs} R i = round-any-order (R .begun) (π i) (rw (R .count) (each i))
 
   ordered-run : (k i : ℕ) {s : State} {xs : List Float} → Running W F n s xs
       → ordered W π k i (outcome (More s) xs) ≡ roundsFrom W (blocksOf W n) k (outcome (More s) xs)
@@ -123,7 +113,6 @@ module _ (W : Width) (F : Fitting W) (n : ℕ) (π : ℕ → List ℕ) (each : (
 module _ {W : Width} (F : Fitting W) (ps : List ℕ) (work : List Float) (G : ListWhen W (eqb (length work) (length ps)) true ps Good) where
   pub any-order : (π : ℕ → List ℕ) → ((i : ℕ) → Perm (π i) (rising (blocksOf W (length ps))))
       → ordered W π (suc (W .rounds)) 0 (opened W ps work) ≡ faithfulOf W ps work
-  unfolding roundOf
   any-order π each = go (allZero (W .format) (floats W ps)) refl
     where
       go : (b : Bool) → allZero (W .format) (floats W ps) ≡ b → ordered W π (suc (W .rounds)) 0 (opened W ps work) ≡ faithfulOf W ps work
@@ -131,4 +120,4 @@ module _ {W : Width} (F : Fitting W) (ps : List ℕ) (work : List Float) (G : Li
           (ordered-done W π (suc (W .rounds)) 0 _ 0 (floats W ps) ∙ sym (run-done W (blocksOf W (length ps)) (suc (W .rounds)) _ 0 (floats W ps)))
       go false a = rw (opened-round F ps work G a)
           (ordered-run W F (length ps) π (λ i. once-permuted (blocksOf W (length ps)) (each i)) (suc (W .rounds)) 0
-          (record { e = _; state = refl; begun = opened-summing F ps work G a .begun }))
+          (record { e = _; count = refl; begun = opened-summing F ps work G a .begun }))

@@ -16,7 +16,7 @@ use Rattle.kinds.specs.declared.Verdict.the-variants.{Good}
 use Rattle.judge.specs.Table.{ListWhen}
 use Rattle.rounds.specs.Fitting.{Fitting}
 use Rattle.walk.specs.Walk.{Walked, opened, onward, rising, stepped, faithfulOf}
-use Rattle.runs.specs.Runs.{heeded, tried, runOf, ordered, joined}
+use Rattle.runs.specs.Runs.{heeded, tried, runOf, ordered, inTurn}
 use Rattle.runs.specs.Faithful.{faithful-promised}
 use Rattle.runs.specs.AnyOrder.{any-order}
 
@@ -46,20 +46,20 @@ module _ (W : Width) where
       after (Done x k) zs i h = ended x k zs (m + 1) bs
       after (Refused k p) zs i h = absurd (h k p (stuck k p zs bs))
 
-  chained : (π : ℕ → List ℕ) (k i : ℕ) (w : Walked) → ordered W π k i w ≡ foldl (onward W) w (joined π k i)
-  unfolding ordered joined
+  chained : (π : ℕ → List ℕ) (k i : ℕ) (w : Walked) → ordered W π k i w ≡ foldl (onward W) w (inTurn π k i)
+  unfolding ordered inTurn
   chained π zero i w = refl
-  chained π (suc k) i w = chained π k (suc i) (foldl (onward W) w (π i)) ∙ sym (foldl-append (onward W) w (π i) (joined π k (suc i)))
+  chained π (suc k) i w = chained π k (suc i) (foldl (onward W) w (π i)) ∙ sym (foldl-append (onward W) w (π i) (inTurn π k (suc i)))
 
--- "for every sequence of permutations of the blocks, one per round, that run exists and finishes"
+-- rule DR4
 module _ {W : Width} (F : Fitting W) (ps : List ℕ) (work : List Float) (G : ListWhen W (eqb (length work) (length ps)) true ps Good) where
   pub any-run : (π : ℕ → List ℕ) → ((i : ℕ) → Perm (π i) (rising (blocksOf W (length ps))))
-      → runOf W ps work (joined π (suc (W .rounds)) 0) .walk ≡ faithfulOf W ps work
+      → runOf W ps work (inTurn π (suc (W .rounds)) 0) .walk ≡ faithfulOf W ps work
   any-run π each =
       let w = opened W ps work in
-      let e : foldl (onward W) w (joined π (suc (W .rounds)) 0) ≡ faithfulOf W ps work =
+      let e : foldl (onward W) w (inTurn π (suc (W .rounds)) 0) ≡ faithfulOf W ps work =
       sym (chained W π (suc (W .rounds)) 0 w) ∙ any-order F ps work G π each in
-      along W (joined π (suc (W .rounds)) 0) (w .answer) (w .area) 0 (λ k p h. never k p (sym (ap (λ (q : Walked). q .answer) e) ∙ h)) ∙ e
+      along W (inTurn π (suc (W .rounds)) 0) (w .answer) (w .area) 0 (λ k p h. never k p (sym (ap (λ (q : Walked). q .answer) e) ∙ h)) ∙ e
     where
       never : (k p : ℕ) → faithfulOf W ps work .answer ≡ Refused k p → ⊥
       never k p h =

@@ -1,6 +1,6 @@
--- What a step leaves of any sound state, whether a call gave it out or not: numbers, a sigma in its bounds, and a sum that isn't -0. Definitions only.
+-- Rule WS10: what a step leaves of any sound state, given out by a call or not: numbers, a sigma in its bounds, and a sum that isn't -0. Definitions only.
 use mathlib.Core.Path.{_≡_}
-use mathlib.Core.Bool.{true, false}
+use mathlib.Core.Bool.{false}
 use mathlib.Core.List.{List}
 use lib.Dec.{T}
 use lib.Ieee.{Float, fits}
@@ -10,7 +10,7 @@ use Rattle.kinds.specs.Limits.{Width}
 use Rattle.kinds.specs.declared.State.{State}
 use Rattle.kinds.specs.declared.Step.{Step}
 use Rattle.kinds.specs.declared.Step.the-variants.{More, Done, Refused}
-use Rattle.sound.specs.Sound.{soundSigma}
+use Rattle.sound.specs.Numbers.{SigmaBetween}
 use Rattle.walk.specs.Walk.{Walked}
 
 -- the format holds the floats of a state and its work area, as it always holds the code's; they may be NaN or infinite
@@ -20,10 +20,10 @@ pub record Floats (W : Width) (s : State) (xs : List Float) : Type 0 where
   pub tau : T (fits (W .format) (s .tau))
   pub work : Each (λ x. T (fits (W .format) x)) xs
 
--- the next state: no NaN and no infinity, and "sigma is a power of two from 2^(M-1074) to 2^(1000+M)". tau may pass 2^1012
+-- the next state: no NaN and no infinity, and a sigma of rule WS6. It need not be sound (rule WS11): tau may pass 2^1012
 pub record StateNumbers (W : Width) (s : State) : Type 0 where
   pub sigma : Number (W .format) (s .sigma)
-  pub bounds : soundSigma W (s .n) (s .sigma) ≡ true
+  pub bounds : SigmaBetween W (s .n) (s .sigma)
   pub t : Number (W .format) (s .t)
   pub tau : Number (W .format) (s .tau)
 

@@ -1,7 +1,7 @@
 -- A step over any sound state leaves what `AnyState` says, whether a call gave the state out or not. The additions to tau need not be exact then: tau, at most
 -- 2^bound units before, is at most twice that after its block. Assumes nothing.
 use mathlib.Core.Path.{_≡_, refl, sym, ap, _∙_, subst}
-use mathlib.Core.Bool.{Bool, true, false, cond, _||_}
+use mathlib.Core.Bool.{Bool, true, false, cond}
 use mathlib.Core.List.{List, [], _∷_, map, foldl}
 use Prim.Native.Nat.{ℕ, _+_, _-_, _*_, _^_, _≤_}
 use native.Mathlib.Omega.{arith}
@@ -9,7 +9,7 @@ use borrow.Author.Tests.{eqb-false}
 use lib.Dec.{T, eqb}
 use lib.ListN.{length, drop, length-map, length-take, length-drop}
 use lib.Pow.{pow-add, pow-mono}
-use lib.Ieee.{Float, Format, prec, low, emax, add, le, eq, fits}
+use lib.Ieee.{Float, Format, prec, low, emax, add, eq, fits}
 use Rattle.units.specs.Rounding.{ceil}
 use Rattle.units.specs.Ceiling.{ceil-ge, ceil-least}
 use Rattle.units.specs.Powers.{pow-split}
@@ -25,20 +25,21 @@ use Rattle.kinds.specs.declared.Verdict.the-variants.{Good}
 use Rattle.extract.specs.Extract.{plusZero, highPart, gathered, lastSum, largest}
 use Rattle.extract.specs.ExtractLaws.{largest-le}
 use Rattle.extract.specs.LargestLaws.{Positive, zero-positive}
-use Rattle.sound.specs.Sound.{unitsAt, gated}
-use Rattle.sound.specs.PassedLaws.{Passed}
-use Rattle.sound.specs.SoundLaws as sound
-use Rattle.rounds.specs.Round.{blockOf, turned, takenState, allZero, sigmaOf, roundOf, fresh, scaled, leastNormal, finished, closed}
-use Rattle.rounds.specs.ClosedLaws.{fresh-zero, fresh-round, tau1Of, finishes, closed-zero, closed-finish, closed-further}
+use Rattle.judge.specs.Table.{sizeOf}
+use Rattle.sound.specs.Sound.{gated}
+use Rattle.sound.specs.AdmittedLaws.{Admitted}
+use Rattle.sound.specs.Numbers.{FiniteWithin}
+use Rattle.rounds.specs.Round.{blockOf, turned, takenState, roundOf, freshRound, fresh, scaled, finished, closed}
+use Rattle.rounds.specs.ClosedLaws.{tau1Of, finishes, furtherRound, fresh-each, closed-each, not-finishes}
 use Rattle.rounds.specs.Closes.{scaled-positive, normal-above}
 use Rattle.rounds.specs.Fitting.{Fitting}
 use Rattle.rounds.specs.Begun.{Begun}
-use Rattle.rounds.specs.FreshRound.{begins}
+use Rattle.rounds.specs.FreshRound.{begins, largest-small}
 use Rattle.rounds.specs.InUnits.{Small, Scale, sum-plus, high-small}
 use Rattle.walk.specs.Walk.{taken, stepped}
 use Rattle.walk.specs.StepLaws.{stepped-good}
-use Rattle.walk.specs.Stepping.{sigma-sound}
-use Rattle.walk.specs.Accepted.{passes, scale, small, turned-small, turned-length}
+use Rattle.walk.specs.Stepping.{sigma-bounds}
+use Rattle.walk.specs.Admitted.{admits, scale, small, turned-small, turned-length}
 use Rattle.runs.specs.CloseUnits.{zero-whole, sums, last-sum, Held, held, wider, plus, tau1-units, tau2-units}
 use Rattle.runs.specs.AnyState.{Floats, StateNumbers, SumNumber, Answered, Stepped}
 
@@ -82,7 +83,7 @@ module _ {W : Width} (F : Fitting W) {M e : ℕ} {sigma : Float} (σ : Scale (W 
             within = omega (arith, high-small σ X .within, pow-mono {i = e} {j = j} (omega (arith, F .tau-room)));
           }) xs h
 
--- ---- the answer of rule 3: a number, and -0 only where t' is
+-- ---- the answer of rule W3: a number, and -0 only where t' is
 module _ {f : Format} (b : ℕ) (room : b + 5 ≤ low f + emax f) {t tau : Float} (t-held : Held f b t) (tau-held : Held f b tau) (xs : List Float)
     (T-held : Held f b (lastSum f xs)) where
   sum-number : (magnitude f (add f t tau) ≡ 0 → negative (add f t tau) ≡ false)
@@ -96,18 +97,14 @@ module _ {f : Format} (b : ℕ) (room : b + 5 ≤ low f + emax f) {t tau : Float
       (omega (arith, tau1 .within, rest .within, pow-add 2 (b + 1 + 1 + 1 + 1) 1)) in
       (R .number, sum-plus (add f t tau) _ h R)
 
--- "t' is zero" is the test for a magnitude of 0
+-- that t' is zero is the test for a magnitude of 0
 not-zero : (f : Format) (x : Float) → Number f x → eq x (plusZero f) ≡ false → magnitude f x ≡ 0 → ⊥
 not-zero f x X z m =
     let none : whole f x .up + whole f (plusZero f) .dn ≡ whole f (plusZero f) .up + whole f x .dn = rw (zero-whole f) (omega (arith, whole-mag f x)) in
     eqb-false _ _ (sym (eq-units f x (plusZero f) X (zero-positive f .number)) ∙ z) none
 
-neither : (a b : Bool) → (a || b) ≡ false → a ≡ false
-neither false b e = refl
-neither true b e = e
-
 -- ---- a state that is sound, and a block that is pending
-module _ {W : Width} (F : Fitting W) {s : State} {b : ℕ} {xs : List Float} (P : Passed W (F .top) s b xs) (h : Floats W s xs) where
+module _ {W : Width} (F : Fitting W) {s : State} {b : ℕ} {xs : List Float} (P : Admitted W (F .top) s b xs) (h : Floats W s xs) where
   abbrev f : Format
   f = W .format
 
@@ -115,7 +112,7 @@ module _ {W : Width} (F : Fitting W) {s : State} {b : ℕ} {xs : List Float} (P 
   M = exponentOf (s .n)
 
   M-most : M ≤ F .most
-  M-most = F .most-is (s .n) (P .few)
+  M-most = F .most-is (s .n) (P .numbers .counts .few)
 
   σ : Scale f M (P .e) (s .sigma)
   σ = scale F P (h .work)
@@ -129,14 +126,14 @@ module _ {W : Width} (F : Fitting W) {s : State} {b : ℕ} {xs : List Float} (P 
   room : F .bound + 1 + 5 ≤ low f + emax f
   room = omega (arith, F .sum-room)
 
-  kept : {x : Float} → T (fits f x) → sound.Within W (unitsAt W (W .carried)) x → Held f (F .bound) x
+  kept : {x : Float} → T (fits f x) → FiniteWithin f (sizeOf W (W .carried)) x → Held f (F .bound) x
   kept fit X = held (record { number = record { fit = fit; fini = X .fini }; within = rw (F .bound-is) at (X .small) })
 
   t-held : Held f (F .bound + 1) (s .t)
-  t-held = wider (omega arith) (kept (h .t) (P .t))
+  t-held = wider (omega arith) (kept (h .t) (P .numbers .t))
 
   tau-held : Held f (F .bound + 1) (gathered f (s .sigma) (s .tau) (blockOf W b xs))
-  tau-held = gathered-held F σ (P .low) (s .tau) (blockOf W b xs) (kept (h .tau) (P .tau)) block fewer
+  tau-held = gathered-held F σ (P .low) (s .tau) (blockOf W b xs) (kept (h .tau) (P .numbers .tau)) block fewer
     where
       block : Each (Small f (2 ^ P .e)) (blockOf W b xs)
       block = each-take (Small f (2 ^ P .e)) (W .block) (drop (W .block * b) xs) (each-drop (Small f (2 ^ P .e)) (W .block * b) xs (small F P (h .work)))
@@ -151,18 +148,19 @@ module _ {W : Width} (F : Fitting W) {s : State} {b : ℕ} {xs : List Float} (P 
       let l : 2 ^ (M + P .e) ≤ 2 ^ (F .bound + 1) = pow-mono (omega (arith, M-most, P .low, F .tau-room)) in
       record { number = S .0; within = omega (arith, S .2, pow-add 2 M (P .e), l) }
 
-  carried-held : Held f (F .bound + 1 + 1) (tau1Of W next)
-  carried-held = tau1-units (F .bound + 1) room t-held tau-held .1
+  tau1-held : Held f (F .bound + 1 + 1) (tau1Of W next)
+  tau1-held = tau1-units (F .bound + 1) room t-held tau-held .1
 
   -- ---- the next state
   opens : (e : ℕ) {sigma t : Float} (rounds : ℕ) → Positive f sigma (2 ^ (M + e)) → e ≤ F .top → Number f t
       → StateNumbers W (roundOf W (s .n) sigma t rounds)
-  unfolding roundOf
-  opens e rounds S l N = record { sigma = S .number; bounds = sigma-sound F (s .n) e S l; t = N; tau = zero-positive f .number }
+  opens e rounds S l N = record { sigma = S .number; bounds = sigma-bounds F (s .n) e S l; t = N; tau = zero-positive f .number }
 
-  -- rules 1 and 2
-  afresh : (rounds : ℕ) → Answered W (fresh W (plusZero f) (s .n) ys rounds)
-  afresh rounds = by (allZero f ys) refl
+  -- rules W1 and W2
+  afresh : (rounds : ℕ) → Answered W (fresh W (plusZero f) (s .n) (largest f ys) rounds)
+  afresh rounds = fresh-each (Answered W) W (plusZero f) (s .n) (largest f ys) rounds
+      (λ a. record { number = zero-positive f .number; plus = λ z. zero-positive f .sign })
+      (λ a. opens e rounds (first .scale .power) least (zero-positive f .number))
     where
       e : ℕ
       e = ceil (largest f ys)
@@ -173,47 +171,35 @@ module _ {W : Width} (F : Fitting W) {s : State} {b : ℕ} {xs : List Float} (P 
           omega (arith, l, P .low)
 
       -- sigma is that of a run's first round over this area
-      first : Begun W F e (s .n) (sigmaOf f (s .n) ys) (plusZero f) 0 ys
-      first = begins (2 ^ P .e) (P .some) (P .few) (turned-length F P (h .work) ∙ P .long) (turned-small F P (h .work)) (omega (arith, least))
+      first : Begun W F e (freshRound W (s .n) (largest f ys) 0) ys
+      first = begins (largest f ys) (P .numbers .counts .some) (P .numbers .counts .few)
+          (turned-length F P (h .work) ∙ P .long) (largest-small f _ ys (turned-small F P (h .work)))
+          (omega (arith, least))
 
-      by : (a : Bool) → allZero f ys ≡ a → Answered W (fresh W (plusZero f) (s .n) ys rounds)
-      by true a = subst (Answered W) (sym (fresh-zero W (plusZero f) (s .n) ys rounds a))
-          (record { number = zero-positive f .number; plus = λ z. zero-positive f .sign })
-      by false a = subst (Answered W) (sym (fresh-round W (plusZero f) (s .n) ys rounds a))
-          (opens e rounds (first .scale .power) least (zero-positive f .number))
-
-  -- rule 4: sigma is above 2^-1022, so that 2^M eps times it is at least 2^M units
-  further : finishes W next ≡ false → StateNumbers W (roundOf W (s .n) (scaled f M (s .sigma)) (tau1Of W next) (s .rounds + 1))
-  further r = opens (M + P .e - prec f) (s .rounds + 1) lowered (omega (arith, σ .few, P .low)) (carried-held .number)
+  -- rule W4: sigma is above 2^-1022, so that 2^M eps times it is at least 2^M units
+  further : finishes W next ≡ false → StateNumbers W (furtherRound W next)
+  further r = opens (M + P .e - prec f) (s .rounds + 1) lowered (omega (arith, σ .few, P .low)) (tau1-held .number)
     where
       normal : prec f ≤ M + P .e
-      normal = normal-above f (M + P .e) (σ .power) (neither (le (s .sigma) (leastNormal f)) _ r)
+      normal = normal-above f (M + P .e) (σ .power) (not-finishes W next r .0)
 
       lowered : Positive f (scaled f M (s .sigma)) (2 ^ (M + (M + P .e - prec f)))
       lowered = scaled-positive f M (M + P .e) (M + (M + P .e - prec f)) (F .fine) (σ .power) (omega (arith, normal)) (omega (arith, σ .few))
           (omega (arith, σ .room, σ .few))
 
-  -- rule 3
+  -- rule W3
   ends : eq (tau1Of W next) (plusZero f) ≡ false → SumNumber W (finished f (tau1Of W next) (s .t) (next .tau) ys)
   ends z =
-      let S = sum-number (F .bound + 1) room t-held tau-held ys T-held (λ m. absurd (not-zero f (tau1Of W next) (carried-held .number) z m)) in
+      let S = sum-number (F .bound + 1) room t-held tau-held ys T-held (λ m. absurd (not-zero f (tau1Of W next) (tau1-held .number) z m)) in
       record { number = S .0; plus = S .1 }
 
   closes : Answered W (closed W next ys)
-  closes = by (eq (tau1Of W next) (plusZero f)) refl
-    where
-      by : (z : Bool) → eq (tau1Of W next) (plusZero f) ≡ z → Answered W (closed W next ys)
-      by true z = subst (Answered W) (sym (closed-zero W next ys z)) (afresh (s .rounds + 1))
-      by false z = rule (finishes W next) refl
-        where
-          rule : (r : Bool) → finishes W next ≡ r → Answered W (closed W next ys)
-          rule true r = subst (Answered W) (sym (closed-finish W next ys z r)) (ends z)
-          rule false r = subst (Answered W) (sym (closed-further W next ys z r)) (further r)
+  closes = closed-each (Answered W) W (largest f ys) next ys (λ z. afresh (s .rounds + 1)) (λ z r. ends z) (λ z r. further r)
 
   goes-on : StateNumbers W next
   goes-on = record {
     sigma = σ .power .number;
-    bounds = sigma-sound F (s .n) (P .e) (σ .power) (P .low);
+    bounds = sigma-bounds F (s .n) (P .e) (σ .power) (P .low);
     t = t-held .number;
     tau = tau-held .number;
   }
@@ -230,4 +216,4 @@ module _ {W : Width} (F : Fitting W) {s : State} {b : ℕ} {xs : List Float} (P 
       by false = goes-on
 
 pub any-state : {W : Width} (F : Fitting W) (s : State) (b : ℕ) (xs : List Float) → Floats W s xs → gated W s b xs ≡ Good → Stepped W (stepped W s b xs)
-any-state {W} F s b xs h g = subst (Stepped W) (stepped-good W s b xs (gated W s b xs) g) (passed F (passes F s b xs (h .sigma) g) h)
+any-state {W} F s b xs h g = subst (Stepped W) (stepped-good W s b xs (gated W s b xs) g) (passed F (admits F s b xs (h .sigma) g) h)

@@ -49,7 +49,7 @@ module _ (f : Format) (j c₀ : ℕ) (room : c₀ * 2 ^ j ≤ 2 ^ (low f + emax 
       below : (c : ℕ) → c + suc (length xs) ≤ c₀ → suc c ≤ c₀
       below c l = omega arith
 
-  -- "T is the work area added up from +0 in rising order"
+  -- T of rule W3
   pub last-sum : (xs : List Float) → Each (Small f (2 ^ j)) xs → length xs ≤ c₀
       → Number f (lastSum f xs) × (whole f (lastSum f xs) ≡ units.summed (prec f) (nat 0) (wholes f xs)) × Within (whole f (lastSum f xs)) (c₀ * 2 ^ j)
   unfolding lastSum

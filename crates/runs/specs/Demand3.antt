@@ -1,4 +1,4 @@
--- Demand 3's words about a run: what holds while it goes on, and when it has finished. Definitions only.
+-- Rule D3 in clauses: what holds of a run while it goes on, and when it has finished. Definitions only.
 use mathlib.Core.Path.{_≡_}
 use mathlib.Core.Bool.{true, false, cond}
 use mathlib.Core.List.{List, map}
@@ -25,44 +25,44 @@ use Rattle.walk.specs.Walk.{faithfulOf}
 use Rattle.runs.specs.Runs.{Ran, tried, members}
 
 -- as a round closes, with tau and the area that all its blocks have left: tau1 is t', tau2 is tau - (tau1 - t)
-pub record Closing (W : Width) (ps : List ℕ) (t tau : Float) (left : List Float) : Type 0 where
-  -- "at a finish by rule 3, tau1 plus tau2 plus the work numbers is S"
+pub record AtClose (W : Width) (ps : List ℕ) (t tau : Float) (left : List Float) : Type 0 where
+  -- rule WE3, for rule W3
   pub conserves : let f = W .format in let tau1 = add f t tau in let tau2 = sub f tau (sub f tau1 t) in
       value f tau1 +ℤ value f tau2 +ℤ exactSum (map (value f) left) ≡ sumOf f ps
-  -- "at a finish by rule 1, S is zero"
+  -- rule WE3, for rule W1
   pub nothing : eq (add (W .format) t tau) (plusZero (W .format)) ≡ true → allZero (W .format) left ≡ true → sumOf (W .format) ps ≡ pos 0
 
 -- a run over the list ps that goes on with the state s
 pub record Going (W : Width) (ps : List ℕ) (r : Ran) (s : State) : Type 0 where
   pub count : s .n ≡ length ps
-  -- "Every state of a run is sound."
+  -- rule DR2
   pub sound : sound W s (r .walk .area) ≡ true
-  -- "A pending block is never refused; any other block number is refused with 6 or 7 .., and a refusal changes nothing."
+  -- rule DR3; and a refusal changes nothing
   pub accepts : (b : ℕ) → has (s .pending) b ≡ true → gated W s b (r .walk .area) ≡ Good
   pub refuses : (b : ℕ) → has (s .pending) b ≡ false → gated W s b (r .walk .area) ≡ Refused (cond (leb (blocksOf W (s .n)) b) 6 7) 0
   pub unchanged : (b : ℕ) → has (s .pending) b ≡ false → tried W r b ≡ r
-  -- "An accepted step turns exactly its own block's numbers into their remainders": `Places` says it of each place
+  -- rule D3: its own block and no other place; `Places` says it of each place
   pub turns : (b : ℕ) → has (s .pending) b ≡ true → tried W r b .walk .area ≡ turned W (s .sigma) b (r .walk .area)
-  -- "For each place both subtractions are exact", and document 01: "the additions to tau are exact and tau is never -0"
+  -- rule WE1
   pub exact : Each (Exact (W .format) (s .sigma)) (r .walk .area)
   pub gathers : (b : ℕ) → has (s .pending) b ≡ true → ExactSums (W .format) (s .sigma) (s .tau) (blockOf W b (r .walk .area))
   pub plus : magnitude (W .format) (s .tau) ≡ 0 → negative (s .tau) ≡ false
-  -- document 01: "t plus tau plus all work numbers is S exactly"
+  -- rule WE2
   pub conserves : value (W .format) (s .t) +ℤ value (W .format) (s .tau) +ℤ exactSum (map (value (W .format)) (r .walk .area)) ≡ sumOf (W .format) ps
   pub closes : (b : ℕ) → has (s .pending) b ≡ true → without (s .pending) b ≡ 0
-      → Closing W ps (s .t) (gathered (W .format) (s .sigma) (s .tau) (blockOf W b (r .walk .area))) (tried W r b .walk .area)
+      → AtClose W ps (s .t) (gathered (W .format) (s .sigma) (s .tau) (blockOf W b (r .walk .area))) (tried W r b .walk .area)
   -- the accepted steps are those of the rounds closed, and the blocks taken since
   pub steps : r .steps + members (s .pending) (blocksOf W (s .n)) ≡ s .rounds * blocksOf W (s .n) + blocksOf W (s .n)
   pub rounds : s .rounds ≤ W .rounds
 
 -- a run that has finished with the sum x after k rounds; magnitudes are at most 2^top units
 pub record Finished (W : Width) (top : ℕ) (ps : List ℕ) (work : List Float) (r : Ran) (x : Float) (k : ℕ) : Type 0 where
-  -- "the same answer, round count and remainders, those of the undivided call"
+  -- rule D3: sum, rounds and remainders of the undivided call
   pub undivided : r .walk ≡ faithfulOf W ps work
   -- no number of the format lies strictly between x and S, and x is S where S is one
   pub faithful : FaithfulTo (W .format) (sumOf (W .format) ps) x
-  -- "Accepted steps at the finish = rounds times B"
+  -- rule D3: how many steps were accepted
   pub steps : r .steps ≡ k * blocksOf W (length ps)
-  -- "at most 1 plus the quotient (2022+M)/(53-M) rounded up, hence at most 51"; 2022 is top + 1 - prec
+  -- rule WR3; its 2022 is top + 1 - prec
   pub rounds : k ≤ 1 + roundedUp (top + 1 - prec (W .format) + exponentOf (length ps)) (prec (W .format) - exponentOf (length ps))
   pub most : k ≤ suc (W .rounds)

@@ -1,4 +1,4 @@
--- Demand 3: every run over an accepted list goes on as `Going` says, or has finished as `Finished` says; its accepted steps are bounded. Assumes nothing.
+-- Rule D3: every run over an accepted list goes on as `Going` says, or has finished as `Finished` says; its accepted steps are bounded. Assumes nothing.
 use mathlib.Core.Path.{_≡_, refl, sym, ap, _∙_}
 use mathlib.Core.Logic.{inl, inr}
 use mathlib.Core.Bool.{Bool, true, false}
@@ -99,7 +99,7 @@ module _ {W : Width} (F : Fitting W) (ps : List ℕ) (work : List Float) where
             let most = finishes _ O G (O .sum) (O .rounds) (O .answer) .most in
             omega (arith, O .steps, mul-le-mul-right (blocksOf W (length ps)) most)
 
-    -- "a list finished at its opening has 0 rounds and 0 steps"
+    -- rule DR4: no steps
     pub run-at-once : (x : Float) (k : ℕ) → opened W ps work .answer ≡ Done x k → (k ≡ 0) × (runOf W ps work bs .steps ≡ 0)
     run-at-once x k h = (none (allZero (W .format) (floats W ps)) refl, ap (λ (r : Ran). r .steps) (stays bs))
       where
@@ -119,7 +119,7 @@ module _ {W : Width} (F : Fitting W) (ps : List ℕ) (work : List Float) where
         stays (b ∷ bs) = ap (λ (r : Ran). foldl (tried W) r bs) (still b) ∙ stays bs
 
 module _ {W : Width} (F : Fitting W) (ps : List ℕ) (work : List Float) (G : ListWhen W (eqb (length work) (length ps)) true ps Good) (bs : List ℕ) where
-  -- "from each state of a run the steps left are bounded": those of the rounds that it may still open, and of its pending blocks
+  -- rule DR3's bound: the steps of the rounds that it may still open, and of its pending blocks
   pub run-left : (s : State) → runOf W ps work bs .walk .answer ≡ More s → (cs : List ℕ)
       → runOf W ps work (bs ++ cs) .steps
       ≤ runOf W ps work bs .steps + ((W .rounds - s .rounds) * blocksOf W (length ps) + members (s .pending) (blocksOf W (length ps)))

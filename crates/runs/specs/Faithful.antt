@@ -1,4 +1,4 @@
--- Demand 2 for the faithful sum: for every accepted list the undivided call's answer is a number of the format with no other strictly between it and S, and
+-- Rule D2 for the faithful sum: for every accepted list the undivided call's answer is a number of the format with no other strictly between it and S, and
 -- is S where S is one; it has as many rounds as a sound state may have closed, and one more, at most. Assumes nothing.
 use mathlib.Core.Path.{_≡_, refl, sym, ap, subst}
 use mathlib.Core.Bool.{Bool, true, false}
@@ -19,7 +19,7 @@ use Rattle.kinds.specs.declared.Verdict.the-variants.{Good}
 use Rattle.judge.specs.Judge.{floats, zeroSign}
 use Rattle.judge.specs.Table.{ListWhen}
 use Rattle.sums.specs.Sums.{sumOf}
-use Rattle.rounds.specs.Round.{allZero, roundOf}
+use Rattle.rounds.specs.Round.{allZero}
 use Rattle.rounds.specs.Fitting.{Fitting}
 use Rattle.walk.specs.Walk.{Walked, roundsFrom, faithfulOf}
 use Rattle.walk.specs.Undivided.{faithful-done}
@@ -48,9 +48,8 @@ module _ {W : Width} (F : Fitting W) (ps : List ℕ) (work : List Float) (G : Li
       positive f = omega (arith, power-below f {k = 0} (omega arith))
 
   numbers : allZero (W .format) (floats W ps) ≡ false → FaithfulSum W ps (faithfulOf W ps work)
-  unfolding roundOf
   numbers a =
-      let R = run-faithful (W .rounds) (record { e = _; state = refl; summing = opened-summing F ps work G a }) (omega arith) in
+      let R = run-faithful (W .rounds) (record { e = _; count = refl; summing = opened-summing F ps work G a }) (omega arith) in
       subst (λ (w : Walked). FaithfulSum W ps (roundsFrom W (blocksOf W (length ps)) (suc (W .rounds)) w)) (sym (opened-round F ps work G a)) (record {
         sum = R .sum;
         rounds = R .rounds;

@@ -20,16 +20,15 @@ use Rattle.lists.specs.BitsetLaws.{has-below}
 use Rattle.lists.specs.Each.{Each, each-weaker, each-take, each-drop}
 use Rattle.kinds.specs.Limits.{Width, blocksOf}
 use Rattle.kinds.specs.Outcome.{outcome}
-use Rattle.kinds.specs.States.{stateOf}
 use Rattle.kinds.specs.declared.State.{State}
 use Rattle.kinds.specs.declared.Step.{Step}
 use Rattle.kinds.specs.declared.Step.the-variants.{More, Done, Refused}
 use Rattle.kinds.specs.declared.Verdict.the-variants.{Good}
 use Rattle.sums.specs.Sums.{sumOf}
-use Rattle.extract.specs.Extract.{plusZero, remainders, gathered}
+use Rattle.extract.specs.Extract.{plusZero, gathered}
 use Rattle.sound.specs.Sound.{gated}
-use Rattle.rounds.specs.Closes.{carried}
-use Rattle.rounds.specs.Round.{allZero, blockOf, turned}
+use Rattle.rounds.specs.ClosedLaws.{tau1Of}
+use Rattle.rounds.specs.Round.{allZero, blockOf, turned, inRound, allTaken, allLeft}
 use Rattle.rounds.specs.Fitting.{Fitting}
 use Rattle.rounds.specs.InUnits.{Small, wholes, taken-exact, gathers-exact}
 use Rattle.rounds.specs.Exactness.{Exact, ExactSums}
@@ -39,14 +38,14 @@ use Rattle.walk.specs.StepLaws.{stepped-good}
 use Rattle.walk.specs.NoRefusal.{verdictOf, taken-accepted}
 use Rattle.walk.specs.Stepping.{stepping-sound}
 use Rattle.runs.specs.Summing.{sums-nothing}
-use Rattle.runs.specs.Taken.{pendingAt, mixed}
+use Rattle.runs.specs.Taken.{midArea}
 use Rattle.runs.specs.OneBlock.{own-numbers, own-block, count-then}
 use Rattle.runs.specs.MidRound.{mid-takes, mid-stepping, count-small}
 use Rattle.runs.specs.Conserved.{mid-conserves, finish-conserves}
 use Rattle.runs.specs.MidStep.{last-tau, all-left, mid-accepted, mid-refused}
 use Rattle.runs.specs.Runs.{Ran, heeded, tried}
 use Rattle.runs.specs.Reached.{tried-more, During, reached-refuses}
-use Rattle.runs.specs.Demand3.{Closing, Going}
+use Rattle.runs.specs.Demand3.{AtClose, Going}
 
 -- the values of floats, summed, are their units summed
 sum-values : (f : Format) (xs : List Float) → exactSum (map (value f) xs) ≡ int (total (wholes f xs))
@@ -88,82 +87,81 @@ module _ {W : Width} (F : Fitting W) (ps : List ℕ) (work : List Float) where
   -- ---- a run that goes on
   module _ (r : Ran) (D : During W F ps work r) where
     at : State
-    at = stateOf (length ps) (D .sigma) (D .t) (D .tau) (D .pending) (D .rounds)
+    at = inRound (D .first) (D .tau) (D .pending)
 
     area : List Float
-    area = mixed (W .format) (D .sigma) (pendingAt W (D .pending)) 0 (D .xs)
+    area = midArea W (D .first) (D .pending) (D .xs)
 
     small : Each (Small (W .format) (2 ^ D .e)) area
     unfolding area
     small = mid-stepping (D .summing .begun) (D .mid) (D .some) .work
 
     there : (b : ℕ) → has (D .pending) b ≡ true → b < blocksOf W (length (D .xs))
-    there b h = rw (D .summing .begun .count) (has-below (D .pending) b h (blocksOf W (length ps)) (D .mid .inside))
+    there b h = rw (D .summing .begun .count) (has-below (D .pending) b h (blocksOf W (D .first .n)) (D .mid .inside))
 
-    sums : (b : ℕ) → has (D .pending) b ≡ true → ExactSums (W .format) (D .sigma) (D .tau) (blockOf W b area)
+    sums : (b : ℕ) → has (D .pending) b ≡ true → ExactSums (W .format) (D .first .sigma) (D .tau) (blockOf W b area)
     unfolding area
     sums b h =
         let B = D .summing .begun in
         let A = Small (W .format) (2 ^ D .e) in
         let inside = there b h in
         let c = count-then W (F .block) (D .xs) b inside (D .pending) h in
-        rw (own-numbers W (F .block) (D .xs) b inside (D .pending) h (D .sigma))
+        rw (own-numbers W (F .block) (D .xs) b inside (D .pending) h (D .first .sigma))
         (gathers-exact (B .scale) (blockOf W b (D .xs)) (D .mid .tau-is)
         (each-take A (W .block) (drop (W .block * b) (D .xs)) (each-drop A (W .block * b) (D .xs) (B .work)))
-        (omega (arith, c, count-small B (without (D .pending) b), ceil-ge (length ps + 2))))
+        (omega (arith, c, count-small B (without (D .pending) b), ceil-ge (D .first .n + 2))))
 
-    kept : value (W .format) (D .t) +ℤ value (W .format) (D .tau) +ℤ exactSum (map (value (W .format)) area) ≡ sumOf (W .format) ps
+    kept : value (W .format) (D .first .t) +ℤ value (W .format) (D .tau) +ℤ exactSum (map (value (W .format)) area) ≡ sumOf (W .format) ps
     unfolding area
-    kept = sums-to (W .format) (D .t) (D .tau) area (sumOf (W .format) ps) (mid-conserves (D .summing) (D .mid))
+    kept = sums-to (W .format) (D .first .t) (D .tau) area (sumOf (W .format) ps) (mid-conserves (D .summing) (D .mid))
 
     -- the round that its last block closes, whatever tau and the area are written as
-    closing : (tau : Float) (left : List Float) → tau ≡ gathered (W .format) (D .sigma) (plusZero (W .format)) (D .xs)
-        → left ≡ remainders (W .format) (D .sigma) (D .xs) → Closing W ps (D .t) tau left
+    closing : (tau : Float) (left : List Float) → tau ≡ allTaken W (D .first) (D .xs) .tau
+        → left ≡ allLeft W (D .first) (D .xs) → AtClose W ps (D .first .t) tau left
     closing tau left e i =
         let f = W .format in
-        let tau1 = carried W (D .sigma) (D .t) (D .xs) in
-        let tau2 = sub f (gathered f (D .sigma) (plusZero f) (D .xs)) (sub f tau1 (D .t)) in
+        let tau1 = tau1Of W (allTaken W (D .first) (D .xs)) in
+        let tau2 = sub f (allTaken W (D .first) (D .xs) .tau) (sub f tau1 (D .first .t)) in
         rw (e, i) (record {
-          conserves = sums-to f tau1 tau2 (remainders f (D .sigma) (D .xs)) S (finish-conserves (D .summing));
+          conserves = sums-to f tau1 tau2 (allLeft W (D .first) (D .xs)) S (finish-conserves (D .summing));
           nothing = none;
         })
       where
         S : ℤ
         S = sumOf (W .format) ps
 
-        none : eq (carried W (D .sigma) (D .t) (D .xs)) (plusZero (W .format)) ≡ true
-            → allZero (W .format) (remainders (W .format) (D .sigma) (D .xs)) ≡ true → S ≡ pos 0
+        none : eq (tau1Of W (allTaken W (D .first) (D .xs))) (plusZero (W .format)) ≡ true
+            → allZero (W .format) (allLeft W (D .first) (D .xs)) ≡ true → S ≡ pos 0
         none z a = sym (int-difference S) ∙ int-same (difference S) (nat 0) (sums-nothing (D .summing) z a) ∙ int-difference (pos 0)
 
     last-tau-of : (b : ℕ) → has (D .pending) b ≡ true → without (D .pending) b ≡ 0
-        → gathered (W .format) (D .sigma) (D .tau) (blockOf W b area) ≡ gathered (W .format) (D .sigma) (plusZero (W .format)) (D .xs)
+        → gathered (W .format) (D .first .sigma) (D .tau) (blockOf W b area) ≡ allTaken W (D .first) (D .xs) .tau
     unfolding area
     last-tau-of b h z =
-        ap (gathered (W .format) (D .sigma) (D .tau)) (own-numbers W (F .block) (D .xs) b (there b h) (D .pending) h (D .sigma))
+        ap (gathered (W .format) (D .first .sigma) (D .tau)) (own-numbers W (F .block) (D .xs) b (there b h) (D .pending) h (D .first .sigma))
         ∙ last-tau (D .summing .begun) (rw z at (mid-takes (D .summing .begun) (D .mid) b h))
 
     last-area : (b : ℕ) → has (D .pending) b ≡ true → without (D .pending) b ≡ 0
-        → turned W (D .sigma) b area ≡ remainders (W .format) (D .sigma) (D .xs)
+        → turned W (D .first .sigma) b area ≡ allLeft W (D .first) (D .xs)
     unfolding area
     last-area b h z =
-        own-block W (F .block) (D .xs) b (there b h) (D .pending) h (D .sigma)
-        ∙ ap (λ (P : ℕ). mixed (W .format) (D .sigma) (pendingAt W P) 0 (D .xs)) z
+        own-block W (F .block) (D .xs) b (there b h) (D .pending) h (D .first .sigma)
+        ∙ ap (λ (P : ℕ). midArea W (D .first) P (D .xs)) z
         ∙ all-left (D .summing .begun)
 
     during : Going W ps (record { walk = outcome (More at) area; steps = r .steps }) at
     unfolding at area
     during = record {
-      count = refl;
+      count = D .count;
       sound = stepping-sound (mid-stepping (D .summing .begun) (D .mid) (D .some));
       accepts = λ b h. mid-accepted (D .summing .begun) (D .mid) b h;
       refuses = λ b h. mid-refused (D .summing .begun) (D .mid) (D .some) b h;
       turns = λ b h. accepted-turns W _ at area b refl (mid-accepted (D .summing .begun) (D .mid) b h);
       unchanged = λ b h. reached-refuses W F ps work _ (record {
         e = D .e;
-        sigma = D .sigma;
-        t = D .t;
-        rounds = D .rounds;
+        first = D .first;
         xs = D .xs;
+        count = D .count;
         summing = D .summing;
         pending = D .pending;
         tau = D .tau;
@@ -173,7 +171,7 @@ module _ {W : Width} (F : Fitting W) (ps : List ℕ) (work : List Float) where
         steps = D .steps;
         rest = D .rest;
       }) b h;
-      exact = each-weaker (Small (W .format) (2 ^ D .e)) (Exact (W .format) (D .sigma)) (λ x X. taken-exact (D .summing .begun .scale) X) area small;
+      exact = each-weaker (Small (W .format) (2 ^ D .e)) (Exact (W .format) (D .first .sigma)) (λ x X. taken-exact (D .summing .begun .scale) X) area small;
       gathers = sums;
       plus = D .mid .tau-is .plus;
       conserves = kept;
@@ -194,4 +192,4 @@ module _ {W : Width} (F : Fitting W) (ps : List ℕ) (work : List Float) where
     pub bounded : r .steps ≤ suc (W .rounds) * blocksOf W (length ps)
     bounded =
         let B = blocksOf W (length ps) in
-        omega (arith, D .steps, mul-le-mul-right B (begun-rounds (D .summing .begun)), suc-mul (W .rounds) B)
+        omega (arith, rw (D .count) at (D .steps), mul-le-mul-right B (begun-rounds (D .summing .begun)), suc-mul (W .rounds) B)

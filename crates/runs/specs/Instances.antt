@@ -1,4 +1,4 @@
--- The theorems about runs and about a step over any sound state, at document 01's width and at the numbers for binary32 (2,046 numbers, 2^100, 2^111, 20
+-- The theorems about runs and about a step over any sound state, at the scope's width and at the numbers for binary32 (2,046 numbers, 2^100, 2^111, 20
 -- rounds), a line each. Assumes nothing.
 use mathlib.Core.Path.{_≡_}
 use mathlib.Core.Bool.{true}
@@ -18,7 +18,7 @@ use Rattle.walk.specs.Walk.{opened, rising, stepped, faithfulOf}
 use Rattle.runs.specs.AnyState.{Floats, Stepped}
 use Rattle.runs.specs.AnyStateLaws.{any-state}
 use Rattle.runs.specs.Faithful.{FaithfulSum, faithful-promised}
-use Rattle.runs.specs.Runs.{runOf, joined, members}
+use Rattle.runs.specs.Runs.{runOf, inTurn, members}
 use Rattle.runs.specs.AnyRun.{any-run}
 use Rattle.runs.specs.Demand3.{Going, Finished}
 use Rattle.runs.specs.Demand3Laws.{run-goes, run-finishes, run-bounded, run-at-once, run-left}
@@ -34,20 +34,20 @@ any-state-64 = any-state doubles-fit
 pub any-state-32 : (s : State) (b : ℕ) (xs : List Float) → Floats singles s xs → gated singles s b xs ≡ Good → Stepped singles (stepped singles s b xs)
 any-state-32 = any-state singles-fit
 
--- ---- demand 2, the faithful sum
+-- ---- rule D2, the faithful sum
 pub faithful-64 : (ps : List ℕ) (work : List Float) → Accepted doubles ps work → FaithfulSum doubles ps (faithfulOf doubles ps work)
 faithful-64 = faithful-promised doubles-fit
 
 pub faithful-32 : (ps : List ℕ) (work : List Float) → Accepted singles ps work → FaithfulSum singles ps (faithfulOf singles ps work)
 faithful-32 = faithful-promised singles-fit
 
--- ---- demand 3
+-- ---- rule D3
 pub any-run-64 : (ps : List ℕ) (work : List Float) → Accepted doubles ps work → (π : ℕ → List ℕ)
-    → ((i : ℕ) → Perm (π i) (rising (blocksOf doubles (length ps)))) → runOf doubles ps work (joined π 51 0) .walk ≡ faithfulOf doubles ps work
+    → ((i : ℕ) → Perm (π i) (rising (blocksOf doubles (length ps)))) → runOf doubles ps work (inTurn π 51 0) .walk ≡ faithfulOf doubles ps work
 any-run-64 = any-run doubles-fit
 
 pub any-run-32 : (ps : List ℕ) (work : List Float) → Accepted singles ps work → (π : ℕ → List ℕ)
-    → ((i : ℕ) → Perm (π i) (rising (blocksOf singles (length ps)))) → runOf singles ps work (joined π 20 0) .walk ≡ faithfulOf singles ps work
+    → ((i : ℕ) → Perm (π i) (rising (blocksOf singles (length ps)))) → runOf singles ps work (inTurn π 20 0) .walk ≡ faithfulOf singles ps work
 any-run-32 = any-run singles-fit
 
 module _ (ps : List ℕ) (work : List Float) (bs : List ℕ) where

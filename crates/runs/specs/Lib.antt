@@ -11,11 +11,11 @@ pub mod Taken
 pub mod TakenLaws
 pub mod OneBlock
 pub mod Places
+pub mod Runs
+pub mod MembersLaws
 pub mod MidRound
 pub mod Conserved
 pub mod MidStep
-pub mod Runs
-pub mod MembersLaws
 pub mod Reached
 pub mod OrderLaws
 pub mod AnyOrder

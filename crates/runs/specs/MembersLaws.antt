@@ -1,14 +1,22 @@
--- How many members a set has: none of the empty set, each of the full one, and one less without a member. Assumes nothing.
-use mathlib.Core.Path.{_≡_, refl}
+-- Members of a set: which has any, and how many: none of the empty set, each of the full one, and one less without a member. Assumes nothing.
+use mathlib.Core.Path.{_≡_, refl, sym, _∙_}
 use mathlib.Core.Logic.{_⊎_, inl, inr}
-use mathlib.Core.Bool.{true, cond}
-use Prim.Native.Nat.{ℕ, zero, suc, _+_, _≤_, _<_}
-use native.Mathlib.Nat.{eq-or-lt-of-le, le-of-suc-le-suc}
+use mathlib.Core.Bool.{Bool, true, false, cond}
+use Prim.Native.Nat.{ℕ, zero, suc, _+_, _^_, _≤_, _<_}
+use native.Mathlib.Nat.{zero-div, eq-or-lt-of-le, le-of-suc-le-suc}
 use native.Mathlib.Omega.{arith}
+use Rattle.lists.specs.Apart.{apart}
 use Rattle.lists.specs.Bitset.{has, without, full}
 use Rattle.lists.specs.BitsetLaws.{has-full, has-without, has-other}
 use Rattle.runs.specs.Runs.{members}
-use Rattle.runs.specs.MidStep.{empty-has}
+
+-- the empty set has no member
+pub empty-has : (b : ℕ) → has 0 b ≡ false
+empty-has b = rw (zero-div (2 ^ b))
+
+pub has-positive : (P b : ℕ) → has P b ≡ true → 0 < P
+has-positive zero b h = let z : _≡_ {A = Bool} true false = sym h ∙ empty-has b in apart (cc)
+has-positive (suc P) b h = omega arith
 
 pub members-none : (B : ℕ) → members 0 B ≡ 0
 unfolding members

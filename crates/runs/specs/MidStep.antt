@@ -2,8 +2,7 @@
 use mathlib.Core.Path.{_≡_, refl, sym, ap, _∙_}
 use mathlib.Core.Bool.{Bool, true, false, cond}
 use mathlib.Core.List.{List, map}
-use Prim.Native.Nat.{ℕ, zero, suc, _+_, _^_, _/_, _≤_, _<_}
-use native.Mathlib.Nat.{zero-div}
+use Prim.Native.Nat.{ℕ, _+_, _^_, _/_, _≤_, _<_}
 use native.Mathlib.Omega.{arith}
 use borrow.Author.Tests.{eq-eqb}
 use lib.Dec.{leb}
@@ -18,17 +17,16 @@ use Rattle.ieee.specs.Units.{value, whole}
 use Rattle.ieee.specs.Finite.{same-float}
 use Rattle.ieee.specs.Rounded.{prec-pos}
 use Rattle.ieee.specs.Sum.{value-int, value-mag}
-use Rattle.lists.specs.Apart.{apart}
 use Rattle.lists.specs.Bitset.{has, without}
 use Rattle.lists.specs.BitsetLaws.{has-below}
 use Rattle.kinds.specs.Limits.{Width, exponentOf, blocksOf}
 use Rattle.kinds.specs.Outcome.{outcome}
-use Rattle.kinds.specs.States.{stateOf}
+use Rattle.kinds.specs.declared.State.{State}
 use Rattle.kinds.specs.declared.Step.the-variants.{More}
 use Rattle.kinds.specs.declared.Verdict.the-variants.{Good, Refused}
-use Rattle.extract.specs.Extract.{plusZero, remainders, gathered}
+use Rattle.extract.specs.Extract.{gathered}
 use Rattle.sound.specs.Sound.{gated}
-use Rattle.rounds.specs.Round.{blockOf, takenState, closed}
+use Rattle.rounds.specs.Round.{blockOf, inRound, takenState, allTaken, allLeft, closed}
 use Rattle.rounds.specs.Fitting.{Fitting}
 use Rattle.rounds.specs.InUnits.{Tau, wholes, all-ready, gathers}
 use Rattle.rounds.specs.Begun.{Begun, first-tau}
@@ -36,38 +34,31 @@ use Rattle.walk.specs.Walk.{stepped}
 use Rattle.walk.specs.StepLaws.{stepped-good, taken-closes, taken-goes}
 use Rattle.walk.specs.Stepping.{stepping-sound, stepping-accepted}
 use Rattle.runs.specs.CloseUnits.{zero-whole}
-use Rattle.runs.specs.Taken.{pendingAt, mixed, takenOf}
+use Rattle.runs.specs.Taken.{pendingAt, takenOf, midArea}
 use Rattle.runs.specs.TakenLaws.{taken-all, mixed-all}
 use Rattle.runs.specs.OneBlock.{own-numbers, own-block}
+use Rattle.runs.specs.MembersLaws.{empty-has, has-positive}
 use Rattle.runs.specs.MidRound.{Mid, highUnits, high-list, mid-takes, mid-stepping}
 
--- the empty set has no member
-pub empty-has : (b : ℕ) → has 0 b ≡ false
-empty-has b = rw (zero-div (2 ^ b))
-
-pub has-positive : (P b : ℕ) → has P b ≡ true → 0 < P
-has-positive zero b h = let z : _≡_ {A = Bool} true false = sym h ∙ empty-has b in apart (cc)
-has-positive (suc P) b h = omega arith
-
-module _ {W : Width} {F : Fitting W} {e n : ℕ} {sigma t : Float} {rounds : ℕ} {xs : List Float} (B : Begun W F e n sigma t rounds xs) where
+module _ {W : Width} {F : Fitting W} {e : ℕ} {s : State} {xs : List Float} (B : Begun W F e s xs) where
   -- ---- all blocks taken: tau and the area are those of the rising order
   all-of : takenOf (pendingAt W 0) 0 xs ≡ xs
   all-of = taken-all (pendingAt W 0) 0 xs (λ j l h. empty-has (j / W .block))
 
-  pub all-left : mixed (W .format) sigma (pendingAt W 0) 0 xs ≡ remainders (W .format) sigma xs
-  all-left = mixed-all (pendingAt W 0) (W .format) sigma 0 xs (λ j l h. empty-has (j / W .block))
+  pub all-left : midArea W s 0 xs ≡ allLeft W s xs
+  all-left = mixed-all (pendingAt W 0) (W .format) (s .sigma) 0 xs (λ j l h. empty-has (j / W .block))
 
-  risen : Tau (B .scale) (length xs) (gathered (W .format) sigma (plusZero (W .format)) xs)
-      × (whole (W .format) (gathered (W .format) sigma (plusZero (W .format)) xs) ≈ total (map (highUnits (W .format) (exponentOf n + e)) xs))
+  risen : Tau (B .scale) (length xs) (allTaken W s xs .tau)
+      × (whole (W .format) (allTaken W s xs .tau) ≈ total (map (highUnits (W .format) (exponentOf (s .n) + e)) xs))
   risen =
       let f = W .format in
-      let k = exponentOf n + e in
-      let most : length xs ≤ 2 ^ exponentOf n = omega (arith, B .count, ceil-ge (n + 2)) in
+      let k = exponentOf (s .n) + e in
+      let most : length xs ≤ 2 ^ exponentOf (s .n) = omega (arith, B .count, ceil-ge (s .n + 2)) in
       let z : 0 + length xs ≡ length xs = omega arith in
       let G = gathers (B .scale) xs (first-tau B) (B .work) (omega arith) in
-      let T = turns (prec f) (prec-pos f) (exponentOf n) e (B .scale .some) (B .scale .few) (wholes f xs) (length xs) (tau-zero (prec f) (exponentOf n) e)
-      (all-ready (B .scale) xs (B .work)) (sym z ∙ ap (λ (l : ℕ). 0 + l) (sym (length-map xs (whole f)))) most in
-      (rw z at (G .0), rw (G .1, zero-whole f, ← (high-list f k xs)) (omega (arith, T .1)))
+      let T = turns (prec f) (prec-pos f) (exponentOf (s .n)) e (B .scale .some) (B .scale .few) (wholes f xs) (length xs)
+      (tau-zero (prec f) (exponentOf (s .n)) e) (all-ready (B .scale) xs (B .work)) (sym z ∙ ap (λ (l : ℕ). 0 + l) (sym (length-map xs (whole f)))) most in
+      (rw z at (G .0), rw (G .1, B .tau, zero-whole f, ← (high-list f k xs)) (omega (arith, T .1)))
 
   -- a float is its units where it isn't -0
   same : {x y : Float} {c d : ℕ} → Tau (B .scale) c x → Tau (B .scale) d y → whole (W .format) x ≈ whole (W .format) y → x ≡ y
@@ -77,58 +68,58 @@ module _ {W : Width} {F : Fitting W} {e n : ℕ} {sigma t : Float} {rounds : ℕ
       same-float (X .number) (Y .number) v
       (λ z. X .plus (sym (value-mag f x) ∙ ap natAbs z) ∙ sym (Y .plus (sym (value-mag f y) ∙ ap natAbs (sym v ∙ z))))
 
-  pub last-tau : {tau : Float} → Mid B 0 tau → tau ≡ gathered (W .format) sigma (plusZero (W .format)) xs
+  pub last-tau : {tau : Float} → Mid B 0 tau → tau ≡ allTaken W s xs .tau
   last-tau T = same (T .tau-is) (risen .0) (omega (arith, rw all-of at (T .sum), risen .1))
 
   -- ---- one block
   there : {P : ℕ} {tau : Float} → Mid B P tau → (b : ℕ) → has P b ≡ true → b < blocksOf W (length xs)
-  there {P} T b h = rw (B .count) (has-below P b h (blocksOf W n) (T .inside))
+  there {P} T b h = rw (B .count) (has-below P b h (blocksOf W (s .n)) (T .inside))
 
   step-state : {P : ℕ} {tau : Float} → Mid B P tau → (b : ℕ) → has P b ≡ true
-      → takenState W (stateOf n sigma t tau P rounds) b (mixed (W .format) sigma (pendingAt W P) 0 xs)
-      ≡ stateOf n sigma t (gathered (W .format) sigma tau (blockOf W b xs)) (without P b) rounds
+      → takenState W (inRound s tau P) b (midArea W s P xs)
+      ≡ inRound s (gathered (W .format) (s .sigma) tau (blockOf W b xs)) (without P b)
   step-state {P} {tau} T b h =
-      λ i. stateOf n sigma t (gathered (W .format) sigma tau (own-numbers W (F .block) xs b (there T b h) P h sigma i)) (without P b) rounds
+      λ i. inRound s (gathered (W .format) (s .sigma) tau (own-numbers W (F .block) xs b (there T b h) P h (s .sigma) i)) (without P b)
 
   pub mid-accepted : {P : ℕ} {tau : Float} → Mid B P tau → (b : ℕ) → has P b ≡ true
-      → gated W (stateOf n sigma t tau P rounds) b (mixed (W .format) sigma (pendingAt W P) 0 xs) ≡ Good
-  mid-accepted {P} T b h = stepping-accepted (mid-stepping B T (has-positive P b h)) b (has-below P b h (blocksOf W n) (T .inside)) h
+      → gated W (inRound s tau P) b (midArea W s P xs) ≡ Good
+  mid-accepted {P} T b h = stepping-accepted (mid-stepping B T (has-positive P b h)) b (has-below P b h (blocksOf W (s .n)) (T .inside)) h
 
   -- it isn't the last
   pub mid-goes : {P : ℕ} {tau : Float} → Mid B P tau → (b : ℕ) → has P b ≡ true → (without P b ≡ 0 → ⊥)
-      → stepped W (stateOf n sigma t tau P rounds) b (mixed (W .format) sigma (pendingAt W P) 0 xs)
-      ≡ outcome (More (stateOf n sigma t (gathered (W .format) sigma tau (blockOf W b xs)) (without P b) rounds))
-      (mixed (W .format) sigma (pendingAt W (without P b)) 0 xs)
+      → stepped W (inRound s tau P) b (midArea W s P xs)
+      ≡ outcome (More (inRound s (gathered (W .format) (s .sigma) tau (blockOf W b xs)) (without P b)))
+      (midArea W s (without P b) xs)
   mid-goes {P} {tau} T b h z =
-      let s = stateOf n sigma t tau P rounds in
-      let work = mixed (W .format) sigma (pendingAt W P) 0 xs in
+      let s = inRound s tau P in
+      let work = midArea W s P xs in
       sym (stepped-good W s b work (gated W s b work) (mid-accepted T b h))
-      ∙ sym (taken-goes W s b work (stateOf n sigma t (gathered (W .format) sigma tau (blockOf W b xs)) (without P b) rounds) _
-      (sym (step-state T b h)) (sym (own-block W (F .block) xs b (there T b h) P h sigma)) z)
+      ∙ sym (taken-goes W s b work (inRound s (gathered (W .format) (s .sigma) tau (blockOf W b xs)) (without P b)) _
+      (sym (step-state T b h)) (sym (own-block W (F .block) xs b (there T b h) P h (s .sigma))) z)
 
   -- it is
   pub mid-closes : {P : ℕ} {tau : Float} → Mid B P tau → (b : ℕ) → has P b ≡ true → without P b ≡ 0
-      → stepped W (stateOf n sigma t tau P rounds) b (mixed (W .format) sigma (pendingAt W P) 0 xs)
-      ≡ outcome (closed W (stateOf n sigma t (gathered (W .format) sigma (plusZero (W .format)) xs) 0 rounds) (remainders (W .format) sigma xs))
-      (remainders (W .format) sigma xs)
+      → stepped W (inRound s tau P) b (midArea W s P xs)
+      ≡ outcome (closed W (allTaken W s xs) (allLeft W s xs))
+      (allLeft W s xs)
   mid-closes {P} {tau} T b h z =
-      let s = stateOf n sigma t tau P rounds in
-      let work = mixed (W .format) sigma (pendingAt W P) 0 xs in
-      let next = stateOf n sigma t (gathered (W .format) sigma tau (blockOf W b xs)) (without P b) rounds in
+      let s = inRound s tau P in
+      let work = midArea W s P xs in
+      let next = inRound s (gathered (W .format) (s .sigma) tau (blockOf W b xs)) (without P b) in
       let last = last-tau (rw z at (mid-takes B T b h)) in
-      let area = ap (λ (Q : ℕ). mixed (W .format) sigma (pendingAt W Q) 0 xs) z ∙ all-left in
+      let area = ap (λ (Q : ℕ). midArea W s Q xs) z ∙ all-left in
       sym (stepped-good W s b work (gated W s b work) (mid-accepted T b h))
-      ∙ sym (taken-closes W s b work next _ (sym (step-state T b h)) (sym (own-block W (F .block) xs b (there T b h) P h sigma)) _ z refl)
-      ∙ (λ i. outcome (closed W (stateOf n sigma t (last i) (z i) rounds) (area i)) (area i))
+      ∙ sym (taken-closes W s b work next _ (sym (step-state T b h)) (sym (own-block W (F .block) xs b (there T b h) P h (s .sigma))) _ z refl)
+      ∙ (λ i. outcome (closed W (inRound s (last i) (z i)) (area i)) (area i))
 
   -- a block that isn't pending is refused with 6 or 7
   pub mid-refused : {P : ℕ} {tau : Float} → Mid B P tau → 0 < P → (b : ℕ) → has P b ≡ false
-      → gated W (stateOf n sigma t tau P rounds) b (mixed (W .format) sigma (pendingAt W P) 0 xs)
-      ≡ Refused (cond (leb (blocksOf W n) b) 6 7) 0
+      → gated W (inRound s tau P) b (midArea W s P xs)
+      ≡ Refused (cond (leb (blocksOf W (s .n)) b) 6 7) 0
   unfolding gated
   mid-refused {P} T l b h =
       let I = mid-stepping B T l in
-      simp (eq-eqb _ _ (I .count), stepping-sound I, h) (go (leb (blocksOf W n) b))
+      simp (eq-eqb _ _ (I .count), stepping-sound I, h) (go (leb (blocksOf W (s .n)) b))
     where
       go : (c : Bool) → cond c (Refused 6 0) (Refused 7 0) ≡ Refused (cond c 6 7) 0
       go true = refl

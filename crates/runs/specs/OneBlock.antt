@@ -17,7 +17,8 @@ use Rattle.kinds.specs.Limits.{Width, blocksOf}
 use Rattle.extract.specs.Extract.{remainders}
 use Rattle.rounds.specs.Round.{blockOf, turned}
 use Rattle.runs.specs.Taken.{pendingAt, mixed, takenOf}
-use Rattle.runs.specs.TakenLaws.{Over, mixed-join, mixed-agree, mixed-nothing, mixed-all, mixed-length, taken-join, taken-agree, taken-nothing, taken-all}
+use Rattle.runs.specs.TakenLaws.{Throughout, mixed-join, mixed-agree, mixed-nothing, mixed-all, mixed-length}
+use Rattle.runs.specs.TakenLaws.{taken-join, taken-agree, taken-nothing, taken-all}
 
 total-join : (g : Float → Whole) (xs ys : List Float) → total (map g (xs ++ ys)) ≈ total (map g xs) ⊕ total (map g ys)
 total-join g [] ys = omega arith
@@ -78,18 +79,18 @@ module _ (W : Width) (some : 0 < W .block) (xs : List Float) (b : ℕ) (there : 
   later j h = le-div-iff-mul-le {k = W .block} some .1 (omega (arith, mul-comm (W .block) b, suc-mul b (W .block)))
 
   -- ---- the places of the three parts
-  same-before : Over (λ j. pendingAt W P j ≡ pendingAt W (without P b) j) 0 (length before)
+  same-before : Throughout (λ j. pendingAt W P j ≡ pendingAt W (without P b) j) 0 (length before)
   same-before j l h =
       let e : j / W .block < b = earlier j (omega (arith, before-length)) in
       sym (has-other P b (j / W .block) (omega arith))
 
-  kept : Over (λ j. pendingAt W P j ≡ true) (W .block * b) (length block)
+  kept : Throughout (λ j. pendingAt W P j ≡ true) (W .block * b) (length block)
   kept j l h = rw (block-at j l (omega (arith, short))) pending
 
-  gone : Over (λ j. pendingAt W (without P b) j ≡ false) (W .block * b) (length block)
+  gone : Throughout (λ j. pendingAt W (without P b) j ≡ false) (W .block * b) (length block)
   gone j l h = rw (block-at j l (omega (arith, short))) (has-without P b)
 
-  same-after : Over (λ j. pendingAt W P j ≡ pendingAt W (without P b) j) (W .block * b + length block) (length after)
+  same-after : Throughout (λ j. pendingAt W P j ≡ pendingAt W (without P b) j) (W .block * b + length block) (length after)
   same-after j l h = elim cut [
     | inl w ↦ let e : b < j / W .block = later j (omega arith) in sym (has-other P b (j / W .block) (omega arith))
     | inr w ↦ absurd (omega (arith, ap length (w .1)))

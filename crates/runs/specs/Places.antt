@@ -1,4 +1,4 @@
--- "An accepted step turns exactly its own block's numbers into their remainders and touches no other place": of each place of the area. Assumes nothing.
+-- Rule D3's own block and no other, said of each place of the area. Assumes nothing.
 use mathlib.Core.Path.{_≡_, ap, _∙_}
 use mathlib.Core.Logic.{_⊎_, inl, inr}
 use mathlib.Core.List.{List, _++_}

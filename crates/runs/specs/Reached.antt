@@ -13,11 +13,10 @@ use lib.Dec.{eqb, leb}
 use lib.ListN.{length}
 use lib.Ieee.{Float, prec}
 use Rattle.units.specs.Whole.{difference}
-use Rattle.lists.specs.Bitset.{has, without, full}
-use Rattle.lists.specs.BitsetLaws.{has-below, has-full}
+use Rattle.lists.specs.Bitset.{has, without}
+use Rattle.lists.specs.BitsetLaws.{has-below}
 use Rattle.kinds.specs.Limits.{Width, exponentOf, blocksOf}
 use Rattle.kinds.specs.Outcome.{outcome}
-use Rattle.kinds.specs.States.{stateOf}
 use Rattle.kinds.specs.declared.State.{State}
 use Rattle.kinds.specs.declared.Step.{Step}
 use Rattle.kinds.specs.declared.Step.the-variants.{More, Done, Refused}
@@ -25,8 +24,8 @@ use Rattle.kinds.specs.declared.Verdict.the-variants.{Good}
 use Rattle.judge.specs.Judge.{floats}
 use Rattle.judge.specs.Table.{ListWhen}
 use Rattle.sums.specs.Sums.{sumOf}
-use Rattle.extract.specs.Extract.{plusZero, remainders, gathered}
-use Rattle.rounds.specs.Round.{allZero, blockOf, roundOf, closed}
+use Rattle.extract.specs.Extract.{gathered}
+use Rattle.rounds.specs.Round.{allZero, blockOf, inRound, allTaken, allLeft, closed}
 use Rattle.rounds.specs.Fitting.{Fitting}
 use Rattle.rounds.specs.Begun.{begun-rounds}
 use Rattle.walk.specs.Walk.{Walked, opened, roundsFrom, stepped, faithfulOf}
@@ -34,37 +33,34 @@ use Rattle.walk.specs.Undivided.{faithful-done}
 use Rattle.sound.specs.Sound.{gated}
 use Rattle.walk.specs.StepLaws.{stepped-refused}
 use Rattle.walk.specs.Run.{Running, run-ends, run-goes}
-use Rattle.runs.specs.Taken.{pendingAt, mixed}
-use Rattle.runs.specs.TakenLaws.{mixed-nothing}
+use Rattle.runs.specs.Taken.{midArea}
 use Rattle.runs.specs.Summing.{Summing}
 use Rattle.runs.specs.OpenedSum.{zeroOf, opened-zero, opened-round, opened-summing}
-use Rattle.runs.specs.SumRun.{Closed, ends, goes, sums-close}
-use Rattle.runs.specs.MidRound.{Mid, mid-begins, mid-takes, block-below}
-use Rattle.runs.specs.MidStep.{has-positive, mid-goes, mid-closes, mid-refused}
-use Rattle.runs.specs.Runs.{Ran, heeded, tried}
+use Rattle.runs.specs.SumRun.{SumNext, ends, goes, sums-close}
+use Rattle.runs.specs.MidRound.{Mid, mid-begins, begins-area, begins-some, mid-takes}
+use Rattle.runs.specs.MidStep.{mid-goes, mid-closes, mid-refused}
+use Rattle.runs.specs.Runs.{Ran, heeded, tried, members}
 use Rattle.runs.specs.MembersLaws.{members-none, members-full, members-without}
-use Rattle.runs.specs.Runs.{members}
 
 pub tried-more : (W : Width) (r : Ran) (b : ℕ) (s : State) (xs : List Float) → r .walk ≡ outcome (More s) xs → tried W r b ≡ heeded r (stepped W s b xs)
 tried-more W r b s xs e = rw e
 
 module _ (W : Width) (F : Fitting W) (ps : List ℕ) (work : List Float) where
-  -- in a round of the walk over the list: its numbers sum to S, some blocks are pending, and what follows from its opening is the undivided call
+  -- in a round of the walk over the list: the state that opened it and the area then, whose numbers sum to S, what of it was taken since, and that what
+  -- follows from its opening is the undivided call
   pub record During (r : Ran) : Type 0 where
     pub e : ℕ
-    pub sigma : Float
-    pub t : Float
-    pub rounds : ℕ
+    pub first : State
     pub xs : List Float
-    pub summing : Summing W F (difference (sumOf (W .format) ps)) e (length ps) sigma t rounds xs
+    pub count : first .n ≡ length ps
+    pub summing : Summing W F (difference (sumOf (W .format) ps)) e first xs
     pub pending : ℕ
     pub tau : Float
     pub mid : Mid (summing .begun) pending tau
     pub some : 0 < pending
-    pub walk : r .walk ≡ outcome (More (stateOf (length ps) sigma t tau pending rounds)) (mixed (W .format) sigma (pendingAt W pending) 0 xs)
-    pub steps : r .steps + members pending (blocksOf W (length ps)) ≡ rounds * blocksOf W (length ps) + blocksOf W (length ps)
-    pub rest : roundsFrom W (blocksOf W (length ps)) (suc (W .rounds) - rounds) (outcome (More (roundOf W (length ps) sigma t rounds)) xs)
-        ≡ faithfulOf W ps work
+    pub walk : r .walk ≡ outcome (More (inRound first tau pending)) (midArea W first pending xs)
+    pub steps : r .steps + members pending (blocksOf W (first .n)) ≡ first .rounds * blocksOf W (first .n) + blocksOf W (first .n)
+    pub rest : roundsFrom W (blocksOf W (length ps)) (suc (W .rounds) - first .rounds) (outcome (More first) xs) ≡ faithfulOf W ps work
 
   -- ended, as the undivided call does
   pub record Over (r : Ran) : Type 0 where
@@ -79,73 +75,48 @@ module _ (W : Width) (F : Fitting W) (ps : List ℕ) (work : List Float) where
   Reached r = During r ⊎ Over r
 
   -- ---- as a round opens
-  opening : {e : ℕ} {sigma t : Float} {rounds : ℕ} {xs : List Float} (A : Summing W F (difference (sumOf (W .format) ps)) e (length ps) sigma t rounds xs)
-      (r : Ran) → r .walk ≡ outcome (More (roundOf W (length ps) sigma t rounds)) xs → r .steps ≡ rounds * blocksOf W (length ps)
-      → roundsFrom W (blocksOf W (length ps)) (suc (W .rounds) - rounds) (outcome (More (roundOf W (length ps) sigma t rounds)) xs) ≡ faithfulOf W ps work
+  opening : {e : ℕ} {s : State} {xs : List Float} → s .n ≡ length ps → (A : Summing W F (difference (sumOf (W .format) ps)) e s xs)
+      (r : Ran) → r .walk ≡ outcome (More s) xs → r .steps ≡ s .rounds * blocksOf W (s .n)
+      → roundsFrom W (blocksOf W (length ps)) (suc (W .rounds) - s .rounds) (outcome (More s) xs) ≡ faithfulOf W ps work
       → During r
-  unfolding roundOf
-  opening {e} {sigma} {t} {rounds} {xs} A r w s h = record {
+  opening {e} {s} {xs} n A r w c h = record {
     e = e;
-    sigma = sigma;
-    t = t;
-    rounds = rounds;
+    first = s;
     xs = xs;
+    count = n;
     summing = A;
-    pending = full B;
-    tau = plusZero (W .format);
+    pending = s .pending;
+    tau = s .tau;
     mid = mid-begins (A .begun);
-    some = has-positive (full B) 0 (has-full blocks);
-    walk = w ∙ ap (λ (l : List Float). outcome (More (roundOf W (length ps) sigma t rounds)) l) (sym whole);
-    steps = rw (members-full B) (omega (arith, s));
+    some = begins-some (A .begun);
+    walk = w ∙ ap (λ (l : List Float). outcome (More s) l) (sym (begins-area (A .begun)));
+    steps = rw (A .begun .pending, members-full (blocksOf W (s .n))) (omega (arith, c));
     rest = h;
   }
-    where
-      B : ℕ
-      B = blocksOf W (length ps)
-
-      blocks : 0 < B
-      blocks = let h = block-below (A .begun) 0 (A .begun .some) in omega arith
-
-      whole : mixed (W .format) sigma (pendingAt W (full (blocksOf W (length ps)))) 0 xs ≡ xs
-      whole = mixed-nothing (pendingAt W (full (blocksOf W (length ps)))) (W .format) sigma 0 xs
-          (λ j l h. has-full (block-below (A .begun) j (omega (arith, A .begun .count))))
 
   -- ---- a step at a pending block
   module _ (r : Ran) (D : During r) (b : ℕ) (h : has (D .pending) b ≡ true) where
-    n : ℕ
-    n = length ps
-
     B : ℕ
-    B = blocksOf W (length ps)
+    B = blocksOf W (D .first .n)
 
-    state : State
-    state = stateOf (length ps) (D .sigma) (D .t) (D .tau) (D .pending) (D .rounds)
+    trying : tried W r b ≡ heeded r (stepped W (inRound (D .first) (D .tau) (D .pending)) b (midArea W (D .first) (D .pending) (D .xs)))
+    trying = tried-more W r b (inRound (D .first) (D .tau) (D .pending)) (midArea W (D .first) (D .pending) (D .xs)) (D .walk)
 
-    area : List Float
-    area = mixed (W .format) (D .sigma) (pendingAt W (D .pending)) 0 (D .xs)
-
-    trying : tried W r b ≡ heeded r (stepped W state b area)
-    unfolding state area
-    trying = tried-more W r b state area (D .walk)
-
-    below : b < blocksOf W (length ps)
-    below = has-below (D .pending) b h (blocksOf W (length ps)) (D .mid .inside)
-
-    fewer : members (without (D .pending) b) (blocksOf W (length ps)) + 1 ≡ members (D .pending) (blocksOf W (length ps))
-    fewer = members-without (D .pending) b (blocksOf W (length ps)) h below
+    fewer : members (without (D .pending) b) B + 1 ≡ members (D .pending) B
+    unfolding B
+    fewer = members-without (D .pending) b B h (has-below (D .pending) b h B (D .mid .inside))
 
     -- not the last of the round
     goes-on : (without (D .pending) b ≡ 0 → ⊥) → During (tried W r b)
-    unfolding state area
+    unfolding B
     goes-on z = subst During (sym (trying ∙ ap (heeded r) (mid-goes (D .summing .begun) (D .mid) b h z))) (record {
       e = D .e;
-      sigma = D .sigma;
-      t = D .t;
-      rounds = D .rounds;
+      first = D .first;
       xs = D .xs;
+      count = D .count;
       summing = D .summing;
       pending = without (D .pending) b;
-      tau = gathered (W .format) (D .sigma) (D .tau) (blockOf W b (D .xs));
+      tau = gathered (W .format) (D .first .sigma) (D .tau) (blockOf W b (D .xs));
       mid = mid-takes (D .summing .begun) (D .mid) b h;
       some = omega (arith, z);
       walk = refl;
@@ -154,56 +125,52 @@ module _ (W : Width) (F : Fitting W) (ps : List ℕ) (work : List Float) where
     })
 
     -- the last: the round closes
-    left : List Float
-    left = remainders (W .format) (D .sigma) (D .xs)
-
-    first : State
-    first = roundOf W (length ps) (D .sigma) (D .t) (D .rounds)
-
-    running : Running W F (length ps) first (D .xs)
-    unfolding roundOf first
-    running = record { e = D .e; state = refl; begun = D .summing .begun }
+    running : Running W F (length ps) (D .first) (D .xs)
+    running = record { e = D .e; count = D .count; begun = D .summing .begun }
 
     k : ℕ
-    k = W .rounds - D .rounds
+    k = W .rounds - D .first .rounds
 
-    fuel : suc (W .rounds) - D .rounds ≡ suc k
+    fuel : suc (W .rounds) - D .first .rounds ≡ suc k
     unfolding k
     fuel = omega (arith, begun-rounds (D .summing .begun))
 
     closes : without (D .pending) b ≡ 0 → Reached (tried W r b)
-    unfolding state area left first k roundOf
+    unfolding B k
     closes z = subst Reached (sym (trying ∙ ap (heeded r) (mid-closes (D .summing .begun) (D .mid) b h z))) (go (sums-close (D .summing)) refl)
       where
-        q : Step
-        q = closed W (stateOf (length ps) (D .sigma) (D .t) (gathered (W .format) (D .sigma) (plusZero (W .format)) (D .xs)) 0 (D .rounds)) left
+        s : State
+        s = D .first
 
-        again : roundsFrom W (blocksOf W (length ps)) (suc k) (outcome (More first) (D .xs))
-            ≡ roundsFrom W (blocksOf W (length ps)) (suc (W .rounds) - D .rounds) (outcome (More first) (D .xs))
-        again = ap (λ (j : ℕ). roundsFrom W (blocksOf W (length ps)) j (outcome (More first) (D .xs))) (sym fuel)
+        left : List Float
+        left = allLeft W s (D .xs)
 
-        count : r .steps + 1 ≡ (D .rounds + 1) * blocksOf W (length ps)
-        count =
-            let m : members (D .pending) (blocksOf W (length ps)) ≡ 1 = omega (arith, fewer, rw z at fewer, members-none (blocksOf W (length ps))) in
-            rw (add-one (D .rounds), suc-mul (D .rounds) (blocksOf W (length ps))) (omega (arith, D .steps))
+        -- what follows is what follows from the round's opening
+        walked : ℕ → Walked → Walked
+        walked j w = roundsFrom W (blocksOf W (length ps)) j w
 
-        go : {a : Step} → Closed W F (difference (sumOf (W .format) ps)) (length ps) (D .rounds) left a → q ≡ a → Reached (heeded r (outcome a left))
+        again : walked (suc k) (outcome (More s) (D .xs)) ≡ faithfulOf W ps work
+        again = ap (λ (j : ℕ). walked j (outcome (More s) (D .xs))) (sym fuel) ∙ D .rest
+
+        steps : r .steps + 1 ≡ (s .rounds + 1) * B
+        steps =
+            let m : members (D .pending) B ≡ 1 = omega (arith, fewer, rw z at fewer, members-none B) in
+            rw (add-one (s .rounds), suc-mul (s .rounds) B) (omega (arith, D .steps))
+
+        go : {a : Step} → SumNext W F (difference (sumOf (W .format) ps)) s left a → closed W (allTaken W s (D .xs)) left ≡ a
+            → Reached (heeded r (outcome a left))
         go (ends x N G) e = inr (record {
           sum = x;
-          rounds = D .rounds + 1;
+          rounds = s .rounds + 1;
           answer = refl;
-          undivided = run-ends running k x (D .rounds + 1) e ∙ again ∙ D .rest;
-          steps = count;
-          lowered = λ j i. let e : j ≡ D .rounds = omega arith in rw e (omega (arith, D .summing .begun .lowered));
+          undivided = run-ends running k x (s .rounds + 1) e ∙ again;
+          steps = steps ∙ ap (λ (n : ℕ). (s .rounds + 1) * blocksOf W n) (D .count);
+          lowered = λ j i. let e : j ≡ s .rounds = omega arith in rw (e, ← (D .count)) (omega (arith, D .summing .begun .lowered));
         })
-        go (goes e' sigma' t' A) e =
-            let next = roundOf W (length ps) sigma' t' (D .rounds + 1) in
-            let j : suc (W .rounds) - (D .rounds + 1) ≡ k = omega arith in
-            inl (opening A _ refl count
-            (ap (λ (j : ℕ). roundsFrom W (blocksOf W (length ps)) j (outcome (More next) left)) j
-            ∙ sym (run-goes running k next e)
-            ∙ again
-            ∙ D .rest))
+        go (goes e' next same more A) e =
+            let j : suc (W .rounds) - next .rounds ≡ k = omega (arith, more) in
+            inl (opening (same ∙ D .count) A _ refl (steps ∙ (λ i. sym more i * blocksOf W (sym same i)))
+            (ap (λ (j : ℕ). walked j (outcome (More next) left)) j ∙ sym (run-goes running k next e) ∙ again))
 
     pub reached-accepts : Reached (tried W r b)
     reached-accepts = go (eqb (without (D .pending) b) 0) refl
@@ -215,9 +182,9 @@ module _ (W : Width) (F : Fitting W) (ps : List ℕ) (work : List Float) where
   -- ---- a step at any other block leaves the run as it is
   pub reached-refuses : (r : Ran) (D : During r) (b : ℕ) → has (D .pending) b ≡ false → tried W r b ≡ r
   reached-refuses r D b h =
-      let s = stateOf (length ps) (D .sigma) (D .t) (D .tau) (D .pending) (D .rounds) in
-      let area = mixed (W .format) (D .sigma) (pendingAt W (D .pending)) 0 (D .xs) in
-      let e : stepped W s b area ≡ outcome (Refused (cond (leb (blocksOf W (length ps)) b) 6 7) 0) area =
+      let s = inRound (D .first) (D .tau) (D .pending) in
+      let area = midArea W (D .first) (D .pending) (D .xs) in
+      let e : stepped W s b area ≡ outcome (Refused (cond (leb (blocksOf W (s .n)) b) 6 7) 0) area =
       sym (stepped-refused W s b area (gated W s b area) _ _ (mid-refused (D .summing .begun) (D .mid) (D .some) b h)) in
       let same : area ≡ r .walk .area = sym (ap (λ (w : Walked). w .area) (D .walk)) in
       tried-more W r b s area (D .walk) ∙ ap (heeded r) e ∙ (λ i. record { walk = outcome (r .walk .answer) (same i); steps = r .steps })
@@ -258,5 +225,5 @@ module _ (W : Width) (F : Fitting W) (ps : List ℕ) (work : List Float) where
       go false a =
           let z : suc (W .rounds) - 0 ≡ suc (W .rounds) = omega arith in
           let e = opened-round F ps work G a in
-          inl (opening (opened-summing F ps work G a) start e (sym (zero-mul (blocksOf W (length ps))))
+          inl (opening refl (opened-summing F ps work G a) start e (sym (zero-mul (blocksOf W (length ps))))
           (λ i. roundsFrom W (blocksOf W (length ps)) (z i) (sym e i)))

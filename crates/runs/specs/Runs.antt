@@ -1,5 +1,5 @@
--- A run: an opening, then steps at blocks in any order, each with the state and the work area that the opening or the last accepted step left; refused steps
--- may stand between. Definitions only.
+-- Rule DR1, a run: an opening, then steps at blocks in any order, each with the state and the work area that the opening or the last accepted step left;
+-- refused steps may stand between. Definitions only.
 use mathlib.Core.Bool.{cond}
 use mathlib.Core.List.{List, [], _++_, foldl}
 use Prim.Native.Nat.{ℕ, zero, suc, _+_}
@@ -42,11 +42,11 @@ members P zero = 0
 members P (suc count) = cond (has P count) 1 0 + members P count
 
 -- the first k orders of a sequence from i on, one after another
-unfoldable pub joined : (ℕ → List ℕ) → ℕ → ℕ → List ℕ
-joined π zero i = []
-joined π (suc k) i = π i ++ joined π k (suc i)
+unfoldable pub inTurn : (ℕ → List ℕ) → ℕ → ℕ → List ℕ
+inTurn π zero i = []
+inTurn π (suc k) i = π i ++ inTurn π k (suc i)
 
--- that many rounds from round i on, each with its blocks in the order that π gives for it
+-- rule DR4: that many rounds from round i on, each with its blocks in the order that π gives for it
 unfoldable pub ordered : Width → (ℕ → List ℕ) → ℕ → ℕ → Walked → Walked
 ordered W π zero i w = w
 ordered W π (suc k) i w = ordered W π k (suc i) (foldl (onward W) w (π i))

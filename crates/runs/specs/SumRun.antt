@@ -1,75 +1,56 @@
 -- A run over numbers that sum to S ends with a faithful rounding of S. Assumes nothing.
-use mathlib.Core.Path.{_≡_, refl, sym, ap, subst}
-use mathlib.Core.Bool.{Bool, true, false, cond, _||_}
+use mathlib.Core.Path.{_≡_, refl, sym, ap, subst, _∙_}
+use mathlib.Core.Bool.{true}
 use mathlib.Core.List.{List}
-use Prim.Native.Nat.{ℕ, zero, suc, _+_, _*_, _≤_}
+use Prim.Native.Nat.{ℕ, zero, suc, _+_, _≤_}
 use native.Mathlib.Omega.{arith}
-use lib.Ieee.{Float, Format, prec, le, eq}
+use lib.Ieee.{Float, Format, prec, eq}
 use Rattle.units.specs.Whole.{Whole, nat}
 use Rattle.units.specs.Faithful.{Faithful}
 use Rattle.units.specs.FaithfulLaws.{faithful-same, zero-faithful}
 use Rattle.ieee.specs.Units.{Number, whole}
 use Rattle.lists.specs.Apart.{apart}
-use Rattle.kinds.specs.Limits.{Width, exponentOf, blocksOf}
+use Rattle.kinds.specs.Limits.{Width, blocksOf}
 use Rattle.kinds.specs.Outcome.{outcome}
-use Rattle.kinds.specs.States.{stateOf}
 use Rattle.kinds.specs.declared.State.{State}
 use Rattle.kinds.specs.declared.Step.{Step}
 use Rattle.kinds.specs.declared.Step.the-variants.{More, Done, Refused}
-use Rattle.extract.specs.Extract.{plusZero, absolute, remainders, gathered}
+use Rattle.extract.specs.Extract.{plusZero, largest}
 use Rattle.extract.specs.LargestLaws.{zero-positive}
-use Rattle.rounds.specs.Round.{allZero, sigmaOf, leastNormal, scaled, finished, roundOf, fresh, closed}
+use Rattle.rounds.specs.Round.{allTaken, allLeft, allZero, closedBy, closed}
 use Rattle.rounds.specs.Fitting.{Fitting}
-use Rattle.rounds.specs.Closes.{carried}
+use Rattle.rounds.specs.ClosedLaws.{tau1Of, fresh-each, closed-each}
 use Rattle.rounds.specs.Begun.{begun-rounds}
 use Rattle.walk.specs.Walk.{Walked, roundsFrom}
-use Rattle.walk.specs.Run.{Running, allTaken, allLeft, all-taken, run-ends, run-goes, run-accepted, run-counted}
+use Rattle.walk.specs.Run.{Running, run-ends, run-goes, run-accepted, run-counted}
 use Rattle.runs.specs.CloseUnits.{zero-whole}
 use Rattle.runs.specs.Summing.{Summing, finished-units, sums-nothing, sums-restart, sums-finish, sums-further}
 
 -- ---- how a round over numbers that sum to S closes
-pub data Closed (W : Width) (F : Fitting W) (S : Whole) (n rounds : ℕ) (ys : List Float) : Step → Type 0 where
-  ends : (x : Float) → Number (W .format) x → Faithful (prec (W .format)) (whole (W .format) x) S → Closed W F S n rounds ys (Done x (rounds + 1))
-  goes : (e : ℕ) (sigma t : Float) → Summing W F S e n sigma t (rounds + 1) ys → Closed W F S n rounds ys (More (roundOf W n sigma t (rounds + 1)))
+pub data SumNext (W : Width) (F : Fitting W) (S : Whole) (s : State) (ys : List Float) : Step → Type 0 where
+  ends : (x : Float) → Number (W .format) x → Faithful (prec (W .format)) (whole (W .format) x) S → SumNext W F S s ys (Done x (s .rounds + 1))
+  goes : (e : ℕ) (s' : State) → s' .n ≡ s .n → s' .rounds ≡ s .rounds + 1 → Summing W F S e s' ys → SumNext W F S s ys (More s')
 
-module _ {W : Width} {F : Fitting W} {S : Whole} {e n : ℕ} {sigma t : Float} {rounds : ℕ} {xs : List Float} (A : Summing W F S e n sigma t rounds xs) where
-  pub sums-close : Closed W F S n rounds (remainders (W .format) sigma xs)
-      (closed W (stateOf n sigma t (gathered (W .format) sigma (plusZero (W .format)) xs) 0 rounds) (remainders (W .format) sigma xs))
-  unfolding closed fresh
+module _ {W : Width} {F : Fitting W} {S : Whole} {e : ℕ} {s : State} {xs : List Float} (A : Summing W F S e s xs) where
+  pub sums-close : SumNext W F S s (allLeft W s xs) (closedBy W (largest (W .format) (allLeft W s xs)) (allTaken W s xs) (allLeft W s xs))
   sums-close =
-      go (eq next (plusZero f)) refl (allZero f ys) refl (le sigma (leastNormal f)) refl (le (scaled f (2 * exponentOf n + 1) sigma) (absolute f next)) refl
+      let P = SumNext W F S s (allLeft W s xs) in
+      closed-each P W (largest (W .format) (allLeft W s xs)) (allTaken W s xs) (allLeft W s xs)
+      (λ z. fresh-each P W _ (s .n) _ _ (λ a. ends _ (zero-positive f .number) (nothing z a))
+      (λ a. goes _ _ refl refl (sums-restart A z a)))
+      (λ z r. ends _ (finished-units A .0) (sums-finish A r)) (λ z r. goes _ _ refl refl (sums-further A r))
     where
       f : Format
       f = W .format
 
-      ys : List Float
-      ys = remainders f sigma xs
-
-      next : Float
-      next = carried W sigma t xs
-
-      nothing : eq next (plusZero f) ≡ true → allZero f ys ≡ true → Faithful (prec f) (whole f (plusZero f)) S
+      nothing : eq (tau1Of W (allTaken W s xs)) (plusZero f) ≡ true → allZero f (allLeft W s xs) ≡ true → Faithful (prec f) (whole f (plusZero f)) S
       nothing z a = rw (zero-whole f) (faithful-same (nat 0) S (sym (sums-nothing A z a)) (zero-faithful (prec f)))
 
-      go : (z : Bool) → eq next (plusZero f) ≡ z → (a : Bool) → allZero f ys ≡ a → (u : Bool) → le sigma (leastNormal f) ≡ u
-          → (v : Bool) → le (scaled f (2 * exponentOf n + 1) sigma) (absolute f next) ≡ v
-          → Closed W F S n rounds ys
-          (cond z
-          (cond a (Done (plusZero f) (rounds + 1)) (More (roundOf W n (sigmaOf f n ys) (plusZero f) (rounds + 1))))
-          (cond (u || v)
-          (Done (finished f next t (gathered f sigma (plusZero f) xs) ys) (rounds + 1))
-          (More (roundOf W n (scaled f (exponentOf n) sigma) next (rounds + 1)))))
-      go true z true a u h v i = ends (plusZero f) (zero-positive f .number) (nothing z a)
-      go true z false a u h v i = goes _ _ _ (sums-restart A z a)
-      go false z b a true h v i = ends _ (finished-units A .0) (sums-finish A (rw h))
-      go false z b a false h true i = ends _ (finished-units A .0) (sums-finish A (rw (h, i)))
-      go false z b a false h false i = goes _ _ _ (sums-further A h i)
-
--- ---- a state that opens a round of a run over numbers that sum to S
+-- ---- a state that opens a round of a run over n numbers that sum to S
 pub record SumRunning (W : Width) (F : Fitting W) (S : Whole) (n : ℕ) (s : State) (xs : List Float) : Type 0 where
   pub e : ℕ
-  pub state : s ≡ roundOf W n (s .sigma) (s .t) (s .rounds)
-  pub summing : Summing W F S e n (s .sigma) (s .t) (s .rounds) xs
+  pub count : s .n ≡ n
+  pub summing : Summing W F S e s xs
 
 -- a walk that ended with a faithful rounding of S
 pub record Faithfully (W : Width) (S : Whole) (w : Walked) : Type 0 where
@@ -82,33 +63,28 @@ pub record Faithfully (W : Width) (S : Whole) (w : Walked) : Type 0 where
 
 module _ {W : Width} {F : Fitting W} {S : Whole} {n : ℕ} where
   pub sum-running : {s : State} {xs : List Float} → SumRunning W F S n s xs → Running W F n s xs
-  sum-running A = record { e = A .e; state = A .state; begun = A .summing .begun }
+  sum-running A = record { e = A .e; count = A .count; begun = A .summing .begun }
 
   module _ {s : State} {xs : List Float} (A : SumRunning W F S n s xs) where
-    follows : Closed W F S n (s .rounds) (allLeft W s xs) (closed W (allTaken W s xs) (allLeft W s xs))
-    follows = rw (all-taken (sum-running A)) at (sums-close (A .summing))
-
     sum-goes : (s' : State) → closed W (allTaken W s xs) (allLeft W s xs) ≡ More s' → SumRunning W F S n s' (allLeft W s xs) × (s' .rounds ≡ s .rounds + 1)
-    unfolding roundOf
-    sum-goes s' h = go follows h
+    sum-goes s' h = go (sums-close (A .summing)) h
       where
-        go : {q : Step} → Closed W F S n (s .rounds) (allLeft W s xs) q → q ≡ More s'
+        go : {q : Step} → SumNext W F S s (allLeft W s xs) q → q ≡ More s'
             → SumRunning W F S n s' (allLeft W s xs) × (s' .rounds ≡ s .rounds + 1)
         go (ends x N G) h = apart (cc)
-        go (goes e sigma t B) h =
-            let z : roundOf W n sigma t (s .rounds + 1) ≡ s' = cc in
-            let q : State = roundOf W n sigma t (s .rounds + 1) in
-            let r : SumRunning W F S n q (allLeft W s xs) = record { e = e; state = refl; summing = B } in
-            subst (λ (q : State). SumRunning W F S n q (allLeft W s xs) × (q .rounds ≡ s .rounds + 1)) z (r, refl)
+        go (goes e next same more B) h =
+            let z : next ≡ s' = cc in
+            let r : SumRunning W F S n next (allLeft W s xs) = record { e = e; count = same ∙ A .count; summing = B } in
+            subst (λ (q : State). SumRunning W F S n q (allLeft W s xs) × (q .rounds ≡ s .rounds + 1)) z (r, more)
 
     sum-ends : (k : ℕ) (x : Float) (r : ℕ) → closed W (allTaken W s xs) (allLeft W s xs) ≡ Done x r
         → Faithfully W S (roundsFrom W (blocksOf W n) (suc k) (outcome (More s) xs))
-    sum-ends k x r h = go follows h
+    sum-ends k x r h = go (sums-close (A .summing)) h
       where
         R : Running W F n s xs
         R = sum-running A
 
-        go : {q : Step} → Closed W F S n (s .rounds) (allLeft W s xs) q → q ≡ Done x r
+        go : {q : Step} → SumNext W F S s (allLeft W s xs) q → q ≡ Done x r
             → Faithfully W S (roundsFrom W (blocksOf W n) (suc k) (outcome (More s) xs))
         go (ends y N G) e =
             let v : y ≡ x = cc in
@@ -120,7 +96,7 @@ module _ {W : Width} {F : Fitting W} {S : Whole} {n : ℕ} where
               number = rw v at N;
               faithful = rw v at G;
             }
-        go (goes e sigma t B) h = apart (cc)
+        go (goes e next same more B) h = apart (cc)
 
     closing : (k : ℕ) → ((s' : State) → closed W (allTaken W s xs) (allLeft W s xs) ≡ More s'
         → Faithfully W S (roundsFrom W (blocksOf W n) k (outcome (More s') (allLeft W s xs))))

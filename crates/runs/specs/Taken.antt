@@ -5,6 +5,7 @@ use Prim.Native.Nat.{ℕ, suc, _/_}
 use lib.Ieee.{Float, Format}
 use Rattle.lists.specs.Bitset.{has}
 use Rattle.kinds.specs.Limits.{Width}
+use Rattle.kinds.specs.declared.State.{State}
 use Rattle.extract.specs.Extract.{remainderOf}
 
 -- whether the place i is in a pending block
@@ -20,3 +21,7 @@ mixed f sigma pend i (x ∷ xs) = cond (pend i) x (remainderOf f sigma x) ∷ mi
 unfoldable pub takenOf : (ℕ → Bool) → ℕ → List Float → List Float
 takenOf pend i [] = []
 takenOf pend i (x ∷ xs) = cond (pend i) (takenOf pend (suc i) xs) (x ∷ takenOf pend (suc i) xs)
+
+-- the work area of a round that s opened over xs, with the blocks of the set P pending
+abbrev pub midArea : Width → State → ℕ → List Float → List Float
+midArea W s P xs = mixed (W .format) (s .sigma) (pendingAt W P) 0 xs

@@ -11,14 +11,14 @@ use Rattle.extract.specs.Extract.{remainderOf, remainders}
 use Rattle.runs.specs.Taken.{mixed, takenOf}
 
 -- of the places from i on, k of them
-abbrev pub Over : (ℕ → Type 0) → ℕ → ℕ → Type 0
-Over A i k = (j : ℕ) → i ≤ j → j < i + k → A j
+abbrev pub Throughout : (ℕ → Type 0) → ℕ → ℕ → Type 0
+Throughout A i k = (j : ℕ) → i ≤ j → j < i + k → A j
 
-module _ {A : ℕ → Type 0} (i k : ℕ) (h : Over A i (suc k)) where
+module _ {A : ℕ → Type 0} (i k : ℕ) (h : Throughout A i (suc k)) where
   here : A i
   here = h i (omega arith) (omega arith)
 
-  beyond : Over A (suc i) k
+  beyond : Throughout A (suc i) k
   beyond j l m = h j (omega arith) (omega arith)
 
 -- ---- a joined list
@@ -68,30 +68,30 @@ module _ (pend : ℕ → Bool) where
         go false = r x (h .0)
 
   -- ---- all places pending, and none
-  pub taken-nothing : (i : ℕ) (xs : List Float) → Over (λ j. pend j ≡ true) i (length xs) → takenOf pend i xs ≡ []
+  pub taken-nothing : (i : ℕ) (xs : List Float) → Throughout (λ j. pend j ≡ true) i (length xs) → takenOf pend i xs ≡ []
   unfolding takenOf
   taken-nothing i [] h = refl
   taken-nothing i (x ∷ xs) h = rw (here i (length xs) h) (taken-nothing (suc i) xs (beyond i (length xs) h))
 
-  pub taken-all : (i : ℕ) (xs : List Float) → Over (λ j. pend j ≡ false) i (length xs) → takenOf pend i xs ≡ xs
+  pub taken-all : (i : ℕ) (xs : List Float) → Throughout (λ j. pend j ≡ false) i (length xs) → takenOf pend i xs ≡ xs
   unfolding takenOf
   taken-all i [] h = refl
   taken-all i (x ∷ xs) h = rw (here i (length xs) h) (ap (λ (l : List Float). x ∷ l) (taken-all (suc i) xs (beyond i (length xs) h)))
 
   module _ (f : Format) (sigma : Float) where
-    pub mixed-nothing : (i : ℕ) (xs : List Float) → Over (λ j. pend j ≡ true) i (length xs) → mixed f sigma pend i xs ≡ xs
+    pub mixed-nothing : (i : ℕ) (xs : List Float) → Throughout (λ j. pend j ≡ true) i (length xs) → mixed f sigma pend i xs ≡ xs
     unfolding mixed
     mixed-nothing i [] h = refl
     mixed-nothing i (x ∷ xs) h = rw (here i (length xs) h) (ap (λ (l : List Float). x ∷ l) (mixed-nothing (suc i) xs (beyond i (length xs) h)))
 
-    pub mixed-all : (i : ℕ) (xs : List Float) → Over (λ j. pend j ≡ false) i (length xs) → mixed f sigma pend i xs ≡ remainders f sigma xs
+    pub mixed-all : (i : ℕ) (xs : List Float) → Throughout (λ j. pend j ≡ false) i (length xs) → mixed f sigma pend i xs ≡ remainders f sigma xs
     unfolding mixed remainders
     mixed-all i [] h = refl
     mixed-all i (x ∷ xs) h = rw (here i (length xs) h) (ap (λ (l : List Float). remainderOf f sigma x ∷ l) (mixed-all (suc i) xs (beyond i (length xs) h)))
 
 -- ---- two sets that agree
 module _ (pend pend' : ℕ → Bool) where
-  pub taken-agree : (i : ℕ) (xs : List Float) → Over (λ j. pend j ≡ pend' j) i (length xs) → takenOf pend i xs ≡ takenOf pend' i xs
+  pub taken-agree : (i : ℕ) (xs : List Float) → Throughout (λ j. pend j ≡ pend' j) i (length xs) → takenOf pend i xs ≡ takenOf pend' i xs
   unfolding takenOf
   taken-agree i [] h = refl
   taken-agree i (x ∷ xs) h =
@@ -99,7 +99,7 @@ module _ (pend pend' : ℕ → Bool) where
       let r = taken-agree (suc i) xs (beyond i (length xs) h) in
       λ k. cond (e k) (r k) (x ∷ r k)
 
-  pub mixed-agree : (f : Format) (sigma : Float) (i : ℕ) (xs : List Float) → Over (λ j. pend j ≡ pend' j) i (length xs)
+  pub mixed-agree : (f : Format) (sigma : Float) (i : ℕ) (xs : List Float) → Throughout (λ j. pend j ≡ pend' j) i (length xs)
       → mixed f sigma pend i xs ≡ mixed f sigma pend' i xs
   unfolding mixed
   mixed-agree f sigma i [] h = refl

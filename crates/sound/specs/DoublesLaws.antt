@@ -15,7 +15,7 @@ use Rattle.ieee.specs.Instances.{top-64}
 use Rattle.exponent.specs.Power.{powers}
 use Rattle.kinds.specs.Limits.{doubles, exponentOf}
 use Rattle.kinds.specs.LimitsLaws.{exponent-most}
-use Rattle.sound.specs.Sound.{unitsAt}
+use Rattle.judge.specs.Table.{sizeOf}
 
 -- a pattern below the infinity's is no NaN's, and stands for a number that isn't negative
 pub record Limit (f : Format) (p : ℕ) : Type 0 where
@@ -33,13 +33,13 @@ limit-at f p h =
     }
 
 -- ---- at binary64
-pub magnitude-units : unitsAt doubles (doubles .magnitude) ≡ 2 ^ 2074
+pub magnitude-units : sizeOf doubles (doubles .magnitude) ≡ 2 ^ 2074
 magnitude-units =
     is-units binary64 (ofBits binary64 (doubles .magnitude)) false (patternUnits binary64 (doubles .magnitude))
     (pattern-positive binary64 (doubles .magnitude) (lit< tt)) .1
     ∙ top-64
 
-pub magnitude-exponent : ceil (unitsAt doubles (doubles .magnitude)) ≡ 2074
+pub magnitude-exponent : ceil (sizeOf doubles (doubles .magnitude)) ≡ 2074
 magnitude-exponent = ap ceil magnitude-units ∙ ceil-power 2074
 
 -- the largest sigma is a float

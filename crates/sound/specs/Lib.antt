@@ -1,5 +1,6 @@
 -- Sound states, and the gate of a block step.
 pub mod Sound
+pub mod Numbers
 pub mod Places
 pub mod WithinLaws
 pub mod SigmaLaws
@@ -7,4 +8,4 @@ pub mod DoublesLaws
 pub mod PlacesLaws
 pub mod SoundLaws
 pub mod GateLaws
-pub mod PassedLaws
+pub mod AdmittedLaws

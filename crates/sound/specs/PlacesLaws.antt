@@ -23,29 +23,29 @@ use Rattle.kinds.specs.declared.State.{State}
 use Rattle.sound.specs.Sound.{atMost, badPlace}
 use Rattle.sound.specs.Places.{firstAbove}
 
--- ---- the places before i are passed
-pub record Passing (W : Width) (most : ℕ) (xs : List Float) (i : ℕ) : Type 0 where
+-- ---- no place before i is above the limit
+pub record NoneBefore (W : Width) (most : ℕ) (xs : List Float) (i : ℕ) : Type 0 where
   pub within : i ≤ length xs
   pub rest : firstAbove W most xs ≡ firstAbove W most (drop i xs) + i
 
 module _ {W : Width} {most : ℕ} {xs : List Float} where
-  pub passing-none : Passing W most xs 0
-  passing-none = record { within = omega arith; rest = omega arith }
+  pub before-none : NoneBefore W most xs 0
+  before-none = record { within = omega arith; rest = omega arith }
 
-  module _ {i : ℕ} (P : Passing W most xs i) (d : Float) (l : i < length xs) where
+  module _ {i : ℕ} (P : NoneBefore W most xs i) (d : Float) (l : i < length xs) where
     unrolled : firstAbove W most (drop i xs) ≡ cond (atMost W most (getD xs i d)) (firstAbove W most (drop (suc i) xs) + 1) 0
     unfolding firstAbove
     unrolled = rw (drop-cons xs i d l)
 
-    pub passing-next : atMost W most (getD xs i d) ≡ true → Passing W most xs (i + 1)
-    passing-next e = record { within = omega arith; rest = rw add-one (omega (arith, P .rest, rw e at unrolled)) }
+    pub before-next : atMost W most (getD xs i d) ≡ true → NoneBefore W most xs (i + 1)
+    before-next e = record { within = omega arith; rest = rw add-one (omega (arith, P .rest, rw e at unrolled)) }
 
-    pub passing-found : atMost W most (getD xs i d) ≡ false → i ≡ firstAbove W most xs
-    passing-found e = omega (arith, P .rest, rw e at unrolled)
+    pub before-found : atMost W most (getD xs i d) ≡ false → i ≡ firstAbove W most xs
+    before-found e = omega (arith, P .rest, rw e at unrolled)
 
-  pub passing-end : {i : ℕ} → Passing W most xs i → length xs ≤ i → i ≡ firstAbove W most xs
+  pub before-end : {i : ℕ} → NoneBefore W most xs i → length xs ≤ i → i ≡ firstAbove W most xs
   unfolding firstAbove
-  passing-end {i} P h =
+  before-end {i} P h =
       let e : firstAbove W most (drop i xs) ≡ 0 = rw (drop-of-length-le xs {i = i} h) in
       omega (arith, P .rest)
 

@@ -4,14 +4,14 @@ use mathlib.Core.Bool.{Bool, true, false, not, _&&_, and-true}
 use Prim.Native.Nat.{ℕ, _+_, _*_, _^_, _≤_, _<_}
 use native.Mathlib.Nat.{le-trans}
 use native.Mathlib.Omega.{arith}
-use borrow.Author.Tests.{eqb-true, leb-true, not-true, le-leb}
+use borrow.Author.Tests.{eq-eqb, eqb-true, leb-true, not-true, le-leb}
 use lib.Dec.{T, leb, eqb}
-use lib.Pow.{pow-add, pow-pos}
+use lib.Pow.{pow-add, pow-pos, pow-mono}
 use lib.Ieee.{Float, Format, le, eq, fits}
 use lib.Ieee.Bits.{is-true}
 use lib.Ieee.Scale.{finite}
 use Rattle.units.specs.Rounding.{ceil}
-use Rattle.units.specs.Ceiling.{ceil-ge, ceil-least}
+use Rattle.units.specs.Ceiling.{ceil-ge, ceil-least, ceil-power}
 use Rattle.units.specs.Powers.{pow-le-back}
 use Rattle.ieee.specs.Units.{Number, negative, magnitude}
 use Rattle.ieee.specs.Fractions.{eqb-same}
@@ -21,19 +21,21 @@ use Rattle.lists.specs.Apart.{apart}
 use Rattle.exponent.specs.Power.{powers, powerOf}
 use Rattle.exponent.specs.PowerLaws.{power-number, power-negative, power-magnitude, power-whole, power-same}
 use Rattle.kinds.specs.Limits.{Width, exponentOf}
-use Rattle.sound.specs.Sound.{unitsAt, soundSigma}
+use Rattle.judge.specs.Table.{sizeOf}
+use Rattle.sound.specs.Sound.{soundSigma}
+use Rattle.sound.specs.Numbers.{limitExponent, SigmaBetween}
 use Rattle.sound.specs.WithinLaws.{between, positive-whole}
 
-pub split : (a b : Bool) → (a && b) ≡ true → (a ≡ true) × (b ≡ true)
-split true b e = (refl, e)
-split false b e = apart (cc)
+pub both-true : (a b : Bool) → (a && b) ≡ true → (a ≡ true) × (b ≡ true)
+both-true true b e = (refl, e)
+both-true false b e = apart (cc)
 
 pub record Sigma (W : Width) (n : ℕ) (x : Float) : Type 0 where
   pub fini : T (finite x)
   pub positive : negative x ≡ false
   pub power : magnitude (W .format) x ≡ 2 ^ ceil (magnitude (W .format) x)
   pub least : 2 ^ exponentOf n ≤ magnitude (W .format) x
-  pub most : magnitude (W .format) x ≤ 2 ^ exponentOf n * unitsAt W (W .magnitude)
+  pub most : magnitude (W .format) x ≤ 2 ^ exponentOf n * sizeOf W (W .magnitude)
 
 pub sigma-holds : (W : Width) (n : ℕ) (x : Float) → soundSigma W n x ≡ true → Sigma W n x
 unfolding soundSigma
@@ -43,17 +45,17 @@ sigma-holds W n x h =
     let B = not (negative x) in
     let C = eqb m (2 ^ ceil m) in
     let D = leb (2 ^ exponentOf n) m in
-    let E = leb m (2 ^ exponentOf n * unitsAt W (W .magnitude)) in
-    let e = split (A && B && C && D) E h in
-    let d = split (A && B && C) D (e .0) in
-    let c = split (A && B) C (d .0) in
-    let b = split A B (c .0) in
+    let E = leb m (2 ^ exponentOf n * sizeOf W (W .magnitude)) in
+    let e = both-true (A && B && C && D) E h in
+    let d = both-true (A && B && C) D (e .0) in
+    let c = both-true (A && B) C (d .0) in
+    let b = both-true A B (c .0) in
     record {
       fini = rw (b .0) tt;
       positive = not-true (negative x) (b .1);
       power = eqb-true m (2 ^ ceil m) (c .1);
       least = leb-true (2 ^ exponentOf n) m (d .1);
-      most = leb-true m (2 ^ exponentOf n * unitsAt W (W .magnitude)) (e .1);
+      most = leb-true m (2 ^ exponentOf n * sizeOf W (W .magnitude)) (e .1);
     }
 
 exponents : {m : ℕ} (M top : ℕ) → 2 ^ M ≤ m → m ≤ 2 ^ (M + top) → (M ≤ ceil m) × (ceil m ≤ M + top)
@@ -89,9 +91,9 @@ module _ (f : Format) (M top : ℕ) (room : M + top < powers f) (x : Float) (fit
       let A = not (negative x) in
       let B = leb (2 ^ M) (magnitude f x) in
       let C = leb (magnitude f x) (2 ^ (M + top)) in
-      let a = split (finite x) (A && B && C) (sym range-is ∙ h) in
-      let b = split (A && B) C (a .1) in
-      let c = split A B (b .0) in
+      let a = both-true (finite x) (A && B && C) (sym range-is ∙ h) in
+      let b = both-true (A && B) C (a .1) in
+      let c = both-true A B (b .0) in
       record {
         number = record { fit = fit; fini = rw (a .0) tt };
         positive = not-true (negative x) (c .0);
@@ -127,14 +129,41 @@ module _ (f : Format) (M top : ℕ) (room : M + top < powers f) (x : Float) (fit
       l = omega (arith, inside-exponent I)
 
 -- ---- a sound sigma is in range and equals the power of two at its exponent. 2^top is the largest magnitude in units
-module _ (W : Width) (top : ℕ) (is : unitsAt W (W .magnitude) ≡ 2 ^ top) (n : ℕ) where
-  high : 2 ^ exponentOf n * unitsAt W (W .magnitude) ≡ 2 ^ (exponentOf n + top)
+module _ (W : Width) (top : ℕ) (is : sizeOf W (W .magnitude) ≡ 2 ^ top) (n : ℕ) where
+  high : 2 ^ exponentOf n * sizeOf W (W .magnitude) ≡ 2 ^ (exponentOf n + top)
   high = rw is (sym (pow-add 2 (exponentOf n) top))
 
   pub sigma-exponent : {x : Float} → Sigma W n x → (exponentOf n ≤ ceil (magnitude (W .format) x)) × (ceil (magnitude (W .format) x) ≤ exponentOf n + top)
   sigma-exponent S = exponents (exponentOf n) top (S .least) (rw high at (S .most))
 
-module _ (W : Width) (top : ℕ) (is : unitsAt W (W .magnitude) ≡ 2 ^ top) (n : ℕ) (room : exponentOf n + top < powers (W .format))
+  -- the test is the proposition
+  pub limit-is : limitExponent W ≡ top
+  limit-is = ap ceil is ∙ ceil-power top
+
+  pub sigma-between : (x : Float) → soundSigma W n x ≡ true → SigmaBetween W n x
+  sigma-between x h =
+      let S = sigma-holds W n x h in
+      let e = sigma-exponent S in
+      record { k = _; fini = S .fini; positive = S .positive; power = S .power; from = omega (arith, e .0); to = omega (arith, e .1, limit-is) }
+
+  pub sigma-true : (x : Float) → SigmaBetween W n x → soundSigma W n x ≡ true
+  unfolding soundSigma
+  sigma-true x P =
+      simp (
+        is-true (finite x) (P .fini),
+        P .positive,
+        P .power,
+        ceil-power (P .k),
+        eq-eqb (2 ^ P .k) _ refl,
+        le-leb (2 ^ exponentOf n) (2 ^ P .k) (pow-mono (omega (arith, P .from))),
+        is,
+        le-leb (2 ^ P .k) (2 ^ exponentOf n * 2 ^ top) most,
+      )
+    where
+      most : 2 ^ P .k ≤ 2 ^ exponentOf n * 2 ^ top
+      most = rw (← (pow-add 2 (exponentOf n) top)) (pow-mono (omega (arith, P .to, limit-is)))
+
+module _ (W : Width) (top : ℕ) (is : sizeOf W (W .magnitude) ≡ 2 ^ top) (n : ℕ) (room : exponentOf n + top < powers (W .format))
     (x : Float) (fit : T (fits (W .format) x)) where
   pub sigma-inside : soundSigma W n x ≡ true → Inside (W .format) (exponentOf n) top x
   sigma-inside h =
@@ -146,7 +175,7 @@ module _ (W : Width) (top : ℕ) (is : unitsAt W (W .magnitude) ≡ 2 ^ top) (n 
   sigma-in h =
       let I = range-inside (W .format) (exponentOf n) top room x fit h in
       let m = magnitude (W .format) x in
-      let most = 2 ^ exponentOf n * unitsAt W (W .magnitude) in
+      let most = 2 ^ exponentOf n * sizeOf W (W .magnitude) in
       all (finite x) (not (negative x)) (eqb m (2 ^ ceil m)) (leb (2 ^ exponentOf n) m) (leb m most)
       (is-true (finite x) (I .number .fini)) (ap not (I .positive)) (le-leb (2 ^ exponentOf n) m (I .least)) (le-leb m most (rw (high W top is n) (I .most)))
       ∙ sym (inside-power (W .format) (exponentOf n) top room x fit I)

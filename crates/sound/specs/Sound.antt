@@ -4,41 +4,38 @@ use mathlib.Core.List.{List, [], _∷_}
 use Prim.Native.Nat.{ℕ, _+_, _*_, _^_}
 use lib.Dec.{leb, ltb, eqb}
 use lib.ListN.{length}
-use lib.Ieee.{Float, ofBits}
+use lib.Ieee.{Float}
 use lib.Ieee.Scale.{finite}
 use Rattle.units.specs.Rounding.{ceil}
 use Rattle.ieee.specs.Units.{negative, magnitude}
 use Rattle.lists.specs.Bitset.{has}
+use Rattle.judge.specs.Table.{sizeOf}
 use Rattle.kinds.specs.Limits.{Width, exponentOf, blocksOf}
 use Rattle.kinds.specs.declared.State.{State}
 use Rattle.kinds.specs.declared.Verdict.{Verdict}
 use Rattle.kinds.specs.declared.Verdict.the-variants.{Good, Refused}
 
--- the magnitude of a pattern, in units
-abbrev pub unitsAt : Width → ℕ → ℕ
-unitsAt W p = magnitude (W .format) (ofBits (W .format) p)
-
--- "sigma is a power of two from 2^(M-1074) to 2^(1000+M)": in units from 2^M to 2^M times the limit
+-- rule WS6: in units from 2^M to 2^M times the limit
 unfoldable pub soundSigma : Width → ℕ → Float → Bool
 soundSigma W n sigma =
     let m = magnitude (W .format) sigma in
-    finite sigma && not (negative sigma) && eqb m (2 ^ ceil m) && leb (2 ^ exponentOf n) m && leb m (2 ^ exponentOf n * unitsAt W (W .magnitude))
+    finite sigma && not (negative sigma) && eqb m (2 ^ ceil m) && leb (2 ^ exponentOf n) m && leb m (2 ^ exponentOf n * sizeOf W (W .magnitude))
 
--- "finite, of magnitude at most" so many units
+-- finite, and not beyond so many units
 unfoldable pub atMost : Width → ℕ → Float → Bool
 atMost W most x = finite x && leb (magnitude (W .format) x) most
 
--- "n is 1 to 4,094; rounds closed 0 to 50; .. sigma ..; t and tau are finite, of magnitude at most 2^1012"
+-- rules WS3, WS4, WS6 and WS7
 unfoldable pub soundNumbers : Width → State → Bool
 soundNumbers W s =
     leb 1 (s .n) && leb (s .n) (W .length) && leb (s .rounds) (W .rounds) && soundSigma W (s .n) (s .sigma)
-    && atMost W (unitsAt W (W .carried)) (s .t) && atMost W (unitsAt W (W .carried)) (s .tau)
+    && atMost W (sizeOf W (W .carried)) (s .t) && atMost W (sizeOf W (W .carried)) (s .tau)
 
--- "the pending set is not empty and has no bit at or above B"
+-- rule WS5
 unfoldable pub soundPending : Width → State → Bool
 soundPending W s = ltb 0 (s .pending) && ltb (s .pending) (2 ^ blocksOf W (s .n))
 
--- "every work number is finite, of magnitude at most 2^-M sigma": 2^M times it is at most sigma
+-- rule WS8 for one place
 abbrev pub soundPlace : Width → State → Float → Bool
 soundPlace W s x = finite x && leb (2 ^ exponentOf (s .n) * magnitude (W .format) x) (magnitude (W .format) (s .sigma))
 
@@ -50,7 +47,7 @@ badPlace W s (x ∷ xs) = cond (soundPlace W s x) (badPlace W s xs + 1) 0
 unfoldable pub sound : Width → State → List Float → Bool
 sound W s xs = soundNumbers W s && soundPending W s && eqb (badPlace W s xs) (length xs)
 
--- ---- "On a block step: 4, 8, 6, 7."
+-- ---- rule O2
 unfoldable pub gated : Width → State → ℕ → List Float → Verdict
 gated W s b work =
     cond (not (eqb (length work) (s .n))) (Refused 4 0)

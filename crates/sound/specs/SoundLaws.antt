@@ -5,39 +5,33 @@ use mathlib.Core.List.{List}
 use Prim.Native.Nat.{ℕ, _-_, _^_, _≤_, _<_}
 use native.Mathlib.Omega.{arith}
 use borrow.Author.Tests.{leb-true, ltb-true, eqb-true, le-leb, lt-leb}
-use lib.Dec.{T, leb, ltb, eqb, leb→le, le→leb, ltb→lt, lt→ltb}
+use lib.Dec.{leb, ltb, eqb, leb→le, le→leb, ltb→lt, lt→ltb}
 use lib.ListN.{length}
 use lib.Pow.{pow-pos}
 use lib.Ieee.{Float}
+use lib.Ieee.Bits.{is-true}
 use lib.Ieee.Scale.{finite}
 use Rattle.ieee.specs.Units.{magnitude}
 use Rattle.ieee.specs.Fractions.{same-test}
 use Rattle.lists.specs.Bitset.{full}
 use Rattle.kinds.specs.Limits.{Width, blocksOf}
 use Rattle.kinds.specs.declared.State.{State}
-use Rattle.sound.specs.Sound.{unitsAt, soundSigma, atMost, soundNumbers, soundPending, badPlace, sound}
-use Rattle.sound.specs.SigmaLaws.{split}
+use Rattle.judge.specs.Table.{sizeOf}
+use Rattle.sound.specs.Sound.{soundSigma, atMost, soundNumbers, soundPending, badPlace, sound}
+use Rattle.sound.specs.Numbers.{FiniteWithin, Numbers}
+use Rattle.sound.specs.SigmaLaws.{both-true, sigma-between, sigma-true}
 
--- finite, of magnitude at most so many units
-pub record Within (W : Width) (most : ℕ) (x : Float) : Type 0 where
-  pub fini : T (finite x)
-  pub small : magnitude (W .format) x ≤ most
-
-pub at-most-holds : (W : Width) (most : ℕ) (x : Float) → atMost W most x ≡ true → Within W most x
+pub at-most-holds : (W : Width) (most : ℕ) (x : Float) → atMost W most x ≡ true → FiniteWithin (W .format) most x
 unfolding atMost
 at-most-holds W most x h =
-    let a = split (finite x) (leb (magnitude (W .format) x) most) h in
+    let a = both-true (finite x) (leb (magnitude (W .format) x) most) h in
     record { fini = rw (a .0) tt; small = leb-true (magnitude (W .format) x) most (a .1) }
 
--- ---- the numbers
-pub record Numbers (W : Width) (s : State) : Type 0 where
-  pub some : 1 ≤ s .n
-  pub few : s .n ≤ W .length
-  pub rounds : s .rounds ≤ W .rounds
-  pub sigma : soundSigma W (s .n) (s .sigma) ≡ true
-  pub t : Within W (unitsAt W (W .carried)) (s .t)
-  pub tau : Within W (unitsAt W (W .carried)) (s .tau)
+at-most-true : (W : Width) (most : ℕ) (x : Float) → FiniteWithin (W .format) most x → atMost W most x ≡ true
+unfolding atMost
+at-most-true W most x X = simp (is-true (finite x) (X .fini), le-leb _ _ (X .small))
 
+-- ---- the numbers
 module _ (W : Width) (s : State) where
   pub numbers-none : s .n < 1 → soundNumbers W s ≡ false
   unfolding soundNumbers
@@ -50,33 +44,10 @@ module _ (W : Width) (s : State) where
   pub numbers-are : 1 ≤ s .n → s .n ≤ W .length
       → soundNumbers W s
       ≡ (leb (s .rounds) (W .rounds) && soundSigma W (s .n) (s .sigma)
-      && atMost W (unitsAt W (W .carried)) (s .t)
-      && atMost W (unitsAt W (W .carried)) (s .tau))
+      && atMost W (sizeOf W (W .carried)) (s .t)
+      && atMost W (sizeOf W (W .carried)) (s .tau))
   unfolding soundNumbers
   numbers-are h k = rw (le-leb 1 (s .n) h, le-leb (s .n) (W .length) k)
-
-  pub numbers-hold : soundNumbers W s ≡ true → Numbers W s
-  unfolding soundNumbers
-  numbers-hold h =
-      let A = leb 1 (s .n) in
-      let B = leb (s .n) (W .length) in
-      let C = leb (s .rounds) (W .rounds) in
-      let D = soundSigma W (s .n) (s .sigma) in
-      let E = atMost W (unitsAt W (W .carried)) (s .t) in
-      let F = atMost W (unitsAt W (W .carried)) (s .tau) in
-      let f = split (A && B && C && D && E) F h in
-      let e = split (A && B && C && D) E (f .0) in
-      let d = split (A && B && C) D (e .0) in
-      let c = split (A && B) C (d .0) in
-      let b = split A B (c .0) in
-      record {
-        some = leb-true 1 (s .n) (b .0);
-        few = leb-true (s .n) (W .length) (b .1);
-        rounds = leb-true (s .rounds) (W .rounds) (c .1);
-        sigma = d .1;
-        t = at-most-holds W (unitsAt W (W .carried)) (s .t) (e .1);
-        tau = at-most-holds W (unitsAt W (W .carried)) (s .tau) (f .1);
-      }
 
   -- ---- the pending set
   pub pending-is : (ltb 0 (s .pending) && leb (s .pending) (full (blocksOf W (s .n)))) ≡ soundPending W s
@@ -91,7 +62,7 @@ module _ (W : Width) (s : State) where
   pub pending-holds : soundPending W s ≡ true → (0 < s .pending) × (s .pending < 2 ^ blocksOf W (s .n))
   unfolding soundPending
   pending-holds h =
-      let a = split (ltb 0 (s .pending)) (ltb (s .pending) (2 ^ blocksOf W (s .n))) h in
+      let a = both-true (ltb 0 (s .pending)) (ltb (s .pending) (2 ^ blocksOf W (s .n))) h in
       (ltb-true 0 (s .pending) (a .0), ltb-true (s .pending) (2 ^ blocksOf W (s .n)) (a .1))
 
   -- ---- all three
@@ -108,9 +79,48 @@ module _ (W : Width) (s : State) where
     unfolding sound
     sound-places h k = rw (h, k)
 
-    pub sound-holds : sound W s xs ≡ true → Numbers W s × (soundPending W s ≡ true) × (badPlace W s xs ≡ length xs)
-    unfolding sound
-    sound-holds h =
-        let b = split (soundNumbers W s && soundPending W s) (eqb (badPlace W s xs) (length xs)) h in
-        let a = split (soundNumbers W s) (soundPending W s) (b .0) in
-        (numbers-hold (a .0), a .1, eqb-true (badPlace W s xs) (length xs) (b .1))
+-- ---- the tests are what they say, where the largest magnitude is 2^top units
+module _ (W : Width) (top : ℕ) (is : sizeOf W (W .magnitude) ≡ 2 ^ top) (s : State) where
+  pub numbers-hold : soundNumbers W s ≡ true → Numbers W s
+  unfolding soundNumbers
+  numbers-hold h =
+      let A = leb 1 (s .n) in
+      let B = leb (s .n) (W .length) in
+      let C = leb (s .rounds) (W .rounds) in
+      let D = soundSigma W (s .n) (s .sigma) in
+      let E = atMost W (sizeOf W (W .carried)) (s .t) in
+      let F = atMost W (sizeOf W (W .carried)) (s .tau) in
+      let f = both-true (A && B && C && D && E) F h in
+      let e = both-true (A && B && C && D) E (f .0) in
+      let d = both-true (A && B && C) D (e .0) in
+      let c = both-true (A && B) C (d .0) in
+      let b = both-true A B (c .0) in
+      record {
+        counts = record {
+          some = leb-true 1 (s .n) (b .0);
+          few = omega (arith, leb-true (s .n) (W .length) (b .1));
+          rounds = omega (arith, leb-true (s .rounds) (W .rounds) (c .1));
+        };
+        sigma = sigma-between W top is (s .n) (s .sigma) (d .1);
+        t = at-most-holds W (sizeOf W (W .carried)) (s .t) (e .1);
+        tau = at-most-holds W (sizeOf W (W .carried)) (s .tau) (f .1);
+      }
+
+  pub numbers-true : Numbers W s → soundNumbers W s ≡ true
+  unfolding soundNumbers
+  numbers-true N =
+      simp (
+        le-leb 1 (s .n) (N .counts .some),
+        le-leb (s .n) (W .length) (omega (arith, N .counts .few)),
+        le-leb (s .rounds) (W .rounds) (omega (arith, N .counts .rounds)),
+        sigma-true W top is (s .n) (s .sigma) (N .sigma),
+        at-most-true W (sizeOf W (W .carried)) (s .t) (N .t),
+        at-most-true W (sizeOf W (W .carried)) (s .tau) (N .tau),
+      )
+
+  pub sound-holds : (xs : List Float) → sound W s xs ≡ true → Numbers W s × (soundPending W s ≡ true) × (badPlace W s xs ≡ length xs)
+  unfolding sound
+  sound-holds xs h =
+      let b = both-true (soundNumbers W s && soundPending W s) (eqb (badPlace W s xs) (length xs)) h in
+      let a = both-true (soundNumbers W s) (soundPending W s) (b .0) in
+      (numbers-hold (a .0), a .1, eqb-true (badPlace W s xs) (length xs) (b .1))

@@ -27,7 +27,7 @@ pub fn is_sound(s: State, work: &[f64]) -> bool
     bad_place(work, limit(s)) == work.len()
 }
 
-// "On a block step: 4, 8, 6, 7." The block number is compared with B before any shift.
+// Rule O2. The block number is compared with B before any shift.
 pub fn gate(s: State, work: &[f64], block: usize) -> Verdict
     ensures { λ r. ⌜ r ≡ gated doubles s block (now (work .entry)) ⌝ }
 {

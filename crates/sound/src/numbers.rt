@@ -10,7 +10,8 @@ ghost use lib.Ieee.Scale.{finite};
 ghost use Rattle.units.specs.Rounding.{ceil};
 ghost use Rattle.ieee.specs.Units.{magnitude, negative};
 ghost use Rattle.kinds.specs.Limits.{doubles};
-ghost use Rattle.sound.specs.Sound.{unitsAt, soundSigma, atMost, soundNumbers, soundPending};
+ghost use Rattle.judge.specs.Table.{sizeOf};
+ghost use Rattle.sound.specs.Sound.{soundSigma, atMost, soundNumbers, soundPending};
 
 // Whether x is finite and no larger than the limit. A NaN passes no comparison, so it fails this one.
 pub fn at_most(x: f64, limit: f64) -> bool
@@ -22,13 +23,12 @@ pub fn at_most(x: f64, limit: f64) -> bool
 
 // The exponent of the largest magnitude of a list, 2^1000, counted in units.
 fn top() -> u32
-    ensures { λ r. ⌜ r ≡ ceil (unitsAt doubles (doubles .magnitude)) ⌝ }
+    ensures { λ r. ⌜ r ≡ ceil (sizeOf doubles (doubles .magnitude)) ⌝ }
 {
     exponent::ceiling(f64::from_bits(Doubles::MAGNITUDE))
 }
 
-// "sigma is a power of two from 2^(M-1074) to 2^(1000+M)": what lies between the two is a number, and its exponent is that of a float. M is
-// asked of lists that aren't too long.
+// Rule WS6: what lies between the two bounds is a number, and its exponent is that of a float. M is asked of lists that aren't too long.
 pub fn sigma(sigma: f64, n: usize) -> bool
     requires { ⌜ n ≤ doubles .length ⌝ }
     ensures { λ r. ⌜ r ≡ soundSigma doubles n sigma ⌝ }
@@ -40,7 +40,7 @@ pub fn sigma(sigma: f64, n: usize) -> bool
     false
 }
 
-// "n is 1 to 4,094; rounds closed 0 to 50; .. sigma ..; t and tau are finite, of magnitude at most 2^1012"
+// Rules WS3, WS4, WS6 and WS7.
 pub fn numbers(s: State) -> bool
     ensures { λ r. ⌜ r ≡ soundNumbers doubles s ⌝ }
 {
@@ -57,7 +57,7 @@ pub fn numbers(s: State) -> bool
         & at_most(s.tau, limit)
 }
 
-// "the pending set is not empty and has no bit at or above B". Asked of an n that `numbers` has tested: then B is 1 to 64.
+// Rule WS5. Asked of an n that `numbers` has tested: then B is 1 to 64.
 pub fn pending(s: State) -> bool
     requires { ⌜ (1 ≤ s .n) × (s .n ≤ doubles .length) ⌝ }
     ensures { λ r. ⌜ r ≡ soundPending doubles s ⌝ }

@@ -4,7 +4,7 @@ pub mod StepLaws
 pub mod Stepping
 pub mod OpeningLaws
 pub mod Opening
-pub mod Accepted
+pub mod Admitted
 pub mod Rising
 pub mod Run
 pub mod Undivided

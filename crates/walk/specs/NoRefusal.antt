@@ -4,7 +4,7 @@ use mathlib.Core.Bool.{Bool, true, false, cond}
 use mathlib.Core.List.{List}
 use Prim.Native.Nat.{ℕ, _+_}
 use lib.Dec.{eqb}
-use lib.Ieee.{Float, eq}
+use lib.Ieee.{Float}
 use Rattle.kinds.specs.Limits.{Width}
 use Rattle.kinds.specs.declared.State.{State}
 use Rattle.kinds.specs.declared.Step.{Step}
@@ -12,8 +12,8 @@ use Rattle.kinds.specs.declared.Step.the-variants.{More, Done, Refused}
 use Rattle.kinds.specs.declared.Verdict.{Verdict}
 use Rattle.kinds.specs.declared.Verdict.the-variants as verdicts
 use Rattle.extract.specs.Extract.{plusZero}
-use Rattle.rounds.specs.Round.{turned, takenState, allZero, fresh, closed}
-use Rattle.rounds.specs.ClosedLaws.{tau1Of, finishes}
+use Rattle.rounds.specs.Round.{turned, takenState, fresh, closedBy}
+use Rattle.rounds.specs.ClosedLaws.{fresh-each, closed-each}
 use Rattle.walk.specs.Walk.{taken}
 
 -- the verdict that an answer comes from
@@ -22,28 +22,25 @@ verdictOf (More s) = verdicts.Good
 verdictOf (Done x r) = verdicts.Good
 verdictOf (Refused k i) = verdicts.Refused k i
 
-pub record Accepted (a : Step) : Type 0 where
+pub record Unrefused (a : Step) : Type 0 where
   pub good : verdictOf a ≡ verdicts.Good
 
-done : {x : Float} {r : ℕ} → Accepted (Done x r)
+done : {x : Float} {r : ℕ} → Unrefused (Done x r)
 done = record { good = refl }
 
-more : {s : State} → Accepted (More s)
+more : {s : State} → Unrefused (More s)
 more = record { good = refl }
 
-either : (t : Bool) {a b : Step} → Accepted a → Accepted b → Accepted (cond t a b)
+either : (t : Bool) {a b : Step} → Unrefused a → Unrefused b → Unrefused (cond t a b)
 either true A B = A
 either false A B = B
 
-pub fresh-accepted : (W : Width) (zero : Float) (n : ℕ) (xs : List Float) (rounds : ℕ) → Accepted (fresh W zero n xs rounds)
-unfolding fresh
-fresh-accepted W zero n xs rounds = either (allZero (W .format) xs) done more
+pub fresh-accepted : (W : Width) (zero : Float) (n mu rounds : ℕ) → Unrefused (fresh W zero n mu rounds)
+fresh-accepted W zero n mu rounds = fresh-each Unrefused W zero n mu rounds (λ a. done) (λ a. more)
 
-closed-accepted : (W : Width) (s : State) (xs : List Float) → Accepted (closed W s xs)
-unfolding closed
-closed-accepted W s xs =
-    either (eq (tau1Of W s) (plusZero (W .format))) (fresh-accepted W (plusZero (W .format)) (s .n) xs (s .rounds + 1)) (either (finishes W s) done more)
+closed-accepted : (W : Width) (mu : ℕ) (s : State) (xs : List Float) → Unrefused (closedBy W mu s xs)
+closed-accepted W mu s xs = closed-each Unrefused W mu s xs (λ z. fresh-accepted W (plusZero (W .format)) (s .n) mu (s .rounds + 1)) (λ z r. done) (λ z r. more)
 
-pub taken-accepted : (W : Width) (s : State) (b : ℕ) (work : List Float) → Accepted (taken W s b work .answer)
+pub taken-accepted : (W : Width) (s : State) (b : ℕ) (work : List Float) → Unrefused (taken W s b work .answer)
 unfolding taken
-taken-accepted W s b work = either (eqb (takenState W s b work .pending) 0) (closed-accepted W (takenState W s b work) (turned W (s .sigma) b work)) more
+taken-accepted W s b work = either (eqb (takenState W s b work .pending) 0) (closed-accepted W _ (takenState W s b work) (turned W (s .sigma) b work)) more

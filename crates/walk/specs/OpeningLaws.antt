@@ -13,6 +13,7 @@ use Rattle.kinds.specs.declared.Step.the-variants.{Refused}
 use Rattle.kinds.specs.declared.Verdict.{Verdict}
 use Rattle.kinds.specs.declared.Verdict.the-variants as verdicts
 use Rattle.judge.specs.Judge.{floats, zeroSign}
+use Rattle.extract.specs.Extract.{largest}
 use Rattle.rounds.specs.Round.{fresh}
 use Rattle.walk.specs.Walk.{openedAfter}
 
@@ -22,6 +23,6 @@ unfolding openedAfter
 opened-refused W v k p ps work e = rw e
 
 pub opened-good : (W : Width) (ps : List ℕ) (work xs : List Float) (zero : Float) (q : Step) → zero ≡ nearestFloat (W .format) (zeroSign ps) (pos 0)
-    → xs ≡ floats W ps → q ≡ fresh W zero (length ps) xs 0 → outcome q xs ≡ openedAfter W verdicts.Good ps work
+    → xs ≡ floats W ps → q ≡ fresh W zero (length ps) (largest (W .format) xs) 0 → outcome q xs ≡ openedAfter W verdicts.Good ps work
 unfolding openedAfter
 opened-good W ps work xs zero q z x e = rw (e, z, x)

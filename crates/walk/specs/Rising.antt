@@ -12,30 +12,29 @@ use lib.Ieee.{Float}
 use Rattle.lists.specs.BitsetLaws.{has-from}
 use Rattle.kinds.specs.Limits.{Width, blocksOf}
 use Rattle.kinds.specs.Outcome.{outcome}
-use Rattle.kinds.specs.States.{stateOf}
+use Rattle.kinds.specs.declared.State.{State}
 use Rattle.kinds.specs.declared.Step.the-variants.{More}
 use Rattle.kinds.specs.declared.Verdict.{Verdict}
 use Rattle.kinds.specs.declared.Verdict.the-variants.{Good}
-use Rattle.extract.specs.Extract.{plusZero, remainders, gathered}
 use Rattle.sound.specs.Sound.{gated}
-use Rattle.rounds.specs.Round.{roundOf, closed}
+use Rattle.rounds.specs.Round.{allTaken, allLeft, closed}
 use Rattle.rounds.specs.Fitting.{Fitting}
 use Rattle.rounds.specs.Begun.{Begun}
 use Rattle.rounds.specs.Blocks.{tauAt, stateAt, workAt, next-state, next-work, first-state, first-work, covers, last-state, last-work}
 use Rattle.walk.specs.Walk.{Walked, taken, stepped, steppedAfter, onward, rising}
 use Rattle.walk.specs.Stepping.{stepping, stepping-accepted}
 
-module _ {W : Width} {F : Fitting W} {e n : ℕ} {sigma t : Float} {rounds : ℕ} {xs : List Float} (B : Begun W F e n sigma t rounds xs) where
+module _ {W : Width} {F : Fitting W} {e : ℕ} {s : State} {xs : List Float} (B : Begun W F e s xs) where
   -- ---- one block
-  accepted : (j : ℕ) → j < blocksOf W n → gated W (stateAt B j) j (workAt B j) ≡ Good
+  accepted : (j : ℕ) → j < blocksOf W (s .n) → gated W (stateAt B j) j (workAt B j) ≡ Good
   unfolding stateAt tauAt workAt
   accepted j h =
       stepping-accepted
-      (stepping B (W .block * j) (2 ^ blocksOf W n - 2 ^ j)
-      (omega (arith, pow-lt {i = j} {j = blocksOf W n} h)) (omega (arith, pow-pos j, pow-pos (blocksOf W n))))
+      (stepping B (W .block * j) (2 ^ blocksOf W (s .n) - 2 ^ j)
+      (omega (arith, pow-lt {i = j} {j = blocksOf W (s .n)} h)) (omega (arith, pow-pos j, pow-pos (blocksOf W (s .n)))))
       j h (has-from h)
 
-  takes : (j : ℕ) → j < blocksOf W n → stepped W (stateAt B j) j (workAt B j)
+  takes : (j : ℕ) → j < blocksOf W (s .n) → stepped W (stateAt B j) j (workAt B j)
       ≡ outcome (cond (eqb (stateAt B (suc j) .pending) 0) (closed W (stateAt B (suc j)) (workAt B (suc j))) (More (stateAt B (suc j)))) (workAt B (suc j))
   unfolding steppedAfter taken stateAt
   takes j h =
@@ -44,16 +43,17 @@ module _ {W : Width} {F : Fitting W} {e n : ℕ} {sigma t : Float} {rounds : ℕ
       ap (λ (v : Verdict). steppedAfter W v (stateAt B j) j (workAt B j)) (accepted j h)
       ∙ (λ i. outcome (cond (eqb (next i .pending) 0) (closed W (next i) (work i)) (More (next i))) (work i))
 
-  some-left : (j : ℕ) → suc j < blocksOf W n → eqb (stateAt B (suc j) .pending) 0 ≡ false
+  some-left : (j : ℕ) → suc j < blocksOf W (s .n) → eqb (stateAt B (suc j) .pending) 0 ≡ false
   unfolding stateAt
-  some-left j h = ne-eqb (2 ^ blocksOf W n - 2 ^ suc j) 0 (omega (arith, pow-lt {i = suc j} {j = blocksOf W n} h))
+  some-left j h = ne-eqb (2 ^ blocksOf W (s .n) - 2 ^ suc j) 0 (omega (arith, pow-lt {i = suc j} {j = blocksOf W (s .n)} h))
 
-  none-left : (m : ℕ) → blocksOf W n ≡ suc m → eqb (stateAt B (suc m) .pending) 0 ≡ true
+  none-left : (m : ℕ) → blocksOf W (s .n) ≡ suc m → eqb (stateAt B (suc m) .pending) 0 ≡ true
   unfolding stateAt
-  none-left m b = eq-eqb (2 ^ blocksOf W n - 2 ^ suc m) 0 (rw b (sub-self (2 ^ suc m)))
+  none-left m b = eq-eqb (2 ^ blocksOf W (s .n) - 2 ^ suc m) 0 (rw b (sub-self (2 ^ suc m)))
 
   -- ---- the blocks before the last, and the last
-  goes-on : (j : ℕ) → j < blocksOf W n → foldl (onward W) (outcome (More (stateAt B 0)) (workAt B 0)) (rising j) ≡ outcome (More (stateAt B j)) (workAt B j)
+  goes-on : (j : ℕ) → j < blocksOf W (s .n) → foldl (onward W) (outcome (More (stateAt B 0)) (workAt B 0)) (rising j)
+      ≡ outcome (More (stateAt B j)) (workAt B j)
   unfolding rising
   goes-on zero h = refl
   goes-on (suc j) h =
@@ -62,7 +62,7 @@ module _ {W : Width} {F : Fitting W} {e n : ℕ} {sigma t : Float} {rounds : ℕ
       ∙ takes j (omega arith)
       ∙ ap (λ (t : Bool). outcome (cond t (closed W (stateAt B (suc j)) (workAt B (suc j))) (More (stateAt B (suc j)))) (workAt B (suc j))) (some-left j h)
 
-  closes : (m : ℕ) → blocksOf W n ≡ suc m → foldl (onward W) (outcome (More (stateAt B 0)) (workAt B 0)) (rising (suc m))
+  closes : (m : ℕ) → blocksOf W (s .n) ≡ suc m → foldl (onward W) (outcome (More (stateAt B 0)) (workAt B 0)) (rising (suc m))
       ≡ outcome (closed W (stateAt B (suc m)) (workAt B (suc m))) (workAt B (suc m))
   unfolding rising
   closes m b =
@@ -72,14 +72,14 @@ module _ {W : Width} {F : Fitting W} {e n : ℕ} {sigma t : Float} {rounds : ℕ
       ∙ ap (λ (t : Bool). outcome (cond t (closed W (stateAt B (suc m)) (workAt B (suc m))) (More (stateAt B (suc m)))) (workAt B (suc m))) (none-left m b)
 
   -- ---- the round
-  pub round-closes : foldl (onward W) (outcome (More (roundOf W n sigma t rounds)) xs) (rising (blocksOf W n))
-      ≡ outcome (closed W (stateOf n sigma t (gathered (W .format) sigma (plusZero (W .format)) xs) 0 rounds) (remainders (W .format) sigma xs))
-      (remainders (W .format) sigma xs)
-  round-closes = go (blocksOf W n) refl
+  pub round-closes : foldl (onward W) (outcome (More s) xs) (rising (blocksOf W (s .n)))
+      ≡ outcome (closed W (allTaken W s xs) (allLeft W s xs))
+      (allLeft W s xs)
+  round-closes = go (blocksOf W (s .n)) refl
     where
-      go : (m : ℕ) → blocksOf W n ≡ m → foldl (onward W) (outcome (More (roundOf W n sigma t rounds)) xs) (rising (blocksOf W n))
-          ≡ outcome (closed W (stateOf n sigma t (gathered (W .format) sigma (plusZero (W .format)) xs) 0 rounds) (remainders (W .format) sigma xs))
-          (remainders (W .format) sigma xs)
+      go : (m : ℕ) → blocksOf W (s .n) ≡ m → foldl (onward W) (outcome (More s) xs) (rising (blocksOf W (s .n)))
+          ≡ outcome (closed W (allTaken W s xs) (allLeft W s xs))
+          (allLeft W s xs)
       go zero b = absurd (omega (arith, covers B, B .some, ap (λ (k : ℕ). W .block * k) b, mul-zero (W .block)))
       go (suc m) b =
           let state = ap (stateAt B) (sym b) ∙ last-state B in

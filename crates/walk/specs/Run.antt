@@ -11,20 +11,18 @@ use Rattle.lists.specs.Apart.{apart}
 use Rattle.lists.specs.Each.{each-weaker}
 use Rattle.kinds.specs.Limits.{Width, blocksOf}
 use Rattle.kinds.specs.Outcome.{outcome}
-use Rattle.kinds.specs.States.{stateOf}
 use Rattle.kinds.specs.declared.State.{State}
 use Rattle.kinds.specs.declared.Step.{Step}
 use Rattle.kinds.specs.declared.Step.the-variants.{More, Done, Refused}
-use Rattle.extract.specs.Extract.{plusZero, remainders, gathered}
 use Rattle.extract.specs.ExtractLaws.{remainders-length}
-use Rattle.rounds.specs.Round.{roundOf, closed}
+use Rattle.rounds.specs.Round.{allTaken, allLeft, closed}
 use Rattle.rounds.specs.InUnits.{Small, remainders-small}
-use Rattle.rounds.specs.Closing.{Closing}
+use Rattle.rounds.specs.Closable.{Closable}
 use Rattle.rounds.specs.Fitting.{Fitting}
 use Rattle.rounds.specs.Begun.{Begun, begun-rounds}
 use Rattle.rounds.specs.Closes.{Next, ends, goes, falls}
 use Rattle.walk.specs.Walk.{Walked, onward, rising, roundsFrom}
-use Rattle.sound.specs.Sound.{unitsAt}
+use Rattle.judge.specs.Table.{sizeOf}
 use Rattle.walk.specs.Rising.{round-closes}
 
 module _ (W : Width) (blocks : ℕ) where
@@ -46,41 +44,19 @@ module _ (W : Width) (blocks : ℕ) where
   run-refused zero k p ys = refl
   run-refused (suc m) k p ys = ap (roundsFrom W blocks m) (still-refused k p ys (rising blocks)) ∙ run-refused m k p ys
 
--- ---- a state that opens a round of a run
+-- ---- a state that opens a round of a run over n numbers
 pub record Running (W : Width) (F : Fitting W) (n : ℕ) (s : State) (xs : List Float) : Type 0 where
   pub e : ℕ
-  pub state : s ≡ roundOf W n (s .sigma) (s .t) (s .rounds)
-  pub begun : Begun W F e n (s .sigma) (s .t) (s .rounds) xs
-
--- it and its work area as its round closes, all numbers taken
-abbrev pub allTaken : Width → State → List Float → State
-allTaken W s xs = stateOf (s .n) (s .sigma) (s .t) (gathered (W .format) (s .sigma) (s .tau) xs) 0 (s .rounds)
-
-abbrev pub allLeft : Width → State → List Float → List Float
-allLeft W s xs = remainders (W .format) (s .sigma) xs
+  pub count : s .n ≡ n
+  pub begun : Begun W F e s xs
 
 module _ {W : Width} {F : Fitting W} {n : ℕ} {s : State} {xs : List Float} (R : Running W F n s xs) where
-  same-n : n ≡ s .n
-  unfolding roundOf
-  same-n = sym (ap (λ (q : State). q .n) (R .state))
-
-  pub all-taken : stateOf n (s .sigma) (s .t) (gathered (W .format) (s .sigma) (plusZero (W .format)) xs) 0 (s .rounds) ≡ allTaken W s xs
-  unfolding roundOf
-  all-taken =
-      let tau : plusZero (W .format) ≡ s .tau = sym (ap (λ (q : State). q .tau) (R .state)) in
-      λ i. stateOf (same-n i) (s .sigma) (s .t) (gathered (W .format) (s .sigma) (tau i) xs) 0 (s .rounds)
-
   -- a round of it, and what may follow
   pub run-round : (k : ℕ) → roundsFrom W (blocksOf W n) (suc k) (outcome (More s) xs)
       ≡ roundsFrom W (blocksOf W n) k (outcome (closed W (allTaken W s xs) (allLeft W s xs)) (allLeft W s xs))
   unfolding roundsFrom
   run-round k = ap (roundsFrom W (blocksOf W n) k)
-      ((λ i. foldl (onward W) (outcome (More (R .state i)) xs) (rising (blocksOf W n)))
-      ∙ round-closes (R .begun)
-      ∙ ap (λ (q : State). outcome (closed W q (allLeft W s xs)) (allLeft W s xs)) all-taken)
-
-  follows : Next W F n (s .rounds) (allLeft W s xs) (closed W (allTaken W s xs) (allLeft W s xs))
-  follows = rw all-taken at (falls (R .begun))
+      ((λ i. foldl (onward W) (outcome (More s) xs) (rising (blocksOf W (sym (R .count) i)))) ∙ round-closes (R .begun))
 
   pub run-ends : (k : ℕ) (x : Float) (r : ℕ) → closed W (allTaken W s xs) (allLeft W s xs) ≡ Done x r
       → outcome (Done x r) (allLeft W s xs) ≡ roundsFrom W (blocksOf W n) (suc k) (outcome (More s) xs)
@@ -94,31 +70,29 @@ module _ {W : Width} {F : Fitting W} {n : ℕ} {s : State} {xs : List Float} (R 
   run-goes k s' e = run-round k ∙ ap (λ (q : Step). roundsFrom W (blocksOf W n) k (outcome q (allLeft W s xs))) e
 
   pub run-running : (s' : State) → closed W (allTaken W s xs) (allLeft W s xs) ≡ More s' → Running W F n s' (allLeft W s xs) × (s' .rounds ≡ s .rounds + 1)
-  unfolding roundOf
-  run-running s' e = go follows e
+  run-running s' e = go (falls (R .begun)) e
     where
-      go : {q : Step} → Next W F n (s .rounds) (allLeft W s xs) q → q ≡ More s' → Running W F n s' (allLeft W s xs) × (s' .rounds ≡ s .rounds + 1)
+      go : {q : Step} → Next W F s (allLeft W s xs) q → q ≡ More s' → Running W F n s' (allLeft W s xs) × (s' .rounds ≡ s .rounds + 1)
       go (ends x) h = apart (cc)
-      go (goes e sigma t B) h =
-          let z : roundOf W n sigma t (s .rounds + 1) ≡ s' = cc in
-          let q : State = roundOf W n sigma t (s .rounds + 1) in
-          let r : Running W F n q (allLeft W s xs) = record { e = e; state = refl; begun = B } in
-          subst (λ (q : State). Running W F n q (allLeft W s xs) × (q .rounds ≡ s .rounds + 1)) z (r, refl)
+      go (goes e next same more B) h =
+          let z : next ≡ s' = cc in
+          let r : Running W F n next (allLeft W s xs) = record { e = e; count = same ∙ R .count; begun = B } in
+          subst (λ (q : State). Running W F n q (allLeft W s xs) × (q .rounds ≡ s .rounds + 1)) z (r, more)
 
-  -- "the round closes and counts"
+  -- the round closes, and is counted
   pub run-counted : (x : Float) (r : ℕ) → closed W (allTaken W s xs) (allLeft W s xs) ≡ Done x r → r ≡ s .rounds + 1
-  run-counted x r e = go follows e
+  run-counted x r e = go (falls (R .begun)) e
     where
-      go : {q : Step} → Next W F n (s .rounds) (allLeft W s xs) q → q ≡ Done x r → r ≡ s .rounds + 1
+      go : {q : Step} → Next W F s (allLeft W s xs) q → q ≡ Done x r → r ≡ s .rounds + 1
       go (ends y) h = cc
-      go (goes e sigma t B) h = apart (cc)
+      go (goes e next same more B) h = apart (cc)
 
   pub run-accepted : (k p : ℕ) → closed W (allTaken W s xs) (allLeft W s xs) ≡ Refused k p → ⊥
-  run-accepted k p e = go follows e
+  run-accepted k p e = go (falls (R .begun)) e
     where
-      go : {q : Step} → Next W F n (s .rounds) (allLeft W s xs) q → q ≡ Refused k p → ⊥
+      go : {q : Step} → Next W F s (allLeft W s xs) q → q ≡ Refused k p → ⊥
       go (ends x) h = let z : _≡_ {A = ℕ} 0 1 = cc in omega arith
-      go (goes e sigma t B) h = let z : _≡_ {A = ℕ} 0 1 = cc in omega arith
+      go (goes e next same more B) h = let z : _≡_ {A = ℕ} 0 1 = cc in omega arith
 
 -- ---- the same with the rounds that are left to it, for the code's loop: q closes the state and the work area after all blocks
 module _ {W : Width} {F : Fitting W} {n : ℕ} {s : State} {xs : List Float} (R : Running W F n s xs) {taken : State} {ys : List Float}
@@ -127,16 +101,14 @@ module _ {W : Width} {F : Fitting W} {n : ℕ} {s : State} {xs : List Float} (R 
   remaining = omega (arith, begun-rounds (R .begun))
 
   -- what the code of a close asks
-  pub walk-closing : Closing W taken ys
-  walk-closing =
+  pub walk-closable : Closable W taken ys
+  walk-closable =
       let B = R .begun in
       let l : 2 ^ R .e ≤ 2 ^ F .top = pow-mono (omega (arith, B .lowered)) in
       rw (T, Y) (record {
-        some = omega (arith, same-n R, B .some);
-        few = omega (arith, same-n R, B .few);
-        count = remainders-length (W .format) (s .sigma) xs ∙ B .count ∙ same-n R;
-        rounds = begun-rounds B;
-        work = each-weaker (Small (W .format) (2 ^ R .e)) (Small (W .format) (unitsAt W (W .magnitude)))
+        counts = record { some = B .some; few = B .few; rounds = begun-rounds B };
+        count = remainders-length (W .format) (s .sigma) xs ∙ B .count;
+        work = each-weaker (Small (W .format) (2 ^ R .e)) (Small (W .format) (sizeOf W (W .magnitude)))
             (λ x X. record { number = X .number; within = rw (F .top-is) (le-trans (X .within) l) })
             (allLeft W s xs) (remainders-small (B .scale) xs (B .work));
       })

@@ -20,40 +20,39 @@ use Rattle.kinds.specs.declared.Verdict.{Verdict}
 use Rattle.kinds.specs.declared.Verdict.the-variants as verdicts
 use Rattle.judge.specs.Judge.{judged, floats, zeroSign}
 use Rattle.judge.specs.JudgeLaws.{list-when, list-passed, list-allowed}
-use Rattle.extract.specs.Extract.{plusZero}
-use Rattle.rounds.specs.Round.{allZero, sigmaOf, roundOf, fresh}
+use Rattle.extract.specs.Extract.{largest}
+use Rattle.rounds.specs.Round.{allZero, freshRound, fresh}
 use Rattle.rounds.specs.Fitting.{Fitting}
 use Rattle.walk.specs.Walk.{Walked, openedAfter, opened, roundsFrom, faithfulOf}
 use Rattle.walk.specs.Opening.{opens}
 use Rattle.walk.specs.Run.{Running, run-done, run-refused}
 
 -- a state that opens the first round of a walk over n numbers
-pub record First (W : Width) (F : Fitting W) (n : ℕ) (s : State) (xs : List Float) : Type 0 where
+pub record FirstRound (W : Width) (F : Fitting W) (n : ℕ) (s : State) (xs : List Float) : Type 0 where
   pub running : Running W F n s xs
-  pub count : s .n ≡ n
   pub rounds : s .rounds ≡ 0
 
 module _ {W : Width} (F : Fitting W) (ps : List ℕ) (work : List Float) where
-  pub opened-first : (s : State) (xs : List Float) → opened W ps work ≡ outcome (More s) xs → First W F (length ps) s xs
-  unfolding openedAfter fresh roundOf
+  pub opened-first : (s : State) (xs : List Float) → opened W ps work ≡ outcome (More s) xs → FirstRound W F (length ps) s xs
+  unfolding openedAfter fresh
   opened-first s xs e = by (judged W (eqb (length work) (length ps)) true ps) refl e
     where
       n : ℕ
       n = length ps
 
       first : State
-      first = roundOf W n (sigmaOf (W .format) n (floats W ps)) (plusZero (W .format)) 0
+      first = freshRound W n (largest (W .format) (floats W ps)) 0
 
-      round : allZero (W .format) (floats W ps) ≡ false → judged W (eqb (length work) n) true ps ≡ verdicts.Good → First W F n first (floats W ps)
+      round : allZero (W .format) (floats W ps) ≡ false → judged W (eqb (length work) n) true ps ≡ verdicts.Good → FirstRound W F n first (floats W ps)
       round z g =
           let v = list-when W (eqb (length work) n) true ps verdicts.Good .0 g in
-          record { running = record { e = _; state = refl; begun = opens (list-allowed v) F (list-passed v .few) z }; count = refl; rounds = refl }
+          record { running = record { e = _; count = refl; begun = opens (list-allowed v) F (list-passed v .few) z }; rounds = refl }
 
       zero : Float
       zero = nearestFloat (W .format) (zeroSign ps) (pos 0)
 
       starts : (b : Bool) → allZero (W .format) (floats W ps) ≡ b → judged W (eqb (length work) n) true ps ≡ verdicts.Good
-          → outcome (cond b (Done zero 0) (More first)) (floats W ps) ≡ outcome (More s) xs → First W F n s xs
+          → outcome (cond b (Done zero 0) (More first)) (floats W ps) ≡ outcome (More s) xs → FirstRound W F n s xs
       starts true z g h =
           let m : Done zero 0 ≡ More s = ap (λ (w : Walked). w .answer) h in
           apart (cc)
@@ -63,7 +62,7 @@ module _ {W : Width} (F : Fitting W) (ps : List ℕ) (work : List Float) where
           let b : floats W ps ≡ xs = ap (λ (w : Walked). w .area) h in
           rw (a, b) at (round z g)
 
-      by : (v : Verdict) → judged W (eqb (length work) n) true ps ≡ v → openedAfter W v ps work ≡ outcome (More s) xs → First W F n s xs
+      by : (v : Verdict) → judged W (eqb (length work) n) true ps ≡ v → openedAfter W v ps work ≡ outcome (More s) xs → FirstRound W F n s xs
       by verdicts.Good g h = starts (allZero (W .format) (floats W ps)) refl g h
       by (verdicts.Refused k p) g h =
           let m : Refused k p ≡ More s = ap (λ (w : Walked). w .answer) h in
@@ -87,14 +86,14 @@ module _ {W : Width} (F : Fitting W) (ps : List ℕ) (work : List Float) where
     faithful-refused k p d = stays (rw d (run-refused W (blocksOf W (length ps)) (suc (W .rounds)) k p xs))
 
     module _ (s : State) (d : q ≡ More s) where
-      first : First W F (length ps) s xs
+      first : FirstRound W F (length ps) s xs
       first = opened-first s xs (sym e ∙ ap (λ (q : Step). outcome q xs) d)
 
       pub faithful-running : Running W F (s .n) s xs
-      faithful-running = subst (λ (n : ℕ). Running W F n s xs) (sym (first .count)) (first .running)
+      faithful-running = subst (λ (n : ℕ). Running W F n s xs) (sym (first .running .count)) (first .running)
 
       pub faithful-more : roundsFrom W (blocksOf W (s .n)) (suc (W .rounds) - s .rounds) (outcome (More s) xs) ≡ faithfulOf W ps work
       unfolding rest
       faithful-more =
           let k : suc (W .rounds) - s .rounds ≡ suc (W .rounds) = omega (arith, first .rounds) in
-          (λ i. roundsFrom W (blocksOf W (first .count i)) (k i) (outcome (sym d i) xs)) ∙ ap rest e
+          (λ i. roundsFrom W (blocksOf W (first .running .count i)) (k i) (outcome (sym d i) xs)) ∙ ap rest e

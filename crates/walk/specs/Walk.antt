@@ -15,26 +15,27 @@ use Rattle.kinds.specs.declared.Step.the-variants.{More, Done, Refused}
 use Rattle.kinds.specs.declared.Verdict.{Verdict}
 use Rattle.kinds.specs.declared.Verdict.the-variants as verdicts
 use Rattle.judge.specs.Judge.{judged, floats, zeroSign}
+use Rattle.extract.specs.Extract.{largest}
 use Rattle.sound.specs.Sound.{gated}
 use Rattle.rounds.specs.Round.{turned, takenState, fresh, closed}
 
--- the answer, and the work area afterwards
+-- rule A3: the answer, and the work area afterwards
 abbrev pub Walked : Type 0
 Walked = Outcome Step Float
 
--- ---- "Opening copies the list to the work area and answers the first state, a finished sum or a refusal."
--- "If n is 0 or every number is zero, the answer is +0 with 0 rounds. Otherwise mu .., sigma .., t = +0, and the first round opens"
+-- ---- rules WO1 to WO3: the opening
 unfoldable pub openedAfter : Width → Verdict → List ℕ → List Float → Walked
 openedAfter W verdicts.Good ps work =
     let zero = nearestFloat (W .format) (zeroSign ps) (pos 0) in
     let xs = floats W ps in
-    outcome (fresh W zero (length ps) xs 0) xs
+    outcome (fresh W zero (length ps) (largest (W .format) xs) 0) xs
 openedAfter W (verdicts.Refused k p) ps work = outcome (Refused k p) work
 
 abbrev pub opened : Width → List ℕ → List Float → Walked
 opened W ps work = openedAfter W (judged W (eqb (length work) (length ps)) true ps) ps work
 
--- ---- a step of an accepted block: its numbers become their remainders, tau gathers them, and after the last pending block the round closes
+-- ---- rules WB1 and WC1, a step of an accepted block: its numbers become their remainders, tau gathers them, and after the last pending block the round
+-- closes; no block is cut again before that (rule E3)
 unfoldable pub taken : Width → State → ℕ → List Float → Walked
 taken W s b work =
     let next = takenState W s b work in
@@ -48,7 +49,7 @@ steppedAfter W (verdicts.Refused k p) s b work = outcome (Refused k p) work
 abbrev pub stepped : Width → State → ℕ → List Float → Walked
 stepped W s b work = steppedAfter W (gated W s b work) s b work
 
--- ---- "The undivided call is this walk with blocks in rising order."
+-- ---- rule WR1
 -- a step at block b of a walk that goes on; nothing of one that has ended
 abbrev pub onward : Width → Walked → ℕ → Walked
 onward W w b = after (w .answer)

@@ -10,7 +10,7 @@ ghost use Rattle.kinds.specs.declared.Verdict.the-variants.{Good};
 ghost use Rattle.sound.specs.Sound.{gated};
 ghost use Rattle.walk.specs.Walk.{taken};
 
-// Takes the block; "When the last pending block of a round is taken the round closes".
+// Takes the block; after the last pending one the round closes, and not before (rules WC1 and E3).
 pub fn accepted(s: State, work: &mut [f64], block: usize) -> Step
     requires { ⌜ gated doubles s block (now work) ≡ Good ⌝ }
     ensures { λ r. ⌜ outcome r (now (work .exit)) ≡ taken doubles s block (now (work .entry)) ⌝ }

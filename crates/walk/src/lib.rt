@@ -12,7 +12,7 @@ ghost use Rattle.kinds.specs.Limits.{doubles};
 ghost use Rattle.kinds.specs.Outcome.{outcome};
 ghost use Rattle.walk.specs.Walk.{opened, stepped, faithfulOf};
 
-// "Opening copies the list to the work area and answers the first state, a finished sum or a refusal."
+// Rule WO1; rule O1 has its refusals.
 pub fn open(list: &[u64], work: &mut [f64]) -> Step
     ensures { λ r. ⌜ outcome r (now (work .exit)) ≡ opened doubles (now (list .entry)) (now (work .entry)) ⌝ }
 {
@@ -23,7 +23,7 @@ pub fn open(list: &[u64], work: &mut [f64]) -> Step
     }
 }
 
-// "On a block step: 4, 8, 6, 7." "A step answers one of: more, with the next state; the finished sum with its rounds; or a refusal."
+// Rules O2 and WS9: the gate, and then the block.
 pub fn step(s: State, work: &mut [f64], block: usize) -> Step
     ensures { λ r. ⌜ outcome r (now (work .exit)) ≡ stepped doubles s block (now (work .entry)) ⌝ }
 {
@@ -33,7 +33,7 @@ pub fn step(s: State, work: &mut [f64], block: usize) -> Step
     }
 }
 
-// "The undivided call is this walk with blocks in rising order."
+// Rule WR1.
 pub fn faithful(list: &[u64], work: &mut [f64]) -> Step
     ensures { λ r. ⌜ outcome r (now (work .exit)) ≡ faithfulOf doubles (now (list .entry)) (now (work .entry)) ⌝ }
 {

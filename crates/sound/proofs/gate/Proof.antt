@@ -6,7 +6,9 @@ use mathlib.Core.Bool.{true}
 use native.Mathlib.Omega.{arith}
 use Rattle.kinds.specs.Limits.{doubles, blocksOf}
 use Rattle.sound.specs.Sound.{sound}
-use Rattle.sound.specs.SoundLaws.{Numbers, sound-holds}
+use Rattle.sound.specs.Numbers.{Numbers}
+use Rattle.sound.specs.DoublesLaws.{magnitude-units}
+use Rattle.sound.specs.SoundLaws.{sound-holds}
 use Rattle.sound.specs.GateLaws.{gated-4, gated-8, gated-6, gated-7, gated-good}
 use Rattle.sound.proofs.gate.Statement.{statement}
 use Rattle.sound.proofs.gate.Tie as tie
@@ -29,13 +31,13 @@ good : (c : tie.Else2)
 good c = sym (c .before .is-sound .ensures) ∙ not-false _ (c .if2 .left)
 
 numbers : (c : tie.Else2) → Numbers doubles (c .before .before .before .before .before .args .s)
-numbers c = let a = c .before .before .before .before .before .args in sound-holds doubles (a .s) (a .work .now) (good c) .0
+numbers c = let a = c .before .before .before .before .before .args in sound-holds doubles 2074 magnitude-units (a .s) (a .work .now) (good c) .0
 
 of-requires : tie.Need-of-requires
 of-requires c κs = search needs
 
 blocks-requires : tie.Need-blocks-requires
-blocks-requires c κs = rw (c .of .ensures) (numbers (c .before) .few)
+blocks-requires c κs = rw (c .of .ensures) (numbers (c .before) .counts .few)
 
 -- B
 count : (c : tie.After-blocks2) → c .blocks2 .result ≡ blocksOf doubles (c .before .before .before .before .before .before .before .args .s .n)
@@ -48,7 +50,7 @@ returns-3 c =
     sym (gated-6 doubles (a .s) (a .block) (a .work .now) (omega arith) (good g) (omega (arith, count (c .before))))
 
 has-requires : tie.Need-has-requires
-has-requires c κs = omega (arith, count (c .before), numbers (c .before .before .before) .few)
+has-requires c κs = omega (arith, count (c .before), numbers (c .before .before .before) .counts .few)
 
 returns-4 : tie.Need-returns-4
 returns-4 c =

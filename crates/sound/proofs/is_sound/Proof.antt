@@ -10,7 +10,8 @@ use Rattle.exponent.specs.Power.{powers}
 use Rattle.kinds.specs.Limits.{doubles, exponentOf}
 use Rattle.sound.specs.Sound.{soundNumbers, badPlace}
 use Rattle.sound.specs.Places.{firstAbove}
-use Rattle.sound.specs.SoundLaws.{Numbers, numbers-hold, sound-numbers, sound-pending, sound-places}
+use Rattle.sound.specs.Numbers.{Numbers}
+use Rattle.sound.specs.SoundLaws.{numbers-hold, sound-numbers, sound-pending, sound-places}
 use Rattle.sound.specs.DoublesLaws.{magnitude-units, sigma-room}
 use Rattle.sound.specs.GateLaws.{limit-number, limit-negative, limit-places}
 use Rattle.sound.proofs.is_sound.Statement.{statement}
@@ -28,10 +29,10 @@ good : (c : tie.Else1) → soundNumbers doubles (c .before .before .before .args
 good c = sym (c .before .numbers .ensures) ∙ not-false _ (c .if1 .left)
 
 numbers : (c : tie.Else1) → Numbers doubles (c .before .before .before .args .s)
-numbers c = numbers-hold doubles (c .before .before .before .args .s) (good c)
+numbers c = numbers-hold doubles 2074 magnitude-units (c .before .before .before .args .s) (good c)
 
 pending-requires : tie.Need-pending-requires
-pending-requires c κs = (numbers c .some, numbers c .few)
+pending-requires c κs = (numbers c .counts .some, numbers c .counts .few)
 
 returns-2 : tie.Need-returns-2
 returns-2 c =
@@ -42,7 +43,7 @@ limit-requires : tie.Need-limit-requires
 limit-requires c κs = good (c .before .before)
 
 room : (c : tie.Else1) → exponentOf (c .before .before .before .args .s .n) + 2074 < powers binary64
-room c = sigma-room (c .before .before .before .args .s .n) (numbers c .few)
+room c = sigma-room (c .before .before .before .args .s .n) (numbers c .counts .few)
 
 bad-place-requires : tie.Need-bad-place-requires
 bad-place-requires c κs =

@@ -19,12 +19,12 @@ add-rounds : tie.Need-add-rounds
 add-rounds c = search needs
 
 fresh-requires : tie.Need-fresh-requires
-fresh-requires c κs = let p = c .before .before .before .before .pre in (p .count, p .few, p .work)
+fresh-requires c κs = let p = c .before .before .before .before .pre in (p .count, p .counts .few, p .work)
 
 returns : tie.Need-returns
 returns c =
     let s = c .before .before .before .before .before .args in
-    c .fresh .ensures ∙ sym (closed-zero doubles (s .s) (s .work .now) (c .before .if1 .taken))
+    c .fresh .ensures ∙ sym (closed-zero doubles _ (s .s) (s .work .now) (c .before .if1 .taken))
 
 of-requires : tie.Need-of-requires
 of-requires c κs = search needs
@@ -53,7 +53,7 @@ absolute-requires c κs = search needs
 finish-requires : tie.Need-finish-requires
 finish-requires c κs = search needs
 
--- the code's test is rule 3's
+-- the code's test is rule W3's
 tested : (c : tie.After-absolute)
     → (le (c .before .before .before .before .before .before .before .before .args .s .sigma) (leastNormal binary64)
     || le (c .before .scaled .result) (c .absolute .result))
@@ -68,7 +68,7 @@ returns-2 c =
     let o = a .before .before .before .before in
     let s = o .before .before .before .before .args in
     ap (λ (x : Float). Done x (s .s .rounds + 1)) (c .finish .ensures)
-    ∙ sym (closed-finish doubles (s .s) (s .work .now) (o .if1 .left) (sym (tested a) ∙ c .before .if2 .taken))
+    ∙ sym (closed-finish doubles _ (s .s) (s .work .now) (o .if1 .left) (sym (tested a) ∙ c .before .if2 .taken))
 
 scaled-requires-2 : tie.Need-scaled-requires-2
 scaled-requires-2 c κs = omega (arith, few (c .before .before .before))
@@ -84,7 +84,7 @@ returns-3 c =
     let o = x .before .before in
     let s = o .before .before .before .before .args in
     rw (c .begin .ensures, g .scaled2 .ensures, x .exponent .ensures, x .before .of .ensures)
-    (sym (closed-further doubles (s .s) (s .work .now) (o .if1 .left) (sym (tested a) ∙ g .before .if2 .left)))
+    (sym (closed-further doubles _ (s .s) (s .work .now) (o .if1 .left) (sym (tested a) ∙ g .before .if2 .left)))
 
 pub close-spec : {M : Type 1} → statement M
 close-spec =

@@ -5,8 +5,7 @@ use lib.Ieee.{binary64}
 use Rattle.lists.specs.Bitset.{full}
 use Rattle.extract.specs.Extract.{plusZero}
 use Rattle.kinds.specs.Limits.{doubles, blocksOf}
-use Rattle.kinds.specs.States.{stateOf}
-use Rattle.rounds.specs.Round.{roundOf}
+use Rattle.rounds.specs.Round.{inRound, roundOf}
 use Rattle.rounds.proofs.round.begin.Statement.{statement}
 use Rattle.rounds.proofs.round.begin.Tie as tie
 
@@ -23,12 +22,11 @@ of-requires-2 : tie.Need-of-requires-2
 of-requires-2 c κs = search needs
 
 returns : tie.Need-returns
-unfolding roundOf
 returns c =
     let b = c .before .before in
     let a = b .before .before .args in
     let p = c .before .full .ensures ∙ ap full (b .blocks2 .ensures ∙ ap (blocksOf doubles) (b .before .of .ensures)) in
-    rw (c .of2 .ensures) (λ i. stateOf (a .n) (a .sigma) (a .t) (plusZero binary64) (p i) (a .rounds))
+    rw (c .of2 .ensures) (λ i. inRound (roundOf doubles (a .n) (a .sigma) (a .t) (a .rounds)) (plusZero binary64) (p i))
 
 pub begin-spec : {M : Type 1} → statement M
 begin-spec = tie.close (tie.spec of-requires blocks-requires full-requires of-requires-2 returns)

@@ -8,10 +8,9 @@ use lib.Ieee.{binary64}
 use lib.ListN.{length, take, drop}
 use lib.Seq.{drop-drop}
 use Rattle.extract.specs.Extract.{gathered}
-use Rattle.kinds.specs.States.{stateOf}
 use Rattle.kinds.specs.Limits.{doubles}
-use Rattle.rounds.specs.Round.{blockOf, turned}
-use Rattle.rounds.specs.CutLaws.{take-cut, drop-cut}
+use Rattle.rounds.specs.Round.{blockOf, turned, inRound}
+use Rattle.rounds.proofs.CutLaws.{take-cut, drop-cut}
 use Rattle.rounds.proofs.round.take.Statement.{statement}
 use Rattle.rounds.proofs.round.take.Tie as tie
 
@@ -62,7 +61,7 @@ returns c =
     let p : take (l .least .result - from) (drop from xs) ≡ blockOf doubles (a .block) xs = rw e (take-cut xs from 64) in
     let s = a .s in
     let q = x .extract .ensures .0 ∙ ap (gathered binary64 (s .sigma) (s .tau)) p in (
-      rw (c .of .ensures) (λ i. stateOf (s .n) (s .sigma) (s .t) (q i) (w .without .ensures i) (s .rounds)),
+      rw (c .of .ensures) (λ i. inRound s (q i) (w .without .ensures i)),
       rw (x .extract .ensures .1, p, drop-drop, d, e, drop-cut xs from 64),
     )
 

@@ -1,6 +1,6 @@
 -- `rounds::round::take_all` meets its contract: the extraction is that of the whole area. Assumes nothing.
 use borrow.Author.Needs.{needs}
-use Rattle.kinds.specs.States.{stateOf}
+use Rattle.rounds.specs.Round.{inRound}
 use Rattle.rounds.proofs.round.take_all.Statement.{statement}
 use Rattle.rounds.proofs.round.take_all.Tie as tie
 
@@ -17,7 +17,7 @@ returns : tie.Need-returns
 returns c =
     let s = c .before .before .before .before .before .before .args .s in
     let e = c .before .before .before .extract .ensures in
-    (rw (c .of .ensures) (λ i. stateOf (s .n) (s .sigma) (s .t) (e .0 i) 0 (s .rounds)), e .1)
+    (rw (c .of .ensures) (λ i. inRound s (e .0 i) 0), e .1)
 
 pub take-all-spec : {M : Type 1} → statement M
 take-all-spec = tie.close (tie.spec extract-requires of-requires same-length returns)

@@ -8,18 +8,18 @@ use lib.ListN.{length}
 use lib.Ieee.{binary64}
 use Rattle.ieee.specs.Units.{magnitude}
 use Rattle.kinds.specs.Limits.{doubles}
-use Rattle.sound.specs.PlacesLaws.{Passing, passing-none, passing-next, passing-found, passing-end}
+use Rattle.sound.specs.PlacesLaws.{NoneBefore, before-none, before-next, before-found, before-end}
 use Rattle.sound.proofs.places.first_above.Statement.{statement}
 use Rattle.sound.proofs.places.first_above.Tie as tie
 
 abbrev Inv-loop : tie.InvT-loop
-Inv-loop work limit place₀ place = Passing doubles (magnitude binary64 limit) work place
+Inv-loop work limit place₀ place = NoneBefore doubles (magnitude binary64 limit) work place
 
 abbrev μ-loop : tie.MeasureT-loop
 μ-loop work limit place₀ place = length work - place
 
 loop-holds : tie.Need-loop-holds Inv-loop μ-loop
-loop-holds c = passing-none
+loop-holds c = before-none
 
 mul-at-most : tie.Need-mul-at-most Inv-loop μ-loop
 mul-at-most c = search needs
@@ -33,7 +33,7 @@ at-most-requires c κs = c .before .before .before .before .pre
 returns : tie.Need-returns Inv-loop μ-loop
 returns c =
     let l = c .before .before .before .before in
-    passing-found (l .loop .inv) _ (omega arith) (sym (c .before .at-most .ensures) ∙ not-true (c .before .at-most .result) (c .if1 .taken))
+    before-found (l .loop .inv) _ (omega arith) (sym (c .before .at-most .ensures) ∙ not-true (c .before .at-most .result) (c .if1 .taken))
 
 add-place : tie.Need-add-place Inv-loop μ-loop
 add-place c = search needs
@@ -44,10 +44,10 @@ loop-less c = search needs
 loop-again : tie.Need-loop-again Inv-loop μ-loop
 loop-again c =
     let l = c .before .before .before .before in
-    passing-next (l .loop .inv) _ (omega arith) (sym (c .before .at-most .ensures) ∙ not-false (c .before .at-most .result) (c .if1 .left))
+    before-next (l .loop .inv) _ (omega arith) (sym (c .before .at-most .ensures) ∙ not-false (c .before .at-most .result) (c .if1 .left))
 
 returns-2 : tie.Need-returns-2 Inv-loop μ-loop
-returns-2 c = passing-end (c .before .loop .inv) (omega arith)
+returns-2 c = before-end (c .before .loop .inv) (omega arith)
 
 pub first-above-spec : {M : Type 1} → statement M
 first-above-spec =

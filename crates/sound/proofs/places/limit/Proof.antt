@@ -6,17 +6,19 @@ use native.Mathlib.Omega.{arith}
 use lib.Ieee.{binary64}
 use Rattle.exponent.specs.Power.{powerOf}
 use Rattle.kinds.specs.Limits.{doubles, exponentOf}
-use Rattle.sound.specs.SigmaLaws.{Sigma, sigma-holds, sigma-exponent}
-use Rattle.sound.specs.SoundLaws.{Numbers, numbers-hold}
+use Rattle.sound.specs.SigmaLaws.{Sigma, sigma-holds, sigma-exponent, sigma-true}
+use Rattle.sound.specs.Numbers.{Numbers}
+use Rattle.sound.specs.SoundLaws.{numbers-hold}
 use Rattle.sound.specs.DoublesLaws.{magnitude-units, sigma-room}
 use Rattle.sound.proofs.places.limit.Statement.{statement}
 use Rattle.sound.proofs.places.limit.Tie as tie
 
 numbers : (c : tie.Start) → Numbers doubles (c .args .s)
-numbers c = numbers-hold doubles (c .args .s) (c .pre)
+numbers c = numbers-hold doubles 2074 magnitude-units (c .args .s) (c .pre)
 
 sigma : (c : tie.Start) → Sigma doubles (c .args .s .n) (c .args .s .sigma)
-sigma c = sigma-holds doubles (c .args .s .n) (c .args .s .sigma) (numbers c .sigma)
+sigma c = sigma-holds doubles (c .args .s .n) (c .args .s .sigma)
+    (sigma-true doubles 2074 magnitude-units (c .args .s .n) (c .args .s .sigma) (numbers c .sigma))
 
 ceiling-requires : tie.Need-ceiling-requires
 ceiling-requires c κs = (sigma c .fini, sigma c .positive)
@@ -25,7 +27,7 @@ of-requires : tie.Need-of-requires
 of-requires c κs = search needs
 
 exponent-requires : tie.Need-exponent-requires
-exponent-requires c κs = rw (c .of .ensures) (numbers (c .before .before) .few)
+exponent-requires c κs = rw (c .of .ensures) (numbers (c .before .before) .counts .few)
 
 -- M, and the exponent of sigma
 low : (c : tie.After-exponent) → c .exponent .result ≡ exponentOf (c .before .before .before .args .s .n)
@@ -41,7 +43,7 @@ sub-power : tie.Need-sub-power
 sub-power c = high c .0
 
 power-requires : tie.Need-power-requires
-power-requires c κs = omega (arith, high c, low c, sigma-room (c .before .before .before .args .s .n) (numbers (c .before .before .before) .few))
+power-requires c κs = omega (arith, high c, low c, sigma-room (c .before .before .before .args .s .n) (numbers (c .before .before .before) .counts .few))
 
 returns : tie.Need-returns
 returns c = c .power .ensures ∙ λ i. powerOf binary64 (c .before .before .before .ceiling .ensures i - low (c .before) i)

@@ -5,29 +5,29 @@ use lib.Dec.{T}
 use lib.Ieee.{nan, binary64, fits}
 use Rattle.lists.specs.Each.{Each, each-from}
 use Rattle.kinds.specs.Limits.{doubles}
-use Rattle.sound.specs.PassedLaws.{Passed}
+use Rattle.sound.specs.AdmittedLaws.{Admitted}
 use Rattle.rounds.specs.Instances.{doubles-fit}
-use Rattle.walk.specs.Accepted.{passes, accepted-closing}
+use Rattle.walk.specs.Admitted.{admits, admitted-closable}
 use Rattle.walk.specs.StepLaws.{taken-closes, taken-goes}
 use Rattle.walk.proofs.accepted.accepted.Statement.{statement}
 use Rattle.walk.proofs.accepted.accepted.Tie as tie
 
-through : (c : tie.After-slice-known) → Passed doubles (doubles-fit .top) (c .before .args .s) (c .before .args .block) (c .before .args .work .now)
+through : (c : tie.After-slice-known) → Admitted doubles (doubles-fit .top) (c .before .args .s) (c .before .args .block) (c .before .args .work .now)
 through c =
     let g = c .before in
-    passes doubles-fit (g .args .s) (g .args .block) (g .args .work .now) (subst T (sym (g .good .0 .1 .1 .0 .1)) tt) (g .pre)
+    admits doubles-fit (g .args .s) (g .args .block) (g .args .work .now) (subst T (sym (g .good .0 .1 .1 .0 .1)) tt) (g .pre)
 
 held : (c : tie.After-slice-known) → Each (λ x. T (fits binary64 x)) (c .before .args .work .now)
 held c = each-from (λ x. T (fits binary64 x)) (c .before .args .work .now) nan (λ i l. c .slice-known .given i)
 
 take-requires : tie.Need-take-requires
-take-requires c κs = let P = through (c .before) in (P .few, P .long, P .inside)
+take-requires c κs = let P = through (c .before) in (P .numbers .counts .few, P .long, P .inside)
 
 close-requires : tie.Need-close-requires
 close-requires c κs =
     let t = c .before .before .before .before in
     let k = t .before .before in
-    rw (t .take .ensures .0, t .take .ensures .1) (accepted-closing doubles-fit (through k) (held k))
+    rw (t .take .ensures .0, t .take .ensures .1) (admitted-closable doubles-fit (through k) (held k))
 
 same-length : tie.Need-same-length
 same-length c = search needs

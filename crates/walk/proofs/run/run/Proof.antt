@@ -10,7 +10,7 @@ use Rattle.kinds.specs.declared.Step.the-variants.{More}
 use Rattle.extract.specs.ExtractLaws.{remainders-length}
 use Rattle.rounds.specs.Instances.{doubles-fit}
 use Rattle.walk.specs.Walk.{roundsFrom}
-use Rattle.walk.specs.Run.{Running, walk-closing, walk-ends, walk-accepted, walk-goes, walk-running, walk-lower}
+use Rattle.walk.specs.Run.{Running, walk-closable, walk-ends, walk-accepted, walk-goes, walk-running, walk-lower}
 use Rattle.walk.proofs.run.run.Statement.{statement}
 use Rattle.walk.proofs.run.run.Tie as tie
 
@@ -33,7 +33,7 @@ close-requires : tie.Need-close-requires Inv-loop μ-loop
 close-requires c κs =
     let t = c .before .before .before in
     let l = t .before .before in
-    walk-closing (l .loop .inv .1) (t .take-all .ensures .0) (t .take-all .ensures .1)
+    walk-closable (l .loop .inv .1) (t .take-all .ensures .0) (t .take-all .ensures .1)
 
 enum-known-answer : tie.Need-enum-known-answer Inv-loop μ-loop
 enum-known-answer c = search needs

@@ -16,25 +16,26 @@ use Rattle.exponent.specs.Power.{powers}
 use Rattle.exponent.specs.PowerLaws.{power-number, power-negative, power-magnitude}
 use Rattle.extract.specs.Extract.{remainders}
 use Rattle.extract.specs.ExtractLaws.{remainders-length}
-use Rattle.sound.specs.Sound.{unitsAt, gated}
-use Rattle.sound.specs.PassedLaws.{Passed, passed}
-use Rattle.sound.specs.SoundLaws.{Within}
+use Rattle.judge.specs.Table.{sizeOf}
+use Rattle.sound.specs.Sound.{gated}
+use Rattle.sound.specs.AdmittedLaws.{Admitted, admitted}
+use Rattle.sound.specs.Numbers.{FiniteWithin}
 use Rattle.rounds.specs.Round.{blockOf, turned, takenState}
 use Rattle.rounds.specs.InUnits.{Small, Scale, remainders-small}
-use Rattle.rounds.specs.Closing.{Closing}
+use Rattle.rounds.specs.Closable.{Closable}
 use Rattle.rounds.specs.Fitting.{Fitting}
 use Rattle.rounds.specs.FreshRound.{exponent-some}
 
-pub passes : {W : Width} (F : Fitting W) (s : State) (b : ℕ) (xs : List Float) → T (fits (W .format) (s .sigma)) → gated W s b xs ≡ Good
-    → Passed W (F .top) s b xs
-passes {W} F s b xs fit g = passed W (F .top) (F .top-is) (λ n h. omega (arith, F .most-is n h, F .room)) s b xs fit g
+pub admits : {W : Width} (F : Fitting W) (s : State) (b : ℕ) (xs : List Float) → T (fits (W .format) (s .sigma)) → gated W s b xs ≡ Good
+    → Admitted W (F .top) s b xs
+admits {W} F s b xs fit g = admitted W (F .top) (F .top-is) (λ n h. omega (arith, F .most-is n h, F .room)) s b xs fit g
 
-module _ {W : Width} (F : Fitting W) {s : State} {b : ℕ} {xs : List Float} (P : Passed W (F .top) s b xs) (fit : Each (λ x. T (fits (W .format) x)) xs) where
+module _ {W : Width} (F : Fitting W) {s : State} {b : ℕ} {xs : List Float} (P : Admitted W (F .top) s b xs) (fit : Each (λ x. T (fits (W .format) x)) xs) where
   pub scale : Scale (W .format) (exponentOf (s .n)) (P .e) (s .sigma)
   scale = record {
     some = exponent-some (s .n);
-    few = omega (arith, F .most-is (s .n) (P .few), F .half);
-    room = omega (arith, F .most-is (s .n) (P .few), P .low, F .room);
+    few = omega (arith, F .most-is (s .n) (P .numbers .counts .few), F .half);
+    room = omega (arith, F .most-is (s .n) (P .numbers .counts .few), P .low, F .room);
     power = rw (P .sigma) (record { number = power-number f inside; sign = power-negative f inside; units = power-magnitude f inside });
   }
     where
@@ -42,10 +43,10 @@ module _ {W : Width} (F : Fitting W) {s : State} {b : ℕ} {xs : List Float} (P 
       f = W .format
 
       inside : exponentOf (s .n) + P .e < powers f
-      inside = omega (arith, F .most-is (s .n) (P .few), P .low, F .room)
+      inside = omega (arith, F .most-is (s .n) (P .numbers .counts .few), P .low, F .room)
 
   pub small : Each (Small (W .format) (2 ^ P .e)) xs
-  small = each-both (Within W (2 ^ P .e)) (λ x. T (fits (W .format) x)) (Small (W .format) (2 ^ P .e))
+  small = each-both (FiniteWithin (W .format) (2 ^ P .e)) (λ x. T (fits (W .format) x)) (Small (W .format) (2 ^ P .e))
       (λ x X f. record { number = record { fit = f; fini = X .fini }; within = X .small }) xs (P .work) fit
 
   pub turned-small : Each (Small (W .format) (2 ^ P .e)) (turned W (s .sigma) b xs)
@@ -64,12 +65,10 @@ module _ {W : Width} (F : Fitting W) {s : State} {b : ℕ} {xs : List Float} (P 
       simp (length-append, remainders-length (W .format) (s .sigma), length-take, length-drop)
       (omega arith)
 
-  pub accepted-closing : Closing W (takenState W s b xs) (turned W (s .sigma) b xs)
-  accepted-closing = record {
-    some = P .some;
-    few = P .few;
+  pub admitted-closable : Closable W (takenState W s b xs) (turned W (s .sigma) b xs)
+  admitted-closable = record {
+    counts = P .numbers .counts;
     count = turned-length ∙ P .long;
-    rounds = P .rounds;
-    work = each-weaker (Small (W .format) (2 ^ P .e)) (Small (W .format) (unitsAt W (W .magnitude)))
+    work = each-weaker (Small (W .format) (2 ^ P .e)) (Small (W .format) (sizeOf W (W .magnitude)))
         (λ x X. record { number = X .number; within = rw (F .top-is) (le-trans (X .within) (pow-mono (P .low))) }) (turned W (s .sigma) b xs) turned-small;
   }

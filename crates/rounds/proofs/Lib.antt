@@ -1,0 +1,2 @@
+-- Laws that one proof needs.
+pub mod CutLaws

@@ -1,0 +1,44 @@
+-- `rounds::fresh::from_mu` meets its contract: mu is zero exactly where its magnitude is, and sigma is of mu. Assumes nothing.
+use mathlib.Core.Path.{_≡_, refl, sym, _∙_}
+use mathlib.Core.Bool.{false}
+use Prim.Native.Nat.{_≤_}
+use native.Mathlib.Omega.{arith}
+use borrow.Author.Tests.{eqb-false}
+use lib.Dec.{eqb}
+use lib.Ieee.{binary64}
+use Rattle.ieee.specs.Units.{magnitude}
+use Rattle.extract.specs.LargestLaws.{Positive}
+use Rattle.kinds.specs.Limits.{doubles}
+use Rattle.rounds.specs.SigmaLaws.{zero-test}
+use Rattle.rounds.specs.ClosedLaws.{fresh-zero, fresh-round}
+use Rattle.rounds.proofs.fresh.from_mu.Statement.{statement}
+use Rattle.rounds.proofs.fresh.from_mu.Tie as tie
+
+mu : (c : tie.Start) → Positive binary64 (c .args .mu) (magnitude binary64 (c .args .mu))
+mu c = record { number = c .pre .1 .number; sign = c .pre .2; units = refl }
+
+returns : tie.Need-returns
+returns c =
+    let s = c .before in
+    sym (fresh-zero doubles (s .args .zero) (s .args .n) (magnitude binary64 (s .args .mu)) (s .args .rounds) (sym (zero-test binary64 (mu s)) ∙ c .if1 .taken))
+
+some : (c : tie.Else1) → eqb (magnitude binary64 (c .before .args .mu)) 0 ≡ false
+some c = sym (zero-test binary64 (mu (c .before))) ∙ c .if1 .left
+
+sigma-requires : tie.Need-sigma-requires
+sigma-requires c κs = let s = c .before in (s .pre .0, s .pre .1, s .pre .2)
+
+begin-requires : tie.Need-begin-requires
+begin-requires c κs =
+    let s = c .before .before in
+    let l : 1 ≤ magnitude binary64 (s .args .mu) = omega (arith, eqb-false (magnitude binary64 (s .args .mu)) 0 (some (c .before))) in
+    (s .pre .3 l, s .pre .0)
+
+returns-2 : tie.Need-returns-2
+returns-2 c =
+    let s = c .before .before .before in
+    rw (c .begin .ensures, c .before .sigma .ensures)
+    (sym (fresh-round doubles (s .args .zero) (s .args .n) (magnitude binary64 (s .args .mu)) (s .args .rounds) (some (c .before .before))))
+
+pub from-mu-spec : {M : Type 1} → statement M
+from-mu-spec = tie.close (tie.spec returns sigma-requires begin-requires returns-2)
