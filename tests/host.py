@@ -207,7 +207,8 @@ def main():
     bad += passed
     table(counts)
     gaps = list(uncovered(counts)) + [f"host: no answer of {call} was flipped" for call in sorted(REFUSALS.keys() - {call for call, _ in turned})]
-    print("\n".join(gaps + [f"host: {asked.lists} lists, {sum(counts.values())} calls of {len(drivers)} archive{'s'[: len(drivers) - 1]}, {bad} {'flipped bits passed' if asked.flip else 'differences'}"]))
+    what = f"{asked.lists} lists, {sum(counts.values())} calls of {len(drivers)} archive{'s' if len(drivers) > 1 else ''}"
+    print("\n".join(gaps + [f"host: {what}, {bad} {'flipped bits passed' if asked.flip else 'differences'}"]))
     return 1 if bad or gaps else 0
 
 
