@@ -6,6 +6,10 @@ each answer, its code and every element of every array, with what docs/SCOPE.md 
     python3 tests/host.py --lists 200000   a larger run
     python3 tests/host.py --seed 7         with other random numbers
     python3 tests/host.py --flip           every answer has one bit flipped, and each must be reported
+    python3 tests/host.py --native         with the native archive too, as on every machine but x86-64
+
+The archive is for x86-64. On another machine it runs under the kit's emulator, and beside it the native archive is compared, which another back end made of the
+same code: every request goes to both.
 
 A difference is printed with its inputs, and the exit status is 1.
 """
@@ -28,9 +32,9 @@ import calls  # noqa: E402
 import drawn  # noqa: E402
 import fixed  # noqa: E402
 import kit  # noqa: E402
+import native  # noqa: E402
 
 PLACE = os.path.join(ROOT, "target", "host")
-DRIVER = os.path.join(PLACE, "driver")
 LISTS = 20000
 PROGRESS = 8  # seconds between lines
 TOGETHER = 500  # requests that the driver is handed at once: each may have arrays of 32 KB
@@ -56,13 +60,39 @@ REFUSALS = {
 
 
 # ---- building, with the kit alone
-def build():
-    archive = built.need(built.ARCHIVE)
+def run(*words):
+    done = subprocess.run(words, stdout=subprocess.PIPE, stderr=subprocess.STDOUT, text=True, check=False)
+    if done.returncode:
+        sys.exit(f"{done.stdout}\nhost: {' '.join(words)} ended with status {done.returncode}")
+
+
+def source(name):
+    return os.path.join(HERE, "host", f"{name}.c")
+
+
+def driver():
+    """The words that run the driver with the archive for x86-64."""
+    made = os.path.join(PLACE, "driver")
+    for words in kit.c_commands(source("driver"), [built.need(built.ARCHIVE)], made):
+        run(*words)
+    return [*kit.run_prefix(), made]
+
+
+def native_driver():
+    """The same with the native archive, linked without a C library."""
+    made, objects = os.path.join(PLACE, "native"), []
+    for name in ("driver", "alone"):
+        objects.append(os.path.join(PLACE, f"native-{name}.o"))
+        words = ["-std=gnu99", "-O2", "-Wall", "-Wextra", "-Werror", "-ffreestanding", "-fno-builtin", "-fPIC", "-I", kit.INCLUDE, "-isystem", kit.HEADERS]
+        run(kit.clang(), f"--target={native.target()}", *words, "-c", source(name), "-o", objects[-1])
+    run(os.path.join(kit.toolchain(), "bin", "ld.lld"), "-static", *objects, built.need(built.NATIVE), "-o", made)
+    return [made]
+
+
+def build(with_native):
+    """The words that run each driver."""
     os.makedirs(PLACE, exist_ok=True)
-    for words in kit.c_commands(os.path.join(HERE, "host", "driver.c"), [archive], DRIVER):
-        done = subprocess.run(words, stdout=subprocess.PIPE, stderr=subprocess.STDOUT, text=True, check=False)
-        if done.returncode:
-            sys.exit(f"{done.stdout}\nhost: {' '.join(words)} ended with status {done.returncode}")
+    return [driver(), native_driver()] if with_native else [driver()]
 
 
 # ---- a batch
@@ -78,10 +108,10 @@ def requests_of(seed, name):
         yield from group(chance)
 
 
-def answers_of(requests):
-    """What the driver answers, one after the other."""
+def answers_of(requests, words):
+    """What a driver answers, one after the other."""
     wires = b"".join(map(calls.wire, requests))
-    process = subprocess.run(kit.run_prefix() + [DRIVER], input=wires, env=kit.environment(), capture_output=True, check=False)
+    process = subprocess.run(words, input=wires, env=kit.environment(), capture_output=True, check=False)
     if process.returncode:
         raise RuntimeError(f"the driver ended with status {process.returncode}: {process.stderr.decode(errors='replace')}")
     lengths = [sum(map(len, calls.answered(request))) for request in requests]
@@ -106,11 +136,11 @@ def met(request):
 
 def compared(work):
     """The batch's name, the answers met, how many are reported to differ, and the first report. Flipped answers go the same way as all others."""
-    seed, name, flip = work
+    seed, name, flip, drivers = work
     requests, chance = requests_of(seed, name), random.Random(f"{seed}/{name}/flip")
     counts, reports, first = collections.Counter(), 0, None
     for some in iter(lambda: list(itertools.islice(requests, TOGETHER)), []):
-        for request, answer in zip(some, answers_of(some)):
+        for request, answer in itertools.chain.from_iterable(zip(some, answers_of(some, words)) for words in drivers):
             found = calls.difference(request, flipped(request, answer, chance) if flip else answer)
             counts[met(request)] += 1
             if found:
@@ -127,12 +157,12 @@ def wrong_of(seed, name, reports, demanded, first):
     return abs(reports - demanded)
 
 
-def compare(pool, seed, names, flip):
+def compare(pool, seed, names, flip, drivers):
     """Every batch: no answer may be reported, and of flipped ones each must be. Answers how many of each kind were met, and how many of them are wrong."""
     what, wrong = ("flipped", "flipped bits passed") if flip else ("compared", "differences")
     began = said = time.time()
     counts, bad, done = collections.Counter(), 0, 0
-    results = pool.imap_unordered(compared, [(seed, name, flip) for name in names])
+    results = pool.imap_unordered(compared, [(seed, name, flip, drivers) for name in names])
     while done < len(names):
         try:
             name, more, reports, first = results.next(timeout=1)
@@ -166,17 +196,19 @@ def main():
     words.add_argument("--lists", type=int, default=LISTS)
     words.add_argument("--seed", type=int, default=1)
     words.add_argument("--flip", action="store_true")
+    words.add_argument("--native", action="store_true")
     asked = words.parse_args()
     print(f"host: seed {asked.seed}", flush=True)
-    build()
+    drivers = build(asked.native or kit.machine() != "x86_64")
     names = batches(asked.lists)
     with multiprocessing.Pool(os.cpu_count()) as pool:
-        counts, bad = compare(pool, asked.seed, names, asked.flip)
-        turned, passed = (counts, 0) if asked.flip else compare(pool, asked.seed, FLIPPED, True)
+        counts, bad = compare(pool, asked.seed, names, asked.flip, drivers)
+        turned, passed = (counts, 0) if asked.flip else compare(pool, asked.seed, FLIPPED, True, drivers)
     bad += passed
     table(counts)
     gaps = list(uncovered(counts)) + [f"host: no answer of {call} was flipped" for call in sorted(REFUSALS.keys() - {call for call, _ in turned})]
-    print("\n".join(gaps + [f"host: {asked.lists} lists, {sum(counts.values())} calls, {bad} {'flipped bits passed' if asked.flip else 'differences'}"]))
+    what = f"{asked.lists} lists, {sum(counts.values())} calls of {len(drivers)} archive{'s' if len(drivers) > 1 else ''}"
+    print("\n".join(gaps + [f"host: {what}, {bad} {'flipped bits passed' if asked.flip else 'differences'}"]))
     return 1 if bad or gaps else 0
 
 
