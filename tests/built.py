@@ -134,6 +134,3 @@ def need(made):
     return made.path
 
 
-def has(archive, symbol):
-    """Whether an archive has a function of that name."""
-    return symbol.encode() + b"\0" in content(archive)

@@ -108,22 +108,16 @@ def check_header():
 
 
 # ---- the program
-def has_arrays():
-    """Whether the archive has the calls on arrays."""
-    return built.has(built.ARCHIVE.path, "kewohiata_words_round")
-
-
 def programs(archive):
     """A name, the program, and the words before its path: by the kit's compiler, and by gcc on x86-64 where there is one."""
-    arrays = ["-DARRAYS"] if has_arrays() else []
     for name, words in (("O0", ["-O0"]), ("O2", ["-O2"]), ("fast", ["-O3", "-ffast-math"])):
         program = os.path.join(PLACE, f"kit-{name}")
-        if all([compiled(one) for one in kit.c_commands(SOURCE, [archive], program, "-pedantic", *arrays, *words)]):
+        if all([compiled(one) for one in kit.c_commands(SOURCE, [archive], program, "-pedantic", *words)]):
             yield f"the kit's compiler, {' '.join(words)}", program, kit.run_prefix()
     if shutil.which("gcc") and kit.machine() == "x86_64":
         for level in ("-O0", "-O2", "-Ofast"):
             program = os.path.join(PLACE, f"gcc{level}")
-            if compiled(["gcc", "-std=c99", level, *WARNINGS, *arrays, "-I", kit.INCLUDE, SOURCE, archive, "-o", program]):
+            if compiled(["gcc", "-std=c99", level, *WARNINGS, "-I", kit.INCLUDE, SOURCE, archive, "-o", program]):
                 yield f"gcc {level}", program, []
 
 
@@ -172,7 +166,7 @@ def wanted(call, numbers):
 
 def check_calls(name, program, prefix, some):
     """The calls on whole numbers answer the same everywhere; the walk's are counted where they are wrong."""
-    calls = [NEAREST, ADD, WITHDRAW] + ([LIST_NEAREST, WORDS_ROUND, PARTS, READ] if has_arrays() else [])
+    calls = [NEAREST, ADD, WITHDRAW] + [LIST_NEAREST, WORDS_ROUND, PARTS, READ]
     right = {(call, k): wanted(call, numbers) for call in calls for k, numbers in enumerate(some)}
     for what, control in ENVIRONMENTS.items():
         asked = [(call, k) for call in calls for k in range(len(some))]
@@ -194,7 +188,7 @@ def is_faithful(pattern, numbers):
 
 def check_walk(name, program, prefix, some):
     """In the usual environment every sum is faithful; with both switches on, the first list's is 0 in one round."""
-    for call, (what, control) in itertools.product([FAITHFUL, WALK] if has_arrays() else [FAITHFUL], ENVIRONMENTS.items()):
+    for call, (what, control) in itertools.product([FAITHFUL, WALK], ENVIRONMENTS.items()):
         told = answers(program, prefix, [(control, call, numbers) for numbers in some])
         wrong = [k for k, (_, code, values) in enumerate(told) if code or not is_faithful(values[0], some[k])]
         if what in GOOD:

@@ -14,7 +14,6 @@ import subprocess
 import sys
 
 sys.dont_write_bytecode = True
-import built  # noqa: E402
 import command  # noqa: E402
 import kit  # noqa: E402
 
@@ -99,11 +98,10 @@ def check_example(name):
 
 
 def check_examples():
-    """Every C file of examples/. Those over the calls on arrays need an archive that has them."""
+    """Every C file of examples/."""
     names = sorted(name[:-2] for name in os.listdir(os.path.join(ROOT, "examples")) if name.endswith(".c"))
     same("without a name it is leaver", printed(["scripts/example"]), read("examples/leaver.out"))
-    arrays = built.has(built.need(built.ARCHIVE), "kewohiata_words_round")
-    for name in names if arrays else ["leaver"]:
+    for name in names:
         check_example(name)
 
 

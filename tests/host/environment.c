@@ -32,7 +32,6 @@ static uint32_t registered(size_t n, uint32_t (*enter)(uint8_t *, size_t, uint64
     return code;
 }
 
-#ifdef ARRAYS
 static double area[MOST];
 
 /* 33 words, rounded to their first */
@@ -67,7 +66,6 @@ static uint32_t sheet_read(size_t n)
     memcpy(values, patterns, (n < VALUES - 1 ? n : VALUES - 1) * sizeof patterns[0]);
     return code;
 }
-#endif
 
 static uint32_t call(uint64_t which, size_t n)
 {
@@ -77,13 +75,11 @@ static uint32_t call(uint64_t which, size_t n)
     case 2: return registered(n, kewohiata_register_add);
     case 3: return registered(n, kewohiata_register_withdraw);
     case 4: return kewohiata_faithful((const uint8_t *)list, 8 * n, (uint8_t *)values, KEWOHIATA_SUM_BYTES);
-#ifdef ARRAYS
     case 5: return kewohiata_list_nearest(list, n, values, KEWOHIATA_VALUE);
     case 6: return rounded(n);
     case 7: return parted(n);
     case 8: return kewohiata_walk_faithful(list, n, area, n, values, KEWOHIATA_FAITHFUL);
     case 9: return sheet_read(n);
-#endif
     default: return UINT32_MAX;
     }
 }
