@@ -6,25 +6,8 @@ use lib.ListN.{drop}
 use lib.Ieee.{Float}
 use Rattle.kinds.specs.Heard.{placeOf}
 use Rattle.sheet.specs.Sheet.{readOf}
-use Rattle.numerals.specs.Numerals.{decimalIn, decimalOf, capitalsOf, hexOf}
+use Rattle.numerals.specs.Numerals.{decimalIn, capitalsOf}
 use Rattle.lines.specs.Lines.{countLine, faithfulLine, nearestLine, refusedLine, printed, linesAfter, linesOf}
-
--- ---- numerals: `0`, `10`, `4094`, and every hex digit
-pub decimal-0 : decimalOf 0 ≡ 48 ∷ []
-unfolding decimalIn
-decimal-0 = refl
-
-pub decimal-10 : decimalOf 10 ≡ 49 ∷ 48 ∷ []
-unfolding decimalIn
-decimal-10 = refl
-
-pub decimal-4094 : decimalOf 4094 ≡ 52 ∷ 48 ∷ 57 ∷ 52 ∷ []
-unfolding decimalIn
-decimal-4094 = refl
-
-pub hex-digits : hexOf 0x0123456789ABCDEF ≡ 48 ∷ 49 ∷ 50 ∷ 51 ∷ 52 ∷ 53 ∷ 54 ∷ 55 ∷ 56 ∷ 57 ∷ 65 ∷ 66 ∷ 67 ∷ 68 ∷ 69 ∷ 70 ∷ []
-unfolding capitalsOf
-hex-digits = refl
 
 -- ---- a refusal: `refused 11`, `refused 3 at 1`, `refused 2 at 0`
 pub refused-11 : refusedLine 11 (placeOf 11 0) ≡ 114 ∷ 101 ∷ 102 ∷ 117 ∷ 115 ∷ 101 ∷ 100 ∷ 32 ∷ 49 ∷ 49 ∷ 10 ∷ []

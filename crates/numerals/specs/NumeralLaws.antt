@@ -1,6 +1,7 @@
 -- Numerals: the fewest decimal digits of the kit are ours, how many there are at most, and hex digits stored from the last on. Assumes nothing.
 use mathlib.Core.Path.{_≡_, refl, sym, ap, _∙_}
 use mathlib.Core.Logic.{inl, inr}
+use mathlib.Core.Bool.{Bool, cond}
 use mathlib.Core.List.{List, [], _∷_, _++_}
 use Prim.Native.Nat.{ℕ, zero, suc, _+_, _-_, _*_, _/_, _%_, _^_, _≤_, _<_}
 use native.Mathlib.Nat.{mod-lt, mod-eq-of-lt, div-one, div-lt-iff-lt-mul, le-div-iff-mul-le, div-div-eq-div-mul, pow-zero, pow-suc, one-le-pow}
@@ -24,7 +25,8 @@ decimal-digits k zero n h F = absurd (omega (arith, F .0))
 decimal-digits zero (suc r) n h F = absurd (omega arith)
 decimal-digits (suc k) (suc zero) n h F =
     let l : n < 10 = omega (arith, F .1) in
-    rw (last n, lt-ltb n 10 l, mod-eq-of-lt l)
+    ap (λ (x : ℕ). x ∷ []) (last n ∙ ap (λ (x : ℕ). 48 + x) (mod-eq-of-lt l))
+    ∙ sym (ap (λ (b : Bool). cond b ((48 + n) ∷ []) (decimalIn k (n / 10) ++ ((48 + n % 10) ∷ []))) (lt-ltb n 10 l))
 decimal-digits (suc k) (suc (suc r)) n h F =
     let one : suc (suc r) - 1 ≡ suc r = omega arith in
     let low : 10 ^ suc r ≤ n = rw one at (F .2 (omega arith)) in

@@ -20,7 +20,7 @@ pub big-none : (bs : List ℕ) (at : ℕ) → big (bytesAt bs at 0) ≡ 0
 big-none bs at = number-nil 8
 
 pub big-more : (bs : List ℕ) (b : ℕ) → big (bs ++ (b ∷ [])) ≡ big bs * 256 + b
-big-more bs b = rw (reverse-append bs (b ∷ []), number-cons 8 b (reverse bs)) (omega arith)
+big-more bs b = ap (number 8) (reverse-append bs (b ∷ [])) ∙ number-cons 8 b (reverse bs) ∙ omega arith
 
 pub big-next : (bs : List ℕ) (at i : ℕ) → at + i < length bs → big (bytesAt bs at (i + 1)) ≡ big (bytesAt bs at i) * 256 + getD bs (at + i) 0
 big-next bs at i h =
@@ -29,7 +29,7 @@ big-next bs at i h =
 
 -- ---- least significant byte first: a byte and i after it, four bytes, i bytes and j after them
 pub little-next : (bs : List ℕ) (at i : ℕ) → at < length bs → little (bytesAt bs at (i + 1)) ≡ little (bytesAt bs (at + 1) i) * 256 + getD bs at 0
-little-next bs at i h = rw (add-one, add-one, drop-cons bs at 0 h, number-cons 8 (getD bs at 0) (take i (drop (suc at) bs))) (omega arith)
+little-next bs at i h = rw (add-one, add-one, drop-cons bs at 0 h) (number-cons 8 (getD bs at 0) (take i (drop (suc at) bs)) ∙ omega arith)
 
 pub little-four : (bs : List ℕ) (at : ℕ) → at + 4 ≤ length bs
     → little (bytesAt bs at 4) ≡ getD bs at 0 + getD bs (at + 1) 0 * 256 + getD bs (at + 2) 0 * 65536 + getD bs (at + 3) 0 * 16777216

@@ -142,7 +142,7 @@ header-back : (bs : List ℕ) → Digits 8 bs → 5 ≤ length bs → versionOf 
 header-back [] B h v = absurd (omega arith)
 header-back (b ∷ bs) B h v =
     let k : 4 ≤ length bs = omega arith in
-    rw (front-back 4 bs (digits-tail 8 B) k, take-append-drop 4 bs, v)
+    (λ i. 1 ∷ (front-back 4 bs (digits-tail 8 B) k i ++ drop 4 bs)) ∙ (λ i. sym v i ∷ take-append-drop 4 bs i)
 
 -- rule H1: where n are read, the bytes are the sheet of the first n of the area afterwards
 pub read-is-sheet : (W : Width) (bytes area : List ℕ) {n : ℕ} {after : List ℕ}

@@ -1,11 +1,13 @@
 -- `exponent::power` meets its contract: below 2^52 units a power of two is one digit of its pattern, and from there on a field over no digit. Assumes
 -- nothing.
 use borrow.Author.Needs.{needs}
-use mathlib.Core.Path.{_≡_}
+use mathlib.Core.Path.{_≡_, sym, subst}
+use mathlib.Core.Bool.{not}
 use Prim.Native.Nat.{ℕ, suc, _+_, _-_, _*_, _%_, _^_, _≤_, _<_}
 use native.Mathlib.Omega.{arith}
 use lib.Pow.{pow-lt}
-use lib.Ieee.{binary64}
+use lib.Dec.{T}
+use lib.Ieee.{binary64, nanBits}
 use Rattle.ieee.specs.Pattern.{pattern-no-nan}
 use Rattle.exponent.specs.PowerLaws.{low-power, high-power}
 use Rattle.exponent.proofs.power.Statement.{statement}
@@ -44,7 +46,9 @@ shl-result-2 : tie.Need-shl-result-2
 shl-result-2 c = search needs
 
 float-from-bits-result-2 : tie.Need-float-from-bits-result-2
-float-from-bits-result-2 c = rw (field {k = c .before .args .k} (omega arith) (c .before .pre)) (pattern-no-nan binary64 (omega (arith, c .before .pre)))
+float-from-bits-result-2 c =
+    subst (λ (p : ℕ). T (not (nanBits binary64 p))) (sym (field {k = c .before .args .k} (omega arith) (c .before .pre)))
+    (pattern-no-nan binary64 (omega (arith, c .before .pre)))
 
 returns-2 : tie.Need-returns-2
 returns-2 c =

@@ -1,14 +1,19 @@
 -- `judge::judge` meets its contract: each return is a case of the definition. Assumes nothing.
 use mathlib.Core.Path.{_≡_, sym, _∙_}
+use mathlib.Core.Bool.{Bool, true}
 use native.Mathlib.Omega.{arith}
 use borrow.Author.Needs.{needs}
 use borrow.Author.Tests.{not-false}
+use lib.Dec.{T}
 use Rattle.kinds.specs.Limits.{doubles}
 use Rattle.judge.specs.Judge.{firstFault, judged}
 use Rattle.judge.specs.FaultlessLaws.{faultless-good}
 use Rattle.judge.specs.JudgeLaws.{judged-1, judged-4, judged-5, judged-passed}
 use Rattle.judge.proofs.judge.Statement.{statement}
 use Rattle.judge.proofs.judge.Tie as tie
+
+is-so : {b : Bool} → b ≡ true → T b
+is-so e = rw e tt
 
 returns : tie.Need-returns
 returns c =
@@ -18,14 +23,14 @@ returns c =
 returns-2 : tie.Need-returns-2
 returns-2 c =
     let a = c .before .before .before .args in
-    sym (judged-4 doubles (a .area) (a .parts) (a .list .now) (omega arith) (rw (c .if2 .taken) tt))
+    sym (judged-4 doubles (a .area) (a .parts) (a .list .now) (omega arith) (is-so (c .if2 .taken)))
 
 returns-3 : tie.Need-returns-3
 returns-3 c =
     let t = c .before in
     let a = t .before .before .before .args in
     sym
-    (judged-5 doubles (a .area) (a .parts) (a .list .now) (omega arith) (rw (not-false (a .area) (t .if2 .left)) tt) (rw (c .if3 .taken) tt))
+    (judged-5 doubles (a .area) (a .parts) (a .list .now) (omega arith) (rw (not-false (a .area) (t .if2 .left)) tt) (is-so (c .if3 .taken)))
 
 -- none of 1, 4 and 5 is given
 passed : (c : tie.Else3)
