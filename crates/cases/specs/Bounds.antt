@@ -1,6 +1,6 @@
 -- Calls at the scope's bounds, beyond its twelve cases: a table of the same kind. Definitions only. The limits are written once, in the definition of a
 -- width; these rows hold it to the scope's numbers. Patterns: 2^8 is 4070000000000000, 64 4050000000000000, 1 3FF0000000000000, 2^-60 3C30000000000000.
-use mathlib.Core.Bool.{true}
+use mathlib.Core.Bool.{true, false}
 use mathlib.Core.List.{List, [], _∷_, _++_}
 use Prim.Native.Nat.{ℕ, _+_, _^_}
 use lib.ListN.{replicate}
@@ -14,6 +14,16 @@ opened n pending rounds = record { sigma = 0x4070000000000000; t = 0; tau = 0; n
 
 abbrev carrying : ℕ → Given
 carrying t = record { sigma = 0x4070000000000000; t = t; tau = 0; n = 1; pending = 1; rounds = 0 }
+
+-- 62 zeros behind two numbers, and a block of 2^-107; the area behind 1 and 2^-53 before them; a state in that list's first round
+abbrev tiny : List ℕ
+tiny = replicate 62 0 ++ replicate 64 0x3940000000000000
+
+abbrev chained : List ℕ
+chained = (0 ∷ 0x3CA0000000000000 ∷ []) ++ tiny
+
+abbrev half : ℕ → ℕ → Given
+half pending tau = record { sigma = 0x4070000000000000; t = 0; tau = tau; n = 128; pending = pending; rounds = 0 }
 
 unfoldable pub bounds : List Case
 bounds =
@@ -74,7 +84,39 @@ bounds =
       call = faithfulSum (0x3FF0000000000000 ∷ 0x3CA0000000000000 ∷ 0x3950000000000000 ∷ 0x3950000000000000 ∷ []);
       expected = outcome (done 0x3FF0000000000000 1) (0 ∷ 0x3CA0000000000000 ∷ 0x3950000000000000 ∷ 0x3950000000000000 ∷ []);
     }
+    -- one step below the second test, and above the first: sigma is 4 with t' = 31·2^-51, and 2^-1021 with t' one unit
+    ∷ record {
+      call = faithfulSum (0x3FF0000000000000 ∷ 0xBFEFFFFFFFFFFF84 ∷ []);
+      expected = outcome (done 0x3D0F000000000000 2) (0 ∷ 0 ∷ []);
+    }
+    ∷ record {
+      call = faithfulSum (0x0008000000000000 ∷ 0x8007FFFFFFFFFFFF ∷ []);
+      expected = outcome (done 1 2) (0 ∷ 0 ∷ []);
+    }
+    -- rule E4: T goes through both blocks in one chain, in the undivided call and in the steps that take block 1 or block 0 last
+    ∷ record { call = faithfulSum ((0x3FF0000000000000 ∷ 0x3CA0000000000000 ∷ []) ++ tiny); expected = outcome (done 0x3FF0000000000000 1) chained }
+    ∷ record { call = step (half 2 0x3FF0000000000000) chained 1; expected = outcome (done 0x3FF0000000000000 1) chained }
+    ∷ record {
+      call = step (half 1 0) ((0x3FF0000000000000 ∷ 0x3CA0000000000000 ∷ []) ++ tiny) 0;
+      expected = outcome (done 0x3FF0000000000000 1) chained;
+    }
+    -- rule L8: 64 numbers are one block, 65 are two; block 1 of 64 is none
+    ∷ record {
+      call = opening (replicate 64 0x3FF0000000000000);
+      expected = outcome (more 0x4060000000000000 0 0 64 1 0) (replicate 64 0x3FF0000000000000);
+    }
+    ∷ record {
+      call = opening (replicate 65 0x3FF0000000000000);
+      expected = outcome (more 0x4060000000000000 0 0 65 3 0) (replicate 65 0x3FF0000000000000);
+    }
+    ∷ record { call = step (opened 64 1 0) (replicate 64 0) 1; expected = outcome (refused 6 nowhere) (replicate 64 0) }
+    ∷ record { call = step (opened 64 3 0) (replicate 64 0) 0; expected = outcome (refused 8 nowhere) (replicate 64 0) }
+    -- rule L3
+    ∷ record { call = faithfulSum (replicate 4095 0); expected = outcome (refused 1 nowhere) (replicate 4095 beforehand) }
+    -- rule L10: a part too few for 2^-53, and the flag says so
+    ∷ record { call = sumInParts (0x3FF0000000000000 ∷ 0x3CA0000000000000 ∷ []) 1; expected = outcome (parts false) (0x3FF0000000000000 ∷ []) }
     -- rules L10 and R5
+    ∷ record { call = sumInParts [] 0; expected = outcome (refused 5 nowhere) [] }
     ∷ record { call = sumInParts [] 8; expected = outcome (parts true) (replicate 8 0) }
     ∷ record { call = sumInParts [] 9; expected = outcome (refused 5 nowhere) (replicate 9 0) }
     ∷ []

@@ -6,11 +6,12 @@ use lib.ListN.{length, replicate}
 use lib.Ieee.{binary64, ofBits, toBits}
 use Rattle.kinds.specs.Limits.{doubles}
 use Rattle.kinds.specs.Outcome.{Outcome, outcome}
-use Rattle.kinds.specs.Heard.{Heard, stepHeard, nearestHeard, partedHeard, entryHeard}
+use Rattle.kinds.specs.Heard.{Heard, stepHeard, nearestHeard, partedHeard, entryHeard, sheetHeard}
 use Rattle.register.specs.Register.{added, withdrawn, rounded}
 use Rattle.kinds.specs.States.{stateOf}
 use Rattle.walk.specs.Walk.{Walked, opened, stepped, faithfulOf}
 use Rattle.sums.specs.Sums.{nearestOf, partsOf}
+use Rattle.sheet.specs.Sheet.{readOf}
 
 -- what a work area holds before the call, at each place: 1.5, a number that is in no list and no answer of the table
 abbrev pub beforehand : ℕ
@@ -26,8 +27,9 @@ pub record Given : Type 0 where
   pub rounds : ℕ
 
 pub data Call : Type 0 where
-  -- the faithful sum of a list by the undivided call
+  -- the faithful sum of a list by the undivided call; the same with an area of a length of its own
   faithfulSum : List ℕ → Call
+  faithfulWithin : List ℕ → ℕ → Call
   -- the opening of a list's walk; a step at a block, of a state with its work area
   opening : List ℕ → Call
   step : Given → List ℕ → ℕ → Call
@@ -38,6 +40,8 @@ pub data Call : Type 0 where
   add : List ℕ → ℕ → Call
   withdraw : List ℕ → ℕ → Call
   round : List ℕ → Call
+  -- reading a sheet's bytes to an area of a length
+  sheet : List ℕ → ℕ → Call
 
 -- what its caller hears, beside the patterns or words of the lent area afterwards
 abbrev pub Result : Type 0
@@ -48,6 +52,7 @@ walkResult w = outcome (stepHeard doubles (w .answer)) (map (toBits binary64) (w
 
 unfoldable pub resultOf : Call → Result
 resultOf (faithfulSum ps) = walkResult (faithfulOf doubles ps (replicate (length ps) (ofBits binary64 beforehand)))
+resultOf (faithfulWithin ps m) = walkResult (faithfulOf doubles ps (replicate m (ofBits binary64 beforehand)))
 resultOf (opening ps) = walkResult (opened doubles ps (replicate (length ps) (ofBits binary64 beforehand)))
 resultOf (step s ps b) =
     let given = stateOf (s .n) (ofBits binary64 (s .sigma)) (ofBits binary64 (s .t)) (ofBits binary64 (s .tau)) (s .pending) (s .rounds) in
@@ -59,6 +64,9 @@ resultOf (sumInParts ps k) =
 resultOf (add ws p) = outcome (entryHeard (added ws p .answer)) (added ws p .area)
 resultOf (withdraw ws p) = outcome (entryHeard (withdrawn ws p .answer)) (withdrawn ws p .area)
 resultOf (round ws) = outcome (nearestHeard doubles (rounded ws)) []
+resultOf (sheet bytes m) =
+    let r = readOf doubles bytes (replicate m beforehand) in
+    outcome (sheetHeard (r .answer)) (r .area)
 
 -- one row of the table
 pub record Case : Type 0 where

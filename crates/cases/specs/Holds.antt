@@ -1,4 +1,4 @@
--- Every row of the two tables holds: one test that is computed over a whole table, and one law from the test to each row. Assumes nothing.
+-- Every row of the three tables holds: one test that is computed over a whole table, and one law from the test to each row. Assumes nothing.
 use mathlib.Core.Path.{_≡_, refl, sym, ap, _∙_}
 use mathlib.Core.Bool.{Bool, true, false, cond, _&&_}
 use mathlib.Core.List.{List, [], _∷_}
@@ -21,9 +21,11 @@ use Rattle.walk.specs.Walk as W
 use Rattle.sums.specs.Sums as S
 use Rattle.kinds.specs.Outcome.{outcome}
 use Rattle.kinds.specs.Heard.{nowhere, at, Heard, refused, more, done, nearest, parts, accepted, count}
+use Rattle.sheet.specs.Sheet.{readOf}
 use Rattle.cases.specs.Calls.{Result, Case, resultOf}
 use Rattle.cases.specs.Table.{table}
 use Rattle.cases.specs.Bounds.{bounds}
+use Rattle.cases.specs.Faults.{faults}
 
 -- ---- what is heard, as numbers, and back
 code : Heard → List ℕ
@@ -127,8 +129,19 @@ unfolding
     ofBits toBits add sub mul le eq
 computed-bounds = refl
 
+computed-faults : every faults ≡ true
+unfolding
+    every faults judged firstFault faultOf W.openedAfter W.steppedAfter W.roundsFrom W.rising
+    N.soundSigma N.atMost N.soundNumbers N.soundPending N.badPlace N.sound N.gated ceil
+    S.nearestAfter S.partsAfter enter rounded number digits signed residue nearestFloat value readOf
+    ofBits toBits le eq
+computed-faults = refl
+
 pub table-holds : (k : ℕ) (d : Case) → k < length table → resultOf (getD table k d .call) ≡ getD table k d .expected
 table-holds k d h = rows-hold table (rw computed tt) k d h
 
 pub bounds-hold : (k : ℕ) (d : Case) → k < length bounds → resultOf (getD bounds k d .call) ≡ getD bounds k d .expected
 bounds-hold k d h = rows-hold bounds (rw computed-bounds tt) k d h
+
+pub faults-hold : (k : ℕ) (d : Case) → k < length faults → resultOf (getD faults k d .call) ≡ getD faults k d .expected
+faults-hold k d h = rows-hold faults (rw computed-faults tt) k d h

@@ -1,0 +1,54 @@
+-- Calls with two faults at once, where rules O1 to O5 say which is told: a table of the same kind. Definitions only. Patterns: 7FF0000000000000 is an infinity,
+-- FFF8000000000000 a NaN, and 7E70000000000001 the first double above 2^1000.
+use mathlib.Core.List.{List, [], _∷_, _++_}
+use Prim.Native.Nat.{ℕ, _-_, _^_}
+use lib.ListN.{replicate}
+use Rattle.kinds.specs.Outcome.{outcome}
+use Rattle.kinds.specs.Heard.{nowhere, at, refused}
+use Rattle.cases.specs.Calls.{Given, Case, beforehand, faithfulWithin, step, nearestSum, sumInParts, add, withdraw, round, sheet}
+
+abbrev numbered : ℕ → ℕ → Given
+numbered n pending = record { sigma = 0x4070000000000000; t = 0; tau = 0; n = n; pending = pending; rounds = 0 }
+
+-- the registers of -2^2111 and of 2^2111 - 1
+abbrev least : List ℕ
+least = replicate 32 0 ++ (2 ^ 63 ∷ [])
+
+abbrev greatest : List ℕ
+greatest = replicate 32 (2 ^ 64 - 1) ++ ((2 ^ 63 - 1) ∷ [])
+
+unfoldable pub faults : List Case
+faults =
+    -- rule O1: 1 before 4, 5 and a bad number; 4 and 5 before it
+    record { call = faithfulWithin (0x7FF0000000000000 ∷ replicate 4094 0) 1; expected = outcome (refused 1 nowhere) (beforehand ∷ []) }
+    ∷ record { call = sumInParts (0x7FF0000000000000 ∷ replicate 4094 0) 0; expected = outcome (refused 1 nowhere) [] }
+    ∷ record { call = faithfulWithin (0x7FF0000000000000 ∷ []) 0; expected = outcome (refused 4 nowhere) [] }
+    ∷ record { call = faithfulWithin (0x7E70000000000001 ∷ []) 2; expected = outcome (refused 4 nowhere) (beforehand ∷ beforehand ∷ []) }
+    ∷ record { call = sumInParts (0xFFF8000000000000 ∷ []) 0; expected = outcome (refused 5 nowhere) [] }
+    ∷ record { call = sumInParts (0x7E70000000000001 ∷ []) 9; expected = outcome (refused 5 nowhere) (replicate 9 0) }
+    -- and among numbers the first place, whichever of 2 and 3 it has
+    ∷ record { call = nearestSum (0x7E70000000000001 ∷ 0x7FF0000000000000 ∷ []); expected = outcome (refused 3 (at 0)) [] }
+    ∷ record { call = nearestSum (0 ∷ 0xFFF8000000000000 ∷ 0x7E70000000000001 ∷ []); expected = outcome (refused 2 (at 1)) [] }
+    ∷ record { call = nearestSum (0xFFF0000000000000 ∷ 0x7E70000000000001 ∷ []); expected = outcome (refused 2 (at 0)) [] }
+    -- rule O2: 4 before 8, and 8 before 6 and 7
+    ∷ record { call = step (numbered 4095 1) (replicate 4094 0) 0; expected = outcome (refused 4 nowhere) (replicate 4094 0) }
+    ∷ record { call = step (numbered 1 2) (0 ∷ []) 1; expected = outcome (refused 8 nowhere) (0 ∷ []) }
+    ∷ record { call = step (numbered 1 0) (0 ∷ []) 0; expected = outcome (refused 8 nowhere) (0 ∷ []) }
+    -- rule O3: 4 before a bad number, and that before 9
+    ∷ record { call = add (replicate 32 0) 0x7FF0000000000000; expected = outcome (refused 4 nowhere) (replicate 32 0) }
+    ∷ record { call = withdraw (replicate 34 0) 0x7E70000000000001; expected = outcome (refused 4 nowhere) (replicate 34 0) }
+    ∷ record { call = add greatest 0x7FF0000000000000; expected = outcome (refused 2 (at 0)) greatest }
+    ∷ record { call = withdraw least 0x7E70000000000001; expected = outcome (refused 3 (at 0)) least }
+    ∷ record { call = withdraw least 1; expected = outcome (refused 9 nowhere) least }
+    -- rule O4: 4 before 10
+    ∷ record { call = round (greatest ++ (0 ∷ [])); expected = outcome (refused 4 nowhere) [] }
+    ∷ record { call = round greatest; expected = outcome (refused 10 nowhere) [] }
+    -- rule O5: 11 of the header before 12; 12 before 1; 1 before the numbers' 11; that and 13 before 4
+    ∷ record { call = sheet (2 ∷ 0 ∷ 0 ∷ 0 ∷ []) 0; expected = outcome (refused 11 nowhere) [] }
+    ∷ record { call = sheet (2 ∷ 0 ∷ 0 ∷ 15 ∷ 255 ∷ []) 0; expected = outcome (refused 12 nowhere) [] }
+    ∷ record { call = sheet (1 ∷ 0 ∷ 0 ∷ 15 ∷ 255 ∷ []) 0; expected = outcome (refused 1 nowhere) [] }
+    ∷ record { call = sheet (1 ∷ 0 ∷ 0 ∷ 0 ∷ 1 ∷ []) 0; expected = outcome (refused 11 nowhere) [] }
+    ∷ record { call = sheet (1 ∷ 0 ∷ 0 ∷ 0 ∷ 0 ∷ 0 ∷ []) 0; expected = outcome (refused 13 nowhere) [] }
+    ∷ record { call = sheet (1 ∷ 0 ∷ 0 ∷ 0 ∷ 1 ∷ replicate 9 0) 0; expected = outcome (refused 13 nowhere) [] }
+    ∷ record { call = sheet (1 ∷ 0 ∷ 0 ∷ 0 ∷ 1 ∷ replicate 8 0) 0; expected = outcome (refused 4 nowhere) [] }
+    ∷ []
