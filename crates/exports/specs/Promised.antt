@@ -21,6 +21,9 @@ use Rattle.judge.specs.Table.{Allowed, First, ListWhen, too-many, wrong-area, w
 use Rattle.judge.specs.FaultLaws.{fault-number}
 use Rattle.octets.specs.Octets.{little}
 use Rattle.octets.specs.EightsLaws.{eights-length}
+use Rattle.sums.specs.Sums.{sumOf}
+use Rattle.sums.specs.SumLaws.{sum-below-limit}
+use Rattle.sums.specs.PartsMeaning.{nearest-plus}
 use Rattle.sums.specs.Promised.{nearest-promised}
 use Rattle.sums.specs.AnswerNumbers.{nearest-refusal}
 use Rattle.runs.specs.Instances.{faithful-64}
@@ -61,6 +64,7 @@ module _ (list out : List ℕ) (l : length list ≤ listBytes) (m : length list 
         is = is-summed faithfulHeard ∙ ap (λ h. answered h out []) (ap (stepHeard doubles) (F .answer)) ∙ answered-done out [] _ (F .rounds);
         faithful = F .faithful;
         most = F .most;
+        plus = F .plus;
       }
 
   pub nearest-call : Allowed doubles ps → NearestBytes list (nearestCall list out)
@@ -70,6 +74,7 @@ module _ (list out : List ℕ) (l : length list ≤ listBytes) (m : length list 
         sum = _;
         is = is-summed sumHeard ∙ ap (λ h. answered h out []) (P .0) ∙ answered-nearest out [] _;
         nearest = P .1;
+        plus = nearest-plus (doubles .format) (sumOf (doubles .format) ps) (sum-below-limit few A);
       }
 
   -- a bad number is told with its fault and its place

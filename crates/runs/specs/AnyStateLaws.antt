@@ -1,11 +1,10 @@
 -- A step over any sound state leaves what `AnyState` says, whether a call gave the state out or not. The additions to tau need not be exact then: tau, at most
 -- 2^bound units before, is at most twice that after its block. Assumes nothing.
-use mathlib.Core.Path.{_≡_, refl, sym, ap, _∙_, subst}
+use mathlib.Core.Path.{_≡_, refl, ap, _∙_, subst}
 use mathlib.Core.Bool.{Bool, true, false, cond}
 use mathlib.Core.List.{List, [], _∷_, map, foldl}
 use Prim.Native.Nat.{ℕ, _+_, _-_, _*_, _^_, _≤_}
 use native.Mathlib.Omega.{arith}
-use borrow.Author.Tests.{eqb-false}
 use lib.Dec.{T, eqb}
 use lib.ListN.{length, drop, length-map, length-take, length-drop}
 use lib.Pow.{pow-add, pow-mono}
@@ -13,10 +12,7 @@ use lib.Ieee.{Float, Format, prec, low, emax, add, eq, fits}
 use Rattle.units.specs.Rounding.{ceil}
 use Rattle.units.specs.Ceiling.{ceil-ge, ceil-least}
 use Rattle.units.specs.Powers.{pow-split}
-use Rattle.ieee.specs.Units.{Number, magnitude, negative, whole}
-use Rattle.ieee.specs.Sum.{whole-mag}
-use Rattle.ieee.specs.Compare.{eq-units}
-use Rattle.ieee.specs.InRange.{add-rounds}
+use Rattle.ieee.specs.Units.{Number}
 use Rattle.lists.specs.Each.{Each, each-map, each-weaker, each-take, each-drop}
 use Rattle.kinds.specs.Limits.{Width, exponentOf}
 use Rattle.kinds.specs.declared.State.{State}
@@ -35,12 +31,12 @@ use Rattle.rounds.specs.Closes.{scaled-positive, normal-above}
 use Rattle.rounds.specs.Fitting.{Fitting}
 use Rattle.rounds.specs.Begun.{Begun}
 use Rattle.rounds.specs.FreshRound.{begins, largest-small}
-use Rattle.rounds.specs.InUnits.{Small, Scale, sum-plus, high-small}
+use Rattle.rounds.specs.InUnits.{Small, Scale, high-small}
 use Rattle.walk.specs.Walk.{taken, stepped}
 use Rattle.walk.specs.StepLaws.{stepped-good}
 use Rattle.walk.specs.Stepping.{sigma-bounds}
 use Rattle.walk.specs.Admitted.{admits, scale, small, turned-small, turned-length}
-use Rattle.runs.specs.CloseUnits.{zero-whole, sums, last-sum, Held, held, wider, plus, tau1-units, tau2-units}
+use Rattle.runs.specs.CloseUnits.{sums, last-sum, Held, held, wider, plus, tau1-units, sum-number, not-zero}
 use Rattle.runs.specs.AnyState.{Floats, StateNumbers, SumNumber, Answered, Stepped}
 
 -- ---- tau, at most 2^bound units, is at most 2^(bound + 1) after at most 2^most high parts: each sum is at most a multiple of 2^j that the format holds
@@ -82,26 +78,6 @@ module _ {W : Width} (F : Fitting W) {M e : ℕ} {sigma : Float} (σ : Scale (W 
             number = high-small σ X .number;
             within = omega (arith, high-small σ X .within, pow-mono {i = e} {j = j} (omega (arith, F .tau-room)));
           }) xs h
-
--- ---- the answer of rule W3: a number, and -0 only where t' is
-module _ {f : Format} (b : ℕ) (room : b + 5 ≤ low f + emax f) {t tau : Float} (t-held : Held f b t) (tau-held : Held f b tau) (xs : List Float)
-    (T-held : Held f b (lastSum f xs)) where
-  sum-number : (magnitude f (add f t tau) ≡ 0 → negative (add f t tau) ≡ false)
-      → Number f (finished f (add f t tau) t tau xs)
-      × (magnitude f (finished f (add f t tau) t tau xs) ≡ 0 → negative (finished f (add f t tau) t tau xs) ≡ false)
-  unfolding finished
-  sum-number h =
-      let tau1 : Held f (b + 1 + 1 + 1 + 1) (add f t tau) = wider (omega arith) (tau1-units b room t-held tau-held .1) in
-      let rest = plus (b + 1 + 1 + 1) (omega arith) (tau2-units b room t-held tau-held .1) (wider (omega arith) T-held) .1 in
-      let R = add-rounds (tau1 .number) (rest .number) (b + 1 + 1 + 1 + 1 + 1) (omega arith)
-      (omega (arith, tau1 .within, rest .within, pow-add 2 (b + 1 + 1 + 1 + 1) 1)) in
-      (R .number, sum-plus (add f t tau) _ h R)
-
--- that t' is zero is the test for a magnitude of 0
-not-zero : (f : Format) (x : Float) → Number f x → eq x (plusZero f) ≡ false → magnitude f x ≡ 0 → ⊥
-not-zero f x X z m =
-    let none : whole f x .up + whole f (plusZero f) .dn ≡ whole f (plusZero f) .up + whole f x .dn = rw (zero-whole f) (omega (arith, whole-mag f x)) in
-    eqb-false _ _ (sym (eq-units f x (plusZero f) X (zero-positive f .number)) ∙ z) none
 
 -- ---- a state that is sound, and a block that is pending
 module _ {W : Width} (F : Fitting W) {s : State} {b : ℕ} {xs : List Float} (P : Admitted W (F .top) s b xs) (h : Floats W s xs) where

@@ -1,25 +1,28 @@
 -- The close in floats is the close in units: t', the sum T of what is left, tau2 and the answer, none of which overflows. Assumes nothing.
-use mathlib.Core.Path.{_≡_, refl, ap, _∙_}
+use mathlib.Core.Path.{_≡_, refl, sym, ap, _∙_}
+use mathlib.Core.Bool.{false}
 use mathlib.Core.List.{List, [], _∷_, foldl}
 use Prim.Native.Nat.{ℕ, suc, _+_, _*_, _^_, _≤_}
 use native.Mathlib.Nat.{mul-le-mul-right}
 use native.Mathlib.Omega.{arith}
+use borrow.Author.Tests.{eqb-false}
 use lib.ListN.{length}
 use lib.Pow.{pow-add, pow-mono}
-use lib.Ieee.{Float, Format, prec, emax, low, add, sub}
+use lib.Ieee.{Float, Format, prec, emax, low, add, sub, eq}
 use Rattle.units.specs.Whole.{Whole, nat, _⊕_, _⊖_, Within}
 use Rattle.units.specs.Rounding.{fl, Representable}
 use Rattle.units.specs.SignedRounding.{fl-within, rep-pow}
 use Rattle.units.specs.Walk as units
-use Rattle.ieee.specs.Units.{Number, whole}
+use Rattle.ieee.specs.Units.{Number, magnitude, negative, whole}
 use Rattle.ieee.specs.Rounded.{prec-pos}
 use Rattle.ieee.specs.Sum.{whole-mag}
+use Rattle.ieee.specs.Compare.{eq-units}
 use Rattle.ieee.specs.InRange.{add-rounds, sub-rounds}
 use Rattle.lists.specs.Each.{Each}
 use Rattle.extract.specs.Extract.{plusZero, lastSum}
 use Rattle.extract.specs.LargestLaws.{zero-positive}
 use Rattle.rounds.specs.Round.{finished}
-use Rattle.rounds.specs.InUnits.{Small, wholes}
+use Rattle.rounds.specs.InUnits.{Small, wholes, sum-plus}
 
 pub zero-whole : (f : Format) → whole f (plusZero f) ≡ nat 0
 unfolding whole
@@ -104,3 +107,23 @@ module _ {f : Format} (b : ℕ) (room : b + 5 ≤ low f + emax f) {t tau : Float
       let all = plus (b + 1 + 1 + 1 + 1) (omega arith) (wider (omega arith) (tau1-units .1)) (low .1) in
       let inner = low .0 ∙ (λ i. fl (prec f) (tau2-units .0 i ⊕ e i)) in
       (all .1 .number, all .0 ∙ (λ i. fl (prec f) (tau1-units .0 i ⊕ inner i)))
+
+-- ---- the answer of rule W3: a number, and -0 only where t' is
+module _ {f : Format} (b : ℕ) (room : b + 5 ≤ low f + emax f) {t tau : Float} (t-held : Held f b t) (tau-held : Held f b tau) (xs : List Float)
+    (T-held : Held f b (lastSum f xs)) where
+  pub sum-number : (magnitude f (add f t tau) ≡ 0 → negative (add f t tau) ≡ false)
+      → Number f (finished f (add f t tau) t tau xs)
+      × (magnitude f (finished f (add f t tau) t tau xs) ≡ 0 → negative (finished f (add f t tau) t tau xs) ≡ false)
+  unfolding finished
+  sum-number h =
+      let tau1 : Held f (b + 1 + 1 + 1 + 1) (add f t tau) = wider (omega arith) (tau1-units b room t-held tau-held .1) in
+      let rest = plus (b + 1 + 1 + 1) (omega arith) (tau2-units b room t-held tau-held .1) (wider (omega arith) T-held) .1 in
+      let R = add-rounds (tau1 .number) (rest .number) (b + 1 + 1 + 1 + 1 + 1) (omega arith)
+      (omega (arith, tau1 .within, rest .within, pow-add 2 (b + 1 + 1 + 1 + 1) 1)) in
+      (R .number, sum-plus (add f t tau) _ h R)
+
+-- that t' is zero is the test for a magnitude of 0
+pub not-zero : (f : Format) (x : Float) → Number f x → eq x (plusZero f) ≡ false → magnitude f x ≡ 0 → ⊥
+not-zero f x X z m =
+    let none : whole f x .up + whole f (plusZero f) .dn ≡ whole f (plusZero f) .up + whole f x .dn = rw (zero-whole f) (omega (arith, whole-mag f x)) in
+    eqb-false _ _ (sym (eq-units f x (plusZero f) X (zero-positive f .number)) ∙ z) none

@@ -9,8 +9,8 @@ use lib.Dec.{eqb}
 use lib.IntN.{pos}
 use lib.ListN.{length}
 use lib.Ieee.{Float, Format}
-use Rattle.ieee.specs.Units.{limit}
-use Rattle.ieee.specs.Overflow.{power-below}
+use Rattle.ieee.specs.Units.{limit, magnitude, negative}
+use Rattle.ieee.specs.Overflow.{power-below, nearest-negative}
 use Rattle.ieee.specs.Accuracy.{FaithfulTo}
 use Rattle.ieee.specs.FaithfulFloat.{faithful-float, nearest-faithful}
 use Rattle.kinds.specs.Limits.{Width, blocksOf}
@@ -33,6 +33,8 @@ pub record FaithfulSum (W : Width) (ps : List ℕ) (w : Walked) : Type 0 where
   pub answer : w .answer ≡ Done sum rounds
   pub faithful : FaithfulTo (W .format) (sumOf (W .format) ps) sum
   pub most : rounds ≤ suc (W .rounds)
+  -- rule S3
+  pub plus : magnitude (W .format) sum ≡ 0 → negative sum ≡ false
 
 module _ {W : Width} (F : Fitting W) (ps : List ℕ) (work : List Float) (G : ListWhen W (eqb (length work) (length ps)) true ps Good) where
   zeros : allZero (W .format) (floats W ps) ≡ true → FaithfulSum W ps (faithfulOf W ps work)
@@ -42,6 +44,7 @@ module _ {W : Width} (F : Fitting W) (ps : List ℕ) (work : List Float) (G : Li
     answer = ap (λ (w : Walked). w .answer) (sym (faithful-done F ps work (Done (zeroOf W ps) 0) (floats W ps) (sym (opened-zero F ps work G a)) _ 0 refl));
     faithful = rw (zero-sum F ps work G a) (nearest-faithful (W .format) (zeroSign ps) (pos 0) (positive (W .format)));
     most = omega arith;
+    plus = λ m. nearest-negative (W .format) (zeroSign ps) (pos 0) (positive (W .format));
   }
     where
       positive : (f : Format) → 0 < limit f
@@ -56,6 +59,7 @@ module _ {W : Width} (F : Fitting W) (ps : List ℕ) (work : List Float) (G : Li
         answer = R .answer;
         faithful = faithful-float (R .number) (R .faithful);
         most = R .most;
+        plus = R .plus;
       })
 
   pub faithful-promised : FaithfulSum W ps (faithfulOf W ps work)

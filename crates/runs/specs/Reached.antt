@@ -159,7 +159,7 @@ module _ (W : Width) (F : Fitting W) (ps : List ℕ) (work : List Float) where
 
         go : {a : Step} → SumNext W F (difference (sumOf (W .format) ps)) s left a → closed W (allTaken W s (D .xs)) left ≡ a
             → Reached (heeded r (outcome a left))
-        go (ends x N G) e = inr (record {
+        go (ends x N G P) e = inr (record {
           sum = x;
           rounds = s .rounds + 1;
           answer = refl;

@@ -1,6 +1,6 @@
 -- A run over numbers that sum to S ends with a faithful rounding of S. Assumes nothing.
 use mathlib.Core.Path.{_≡_, refl, sym, ap, subst, _∙_}
-use mathlib.Core.Bool.{true}
+use mathlib.Core.Bool.{true, false}
 use mathlib.Core.List.{List}
 use Prim.Native.Nat.{ℕ, zero, suc, _+_, _≤_}
 use native.Mathlib.Omega.{arith}
@@ -8,7 +8,7 @@ use lib.Ieee.{Float, Format, prec, eq}
 use Rattle.units.specs.Whole.{Whole, nat}
 use Rattle.units.specs.Faithful.{Faithful}
 use Rattle.units.specs.FaithfulLaws.{faithful-same, zero-faithful}
-use Rattle.ieee.specs.Units.{Number, whole}
+use Rattle.ieee.specs.Units.{Number, magnitude, negative, whole}
 use Rattle.lists.specs.Apart.{apart}
 use Rattle.kinds.specs.Limits.{Width, blocksOf}
 use Rattle.kinds.specs.Outcome.{outcome}
@@ -24,11 +24,12 @@ use Rattle.rounds.specs.Begun.{begun-rounds}
 use Rattle.walk.specs.Walk.{Walked, roundsFrom}
 use Rattle.walk.specs.Run.{Running, run-ends, run-goes, run-accepted, run-counted}
 use Rattle.runs.specs.CloseUnits.{zero-whole}
-use Rattle.runs.specs.Summing.{Summing, finished-units, sums-nothing, sums-restart, sums-finish, sums-further}
+use Rattle.runs.specs.Summing.{Summing, finished-units, finished-plus, sums-nothing, sums-restart, sums-finish, sums-further}
 
 -- ---- how a round over numbers that sum to S closes
 pub data SumNext (W : Width) (F : Fitting W) (S : Whole) (s : State) (ys : List Float) : Step → Type 0 where
-  ends : (x : Float) → Number (W .format) x → Faithful (prec (W .format)) (whole (W .format) x) S → SumNext W F S s ys (Done x (s .rounds + 1))
+  ends : (x : Float) → Number (W .format) x → Faithful (prec (W .format)) (whole (W .format) x) S → (magnitude (W .format) x ≡ 0 → negative x ≡ false)
+      → SumNext W F S s ys (Done x (s .rounds + 1))
   goes : (e : ℕ) (s' : State) → s' .n ≡ s .n → s' .rounds ≡ s .rounds + 1 → Summing W F S e s' ys → SumNext W F S s ys (More s')
 
 module _ {W : Width} {F : Fitting W} {S : Whole} {e : ℕ} {s : State} {xs : List Float} (A : Summing W F S e s xs) where
@@ -36,9 +37,9 @@ module _ {W : Width} {F : Fitting W} {S : Whole} {e : ℕ} {s : State} {xs : Lis
   sums-close =
       let P = SumNext W F S s (allLeft W s xs) in
       closed-each P W (largest (W .format) (allLeft W s xs)) (allTaken W s xs) (allLeft W s xs)
-      (λ z. fresh-each P W _ (s .n) _ _ (λ a. ends _ (zero-positive f .number) (nothing z a))
+      (λ z. fresh-each P W _ (s .n) _ _ (λ a. ends _ (zero-positive f .number) (nothing z a) (λ m. zero-positive f .sign))
       (λ a. goes _ _ refl refl (sums-restart A z a)))
-      (λ z r. ends _ (finished-units A .0) (sums-finish A r)) (λ z r. goes _ _ refl refl (sums-further A r))
+      (λ z r. ends _ (finished-units A .0) (sums-finish A r) (finished-plus A z)) (λ z r. goes _ _ refl refl (sums-further A r))
     where
       f : Format
       f = W .format
@@ -60,6 +61,7 @@ pub record Faithfully (W : Width) (S : Whole) (w : Walked) : Type 0 where
   pub most : rounds ≤ suc (W .rounds)
   pub number : Number (W .format) sum
   pub faithful : Faithful (prec (W .format)) (whole (W .format) sum) S
+  pub plus : magnitude (W .format) sum ≡ 0 → negative sum ≡ false
 
 module _ {W : Width} {F : Fitting W} {S : Whole} {n : ℕ} where
   pub sum-running : {s : State} {xs : List Float} → SumRunning W F S n s xs → Running W F n s xs
@@ -71,7 +73,7 @@ module _ {W : Width} {F : Fitting W} {S : Whole} {n : ℕ} where
       where
         go : {q : Step} → SumNext W F S s (allLeft W s xs) q → q ≡ More s'
             → SumRunning W F S n s' (allLeft W s xs) × (s' .rounds ≡ s .rounds + 1)
-        go (ends x N G) h = apart (cc)
+        go (ends x N G P) h = apart (cc)
         go (goes e next same more B) h =
             let z : next ≡ s' = cc in
             let r : SumRunning W F S n next (allLeft W s xs) = record { e = e; count = same ∙ A .count; summing = B } in
@@ -86,7 +88,7 @@ module _ {W : Width} {F : Fitting W} {S : Whole} {n : ℕ} where
 
         go : {q : Step} → SumNext W F S s (allLeft W s xs) q → q ≡ Done x r
             → Faithfully W S (roundsFrom W (blocksOf W n) (suc k) (outcome (More s) xs))
-        go (ends y N G) e =
+        go (ends y N G P) e =
             let v : y ≡ x = cc in
             record {
               sum = x;
@@ -95,6 +97,7 @@ module _ {W : Width} {F : Fitting W} {S : Whole} {n : ℕ} where
               most = omega (arith, run-counted R x r h, begun-rounds (R .begun));
               number = rw v at N;
               faithful = rw v at G;
+              plus = rw v at P;
             }
         go (goes e next same more B) h = apart (cc)
 

@@ -18,14 +18,14 @@ use Rattle.units.specs.Faithful.{Faithful}
 use Rattle.units.specs.Walk as units
 use Rattle.units.specs.Turns.{turns, tau-zero, round-closes}
 use Rattle.units.specs.Closing.{close-nothing, close-restart, close-finish, close-further}
-use Rattle.ieee.specs.Units.{Number, magnitude, whole}
+use Rattle.ieee.specs.Units.{Number, magnitude, negative, whole}
 use Rattle.ieee.specs.Rounded.{prec-pos}
 use Rattle.ieee.specs.Sum.{whole-mag}
 use Rattle.ieee.specs.Compare.{eq-units}
 use Rattle.lists.specs.Each.{Each, each-weaker}
 use Rattle.kinds.specs.Limits.{Width, exponentOf}
 use Rattle.kinds.specs.declared.State.{State}
-use Rattle.extract.specs.Extract.{plusZero, absolute, largest}
+use Rattle.extract.specs.Extract.{plusZero, absolute, largest, lastSum}
 use Rattle.extract.specs.ExtractLaws.{largest-bounds}
 use Rattle.extract.specs.LargestLaws.{zero-positive, absolute-is}
 use Rattle.rounds.specs.Round.{allTaken, allLeft, allZero, freshRound, leastNormal, scaled, finished}
@@ -34,7 +34,7 @@ use Rattle.rounds.specs.Closes.{restarts, further, above, reached, below-normal
 use Rattle.rounds.specs.InUnits.{wholes, all-ready, gathers, remainders-units, remainders-small}
 use Rattle.rounds.specs.Fitting.{Fitting}
 use Rattle.rounds.specs.Begun.{Begun, first-tau, tau-all}
-use Rattle.runs.specs.CloseUnits.{zero-whole, Held, held, last-sum, tau1-units, answer-units}
+use Rattle.runs.specs.CloseUnits.{zero-whole, Held, held, last-sum, tau1-units, answer-units, sum-number, not-zero}
 
 equals-zero : (f : Format) (x : Float) → Number f x → eq x (plusZero f) ≡ true → whole f x ≈ nat 0
 equals-zero f x X z =
@@ -152,11 +152,11 @@ module _ {W : Width} {F : Fitting W} {S : Whole} {e : ℕ} {s : State} {xs : Lis
             (rw (next-mag, enough-is l) (above f (threshold (A .begun) l) (absolute-is f (next-units .1 .number)) v)));
       }
 
-  -- the sum T of what is left, and the answer, in units
-  pub finished-units : Number (W .format) (finished (W .format) (tau1Of W (allTaken W s xs)) (s .t) (allTaken W s xs .tau) (allLeft W s xs))
-      × (whole (W .format) (finished (W .format) (tau1Of W (allTaken W s xs)) (s .t) (allTaken W s xs .tau) (allLeft W s xs))
-      ≡ units.answer (prec (W .format)) (whole (W .format) (s .t)) (whole (W .format) (allTaken W s xs .tau)) (wholes (W .format) (allLeft W s xs)))
-  finished-units =
+  -- the sum T of what is left: a number of at most 2^bound units
+  left-sum : Number (W .format) (lastSum (W .format) (allLeft W s xs))
+      × (whole (W .format) (lastSum (W .format) (allLeft W s xs)) ≡ units.summed (prec (W .format)) (nat 0) (wholes (W .format) (allLeft W s xs)))
+      × Within (whole (W .format) (lastSum (W .format) (allLeft W s xs))) (2 ^ F .bound)
+  left-sum =
       let f = W .format in
       let M = exponentOf (s .n) in
       let ys = allLeft W s xs in
@@ -167,7 +167,22 @@ module _ {W : Width} {F : Fitting W} {S : Whole} {e : ℕ} {s : State} {xs : Lis
       let fit : 2 ^ M ≤ 2 ^ prec f = pow-mono (omega (arith, half)) in
       let count : length ys ≤ 2 ^ M = omega (arith, few, closes .count, length-map ys (whole f)) in
       let T = last-sum f e (2 ^ M) (omega arith) fit ys (remainders-small (B .scale) xs (B .work)) count in
-      answer-units (F .bound) room (held (B .kept)) (held (tau-all B)) ys (T .0) (T .1) (omega (arith, T .2))
+      (T .0, T .1, omega (arith, T .2))
+
+  -- the answer: a number, in units; and not -0
+  abbrev answer : Float
+  answer = finished (W .format) (tau1Of W (allTaken W s xs)) (s .t) (allTaken W s xs .tau) (allLeft W s xs)
+
+  pub finished-units : Number (W .format) answer
+      × (whole (W .format) answer
+      ≡ units.answer (prec (W .format)) (whole (W .format) (s .t)) (whole (W .format) (allTaken W s xs .tau)) (wholes (W .format) (allLeft W s xs)))
+  finished-units = answer-units (F .bound) room (held (A .begun .kept)) (held (tau-all (A .begun))) (allLeft W s xs) (left-sum .0) (left-sum .1) (left-sum .2)
+
+  pub finished-plus : eq (tau1Of W (allTaken W s xs)) (plusZero (W .format)) ≡ false → magnitude (W .format) answer ≡ 0 → negative answer ≡ false
+  finished-plus z =
+      sum-number (F .bound) room (held (A .begun .kept)) (held (tau-all (A .begun))) (allLeft W s xs)
+      (record { number = left-sum .0; within = left-sum .2 })
+      (λ m. absurd (not-zero (W .format) (tau1Of W (allTaken W s xs)) (next-units .1 .number) z m)) .1
 
   pub sums-finish : finishes W (allTaken W s xs) ≡ true
       → Faithful (prec (W .format)) (whole (W .format) (finished (W .format) (tau1Of W (allTaken W s xs)) (s .t) (allTaken W s xs .tau) (allLeft W s xs))) S

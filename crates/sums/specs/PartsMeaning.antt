@@ -7,7 +7,7 @@ use Prim.Native.Nat.{ℕ, zero, suc, _≤_, _<_}
 use native.Mathlib.Nat.{lt-of-le-of-lt}
 use native.Mathlib.Omega.{arith}
 use borrow.Author.Tests.{eqb-true, eq-eqb, leb-true, le-leb}
-use lib.Dec.{leb, eqb}
+use lib.Dec.{leb}
 use lib.IntN.{ℤ, pos, negsuc, natAbs, _+ℤ_, _-ℤ_, -ℤ-+ℤ-cancel, +ℤ-negℤ-cancel, +ℤ-idl}
 use lib.ListN.{length}
 use lib.Ieee.{Float, Format, prec}
@@ -51,10 +51,10 @@ add-up-when f xs S = (
 
 -- ---- rule S4: a part that is zero is +0, where a zero sum is
 module _ (f : Format) where
-  head-plus : (S : ℤ) → natAbs S < limit f → magnitude f (nearestFloat f false S) ≡ 0 → negative (nearestFloat f false S) ≡ false
-  head-plus (pos zero) l z = nearest-negative f false (pos 0) l
-  head-plus (pos (suc n)) l z = nearest-negative f false (pos (suc n)) l
-  head-plus (negsuc n) l z =
+  pub nearest-plus : (S : ℤ) → natAbs S < limit f → magnitude f (nearestFloat f false S) ≡ 0 → negative (nearestFloat f false S) ≡ false
+  nearest-plus (pos zero) l z = nearest-negative f false (pos 0) l
+  nearest-plus (pos (suc n)) l z = nearest-negative f false (pos (suc n)) l
+  nearest-plus (negsuc n) l z =
       let x = nearestFloat f false (negsuc n) in
       let m : magnitude f x ≡ rnd (prec f) (suc n) = is-units f x true (rnd (prec f) (suc n)) (nearest-is f false (negsuc n) l) .1 in
       let w : fl (prec f) (nat (suc n)) ≈ nat 0 = rw (fl-nat (prec f) (prec-pos f) (suc n)) (omega (arith, m)) in
@@ -63,4 +63,4 @@ module _ (f : Format) where
   pub parts-plus : (k : ℕ) (S : ℤ) → natAbs S < limit f → Each (λ x. magnitude f x ≡ 0 → negative x ≡ false) (parts f k false S)
   unfolding parts
   parts-plus zero S l = tt
-  parts-plus (suc k) S l = (head-plus S l, parts-plus k (S -ℤ value f (nearestFloat f false S)) (lt-of-le-of-lt (left-smaller f false S l) l))
+  parts-plus (suc k) S l = (nearest-plus S l, parts-plus k (S -ℤ value f (nearestFloat f false S)) (lt-of-le-of-lt (left-smaller f false S l) l))
