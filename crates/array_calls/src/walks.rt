@@ -36,7 +36,9 @@ fn state_numbers(s: State) -> [u64; NUMBERS]
 // A state or a sum goes to the ten numbers; a refusal leaves them.
 fn told(answer: Step, numbers: &mut [u64]) -> u32
     requires { ⌜ (length (now numbers) ≡ walkNumbers) × StepRefusal answer ⌝ }
-    ensures { λ r. ⌜ outcome r (now (numbers .exit)) ≡ outcome (codeOf (stepHeard doubles answer)) (walkValues (stepHeard doubles answer) (now (numbers .entry))) ⌝ }
+    ensures { λ r. ⌜
+        outcome r (now (numbers .exit)) ≡ outcome (codeOf (stepHeard doubles answer)) (walkValues (stepHeard doubles answer) (now (numbers .entry)))
+        ⌝ }
 {
     match answer {
         Step::More(s) => {
