@@ -1,5 +1,5 @@
--- Calls with two faults at once, where rules O1 to O5 say which is told: a table of the same kind. Definitions only. Patterns: 7FF0000000000000 is an infinity,
--- FFF8000000000000 a NaN, and 7E70000000000001 the first double above 2^1000.
+-- Calls with two faults at once, where rules O1 to O5 say which is told, and some with the later fault alone: a table of the same kind. Definitions only.
+-- Patterns: 7FF0000000000000 is an infinity, FFF8000000000000 a NaN, and 7E70000000000001 the first double above 2^1000.
 use mathlib.Core.List.{List, [], _∷_, _++_}
 use Prim.Native.Nat.{ℕ, _-_, _^_}
 use lib.ListN.{replicate}
