@@ -1,20 +1,23 @@
 /* Kewohiata: exact arithmetic for clocks that leave. The library's calls, with the C calling convention, for C99 and C++11 on.
  *
- * Numbers. A number is given as its IEEE 754 binary64 pattern: kewohiata_pattern and kewohiata_double go between the two. A list has at most 4,094 numbers,
- * none beyond 2^1000 in magnitude.
+ * The numbers of rules, as in "rule C3", are those of docs/SCOPE.md.
  *
- * Codes. Each call returns 0, or the number of a refusal plus 32 * (place + 1) where a place is told: kewohiata_refusal and kewohiata_place take a code apart.
- * A refused call writes nothing. Beside a call stands the order in which its refusals are told where more than one holds; docs/REFUSALS.md has all of it.
+ * Numbers (rules L4 and L5). A number is given as its IEEE 754 binary64 pattern: kewohiata_pattern and kewohiata_double go between the two. A list has at
+ * most 4,094 numbers, none beyond 2^1000 in magnitude.
  *
- * Floating-point environment. The calls of the walk add doubles: kewohiata_faithful, kewohiata_walk_open, kewohiata_walk_step and kewohiata_walk_faithful.
- * They need the calling thread to round to nearest, to keep subnormal results (no flush-to-zero) and to read subnormal operands as they are (no
- * denormals-as-zero), and to trap no floating-point exception; else they may return 0 with a wrong sum. A program that was linked with -Ofast or -ffast-math
- * may start with both switched on: ask kewohiata_environment once per thread, before the first of these calls. All other calls work on whole numbers, make
- * doubles by their bits, and answer the same in every environment: nearest, parts, registers, sheets.
+ * Codes (rule C3). Each call returns 0, or the number of a refusal plus 32 * (place + 1) where a place is told: kewohiata_refusal and kewohiata_place take a
+ * code apart. A refused call writes nothing. Beside a call stands the order in which its refusals are told where more than one holds; docs/REFUSALS.md has
+ * all of it.
  *
- * Outside the contract, and nothing is promised of such a call: a null pointer (also with length 0), a length that isn't the array's, an array that is not
- * readable or not writable as its type says, an array of uint64_t or double that isn't aligned as its type is, two arrays of a call that overlap, an array that
- * something else writes to during the call, and a call of the walk in another floating-point environment than the one above.
+ * Floating-point environment (rule C12). The calls of the walk add doubles: kewohiata_faithful, kewohiata_walk_open, kewohiata_walk_step and
+ * kewohiata_walk_faithful. They need the calling thread to round to nearest, to keep subnormal results (no flush-to-zero) and to read subnormal operands as
+ * they are (no denormals-as-zero), and to trap no floating-point exception; else they may return 0 with a wrong sum. A program that was linked with -Ofast
+ * or -ffast-math may start with both switched on: ask kewohiata_environment once per thread, before the first of these calls. All other calls work on whole
+ * numbers, make doubles by their bits, and answer the same in every environment: nearest, parts, registers, sheets.
+ *
+ * Outside the contract (rule C8), and nothing is promised of such a call: a null pointer (also with length 0), a length that isn't the array's, an array
+ * that is not readable or not writable as its type says, an array of uint64_t or double that isn't aligned as its type is, two arrays of a call that
+ * overlap, an array that something else writes to during the call, and a call of the walk in another floating-point environment than the one above.
  *
  * The calls keep no state between each other, allocate nothing and may run at the same time on different arrays. A call takes a time that grows as n, the
  * list's length, where nothing else stands beside it. */
@@ -33,7 +36,7 @@ extern "C" {
 #define KEWOHIATA_VERSION "0.2.0"
 enum { KEWOHIATA_VERSION_MAJOR = 0, KEWOHIATA_VERSION_MINOR = 2, KEWOHIATA_VERSION_PATCH = 0 };
 
-/* The refusals. A code has room for numbers up to 31; 14 and above are kept for later ones. */
+/* The refusals, rules R1 to R13. A code has room for numbers up to 31; 14 and above are kept for later ones. */
 enum kewohiata_refusals {
     KEWOHIATA_ACCEPTED = 0,
     KEWOHIATA_TOO_MANY = 1,          /* more than 4,094 numbers */
@@ -143,49 +146,53 @@ static inline int kewohiata_environment(void)
     return good & kewohiata_adds(sign | 1, sign | 1, sign | 2);
 }
 
-/* ---- sums of a list, on the caller's own arrays. list: the numbers' patterns. */
+/* ---- sums of a list, on the caller's own arrays (rules C9 and C10). list: the numbers' patterns. */
 
-/* Opens a walk by blocks: the list's numbers go to `work`, and the first state to `state`; or, where every number is zero, the finished sum +0.
+/* Opens a walk by blocks (rules WO1 and C11): the list's numbers go to `work`, and the first state to `state`; or, where every number is zero, the finished
+ * sum +0.
  * work: n doubles. state: 10 numbers, all of which are written.
  * Refusals: 1; 4; 2 or 3 of the lowest bad place. Needs the environment above. */
 uint32_t kewohiata_walk_open(const uint64_t *list, size_t list_length, double *work, size_t work_length, uint64_t *state, size_t state_length);
 
-/* Takes one block. In a run from an opening any pending block may be the next; the step that takes the last one closes the round, and either ends the walk
- * (the state's first number is KEWOHIATA_DONE) or makes all blocks pending again. The sum and the rounds are those of kewohiata_walk_faithful in any order.
+/* Takes one block (rule WB1). In a run from an opening any pending block may be the next; the step that takes the last one closes the round, and either ends
+ * the walk (the state's first number is KEWOHIATA_DONE) or makes all blocks pending again. The sum and the rounds are those of kewohiata_walk_faithful in
+ * any order.
  * state, work: as the opening or the last accepted step left them. block: 0 to kewohiata_blocks(n) - 1.
  * Refusals: 4; 8; 6; 7. Needs the environment above. Time: n at each step, since the whole work area is looked at, and as much again where a round closes. */
 uint32_t kewohiata_walk_step(uint64_t *state, size_t state_length, double *work, size_t work_length, size_t block);
 
-/* The faithful sum: no double lies strictly between it and the exact sum, and where the exact sum is a double it is that one; a zero sum is +0.
+/* The faithful sum (rule S1): no double lies strictly between it and the exact sum, and where the exact sum is a double it is that one; a zero sum is +0.
  * work: n doubles, which hold remainders afterwards. out: 2 numbers, the sum's pattern and the rounds, 0 to 51.
  * Refusals: 1; 4; 2 or 3 of the lowest bad place. Needs the environment above. Time: n for each round. */
 uint32_t kewohiata_walk_faithful(const uint64_t *list, size_t list_length, double *work, size_t work_length, uint64_t *out, size_t out_length);
 
-/* The nearest sum: no double is nearer to the exact sum, at a tie the one with the even significand; a zero sum is +0. out: 1 number, the sum's pattern.
+/* The nearest sum (rule S2): no double is nearer to the exact sum, at a tie the one with the even significand; a zero sum is +0. out: 1 number, the sum's
+ * pattern.
  * Refusals: 1; 4; 2 or 3 of the lowest bad place. */
 uint32_t kewohiata_list_nearest(const uint64_t *list, size_t list_length, uint64_t *out, size_t out_length);
 
-/* The sum in parts: the first is nearest to the exact sum, each next one to what is missing. parts: 1 to 8 doubles, all of which are written.
+/* The sum in parts (rules S4 and S5): the first is nearest to the exact sum, each next one to what is missing. parts: 1 to 8 doubles, all of which are written.
  * out: 1 number, 1 where the parts add up to the exact sum and else 0. Refusals: 1; 4; 5; 2 or 3 of the lowest bad place. */
 uint32_t kewohiata_list_parts(const uint64_t *list, size_t list_length, double *parts, size_t parts_length, uint64_t *out, size_t out_length);
 
 /* ---- a register: 33 words, the lowest first, a whole number of units of 2^-1074 in two's complement; 33 zeros are the empty one. Time: that of 33 words. */
 
-/* Adds one number to a register, or takes it out: the whole number changes by exactly the number's units, and what was added before and is taken out leaves no
- * trace. Refusals: 4; 2 or 3 with place 0; 9. */
+/* Adds one number to a register, or takes it out (rules G1, G2 and G6): the whole number changes by exactly the number's units, and what was added before
+ * and is taken out leaves no trace. Refusals: 4; 2 or 3 with place 0; 9. */
 uint32_t kewohiata_words_add(uint64_t *words, size_t words_length, uint64_t pattern);
 uint32_t kewohiata_words_withdraw(uint64_t *words, size_t words_length, uint64_t pattern);
 
-/* The double nearest to a register, at a tie the one with the even significand; zero gives +0. out: 1 number, its pattern. Refusals: 4; 10. */
+/* The double nearest to a register (rule G4), at a tie the one with the even significand; zero gives +0. out: 1 number, its pattern. Refusals: 4; 10. */
 uint32_t kewohiata_words_round(const uint64_t *words, size_t words_length, uint64_t *out, size_t out_length);
 
-/* ---- a contribution sheet: the byte 1, the count in 4 bytes, and 8 bytes for each number, all with the highest byte first */
+/* ---- a contribution sheet (rule H1): the byte 1, the count in 4 bytes, and 8 bytes for each number, all with the highest byte first */
 
-/* Reads a sheet's patterns to the first places of `area`; the rest of it stays. No number is judged. area: as many as the sheet counts, or more.
+/* Reads a sheet (rules H2 and H3): its patterns go to the first places of `area`; the rest of it stays. No number is judged. area: as many as the sheet
+ * counts, or more.
  * out: 1 number, the count. Refusals: 11 for fewer than 5 bytes; 12; 1; 11; 13; 4. */
 uint32_t kewohiata_sheet_read(const uint8_t *sheet, size_t sheet_length, uint64_t *area, size_t area_length, uint64_t *out, size_t out_length);
 
-/* ---- the calls on bytes. Patterns and words lie least significant byte first, 8 bytes each, on every machine, and at any address. */
+/* ---- the calls on bytes (rules C1 to C7). Patterns and words lie least significant byte first, 8 bytes each, on every machine, and at any address. */
 
 /* The faithful sum. list: 0 to 4,094 numbers of 8 bytes each. out: 16 bytes, the sum's pattern and then the rounds.
  * Refusals: 1 above 32,752 bytes; 4 where 8 doesn't divide the list's length too; 2 or 3 of the lowest bad place. Needs the environment above.
