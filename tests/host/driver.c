@@ -5,9 +5,7 @@
    of the bytes as they are afterwards: arrays that a call only reads, and the guards, too. There are no headers of a C library here, and nothing but read and
    write is used of it. */
 #include "kewohiata.h"
-
-long read(int file, void *bytes, size_t count);
-long write(int file, const void *bytes, size_t count);
+#include "pipe.h"
 
 enum { ARRAYS = 3, LIMIT = 1 << 18 };
 
@@ -42,29 +40,6 @@ static uint64_t call(const struct request *r)
     case 12: return kewohiata_sheet_read(LENT(0, bytes), LENT(1, numbers), LENT(2, numbers));
     default: return UINT64_MAX;
     }
-}
-
-/* A pipe gives and takes in pieces. */
-static int take(void *bytes, size_t count)
-{
-    for (size_t have = 0; have < count;) {
-        long got = read(0, (uint8_t *)bytes + have, count - have);
-        if (got <= 0)
-            return 0;
-        have += (size_t)got;
-    }
-    return 1;
-}
-
-static int give(const void *bytes, size_t count)
-{
-    for (size_t gone = 0; gone < count;) {
-        long put = write(1, (const uint8_t *)bytes + gone, count - gone);
-        if (put <= 0)
-            return 0;
-        gone += (size_t)put;
-    }
-    return 1;
 }
 
 int main(void)

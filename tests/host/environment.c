@@ -3,9 +3,7 @@
    A request is three 64-bit numbers (the control word of the environment, or 0 for that of the start; which call; how many numbers follow) and then those
    numbers. An answer is 35 of them: the environment's control word, the call's code, and 33 values. Nothing but read and write is used of a C library. */
 #include "kewohiata.h"
-
-long read(int file, void *bytes, size_t count);
-long write(int file, const void *bytes, size_t count);
+#include "pipe.h"
 
 enum { MOST = KEWOHIATA_LIST_MOST, VALUES = 33 };
 
@@ -82,29 +80,6 @@ static uint32_t call(uint64_t which, size_t n)
     case 9: return sheet_read(n);
     default: return UINT32_MAX;
     }
-}
-
-/* A pipe gives and takes in pieces. */
-static int take(void *bytes, size_t count)
-{
-    for (size_t have = 0; have < count;) {
-        long got = read(0, (uint8_t *)bytes + have, count - have);
-        if (got <= 0)
-            return 0;
-        have += (size_t)got;
-    }
-    return 1;
-}
-
-static int give(const void *bytes, size_t count)
-{
-    for (size_t gone = 0; gone < count;) {
-        long put = write(1, (const uint8_t *)bytes + gone, count - gone);
-        if (put <= 0)
-            return 0;
-        gone += (size_t)put;
-    }
-    return 1;
 }
 
 int main(void)
