@@ -33,7 +33,7 @@ static struct list *lists_of(const struct suite *s)
         l->pointers = calloc(s->n, sizeof *l->pointers);
         for (size_t i = 0; i < s->n; i++) {
             mpfr_init2(l->numbers[i], 53);
-            mpfr_set_d(l->numbers[i], of_bits(l->patterns[i]), MPFR_RNDN);
+            mpfr_set_d(l->numbers[i], kewohiata_double(l->patterns[i]), MPFR_RNDN);
             l->pointers[i] = l->numbers[i];
         }
     }
@@ -114,7 +114,7 @@ static const char *walk_differs(walk_in_c *walk, const struct list *l)
     a = walk(l->patterns, l->n, work, l->n);
     if (library.code != (a.refused ? a.refused + 32 * (a.place + 1) : 0))
         return "a walk's refusal";
-    if (to_bits(a.sum) != library.values[0])
+    if (kewohiata_pattern(a.sum) != library.values[0])
         return "a walk's sum";
     if (a.rounds != library.values[1])
         return "a walk's rounds";
@@ -124,7 +124,7 @@ static const char *walk_differs(walk_in_c *walk, const struct list *l)
 /* The pattern of a sum, of +0 where it is zero: MPFR answers -0 where every number is -0. */
 static uint64_t without_sign(double sum)
 {
-    return sum == 0.0 ? 0 : to_bits(sum);
+    return sum == 0.0 ? 0 : kewohiata_pattern(sum);
 }
 
 static const char *differs(const struct list *l)
@@ -140,13 +140,14 @@ static const char *differs(const struct list *l)
     }
     if (library.code)
         return NULL;
-    if (to_bits(by_blocks(l)) != library.values[0] || memcmp(library.work, work, sizeof(double) * l->n) || values[KEWOHIATA_DONE_ROUNDS] != library.values[1])
+    if (kewohiata_pattern(by_blocks(l)) != library.values[0] || memcmp(library.work, work, sizeof(double) * l->n)
+        || values[KEWOHIATA_DONE_ROUNDS] != library.values[1])
         return "the walk by blocks";
-    if (to_bits(faithful_call(l)) != to_bits(undivided(l)))
+    if (kewohiata_pattern(faithful_call(l)) != kewohiata_pattern(undivided(l)))
         return "a faithful sum";
-    if (to_bits(nearest(l)) != to_bits(nearest_call(l)))
+    if (kewohiata_pattern(nearest(l)) != kewohiata_pattern(nearest_call(l)))
         return "the nearest sum on bytes";
-    if (to_bits(nearest(l)) != without_sign(mpfr(l)) || to_bits(nearest(l)) != without_sign(mpfr_converted(l)))
+    if (kewohiata_pattern(nearest(l)) != without_sign(mpfr(l)) || kewohiata_pattern(nearest(l)) != without_sign(mpfr_converted(l)))
         return "a nearest sum";
     if (additions(l) != 0.0 || additions_call(l) != 0.0 || memcmp(words, bytes, sizeof bytes))
         return "a register";
@@ -164,7 +165,7 @@ static void check(const struct list *lists, size_t count)
     }
     printf("ok");
     for (size_t k = 0; k < count; k++)
-        printf(" %016" PRIX64, to_bits(nearest(&lists[k])));
+        printf(" %016" PRIX64, kewohiata_pattern(nearest(&lists[k])));
     printf("\n");
 }
 

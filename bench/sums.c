@@ -11,7 +11,7 @@ double naive(const struct list *l)
 {
     double sum = 0.0;
     for (size_t i = 0; i < l->n; i++)
-        sum += of_bits(l->patterns[i]);
+        sum += kewohiata_double(l->patterns[i]);
     return sum;
 }
 
@@ -29,7 +29,7 @@ double merged_gcc(const struct list *l) { return handed(gcc_merged(l->patterns, 
 double merged_clang(const struct list *l) { return handed(clang_merged(l->patterns, l->n, work, l->n)); }
 
 /* The sum of a call's values, where it was accepted. */
-static double sum_in_values(uint32_t code) { return of_bits(code == 0 ? values[0] : UINT64_MAX); }
+static double sum_in_values(uint32_t code) { return kewohiata_double(code == 0 ? values[0] : UINT64_MAX); }
 
 double undivided(const struct list *l) { return sum_in_values(kewohiata_walk_faithful(l->patterns, l->n, work, l->n, values, 2)); }
 double nearest(const struct list *l) { return sum_in_values(kewohiata_list_nearest(l->patterns, l->n, values, 1)); }
@@ -38,7 +38,7 @@ double nearest(const struct list *l) { return sum_in_values(kewohiata_list_neare
 double opening(const struct list *l)
 {
     kewohiata_walk_open(l->patterns, l->n, work, l->n, values, STATE);
-    return of_bits(values[KEWOHIATA_STATE_SIGMA]);
+    return kewohiata_double(values[KEWOHIATA_STATE_SIGMA]);
 }
 
 /* blocks in rising order */
@@ -47,7 +47,7 @@ double by_blocks(const struct list *l)
     uint32_t code = kewohiata_walk_open(l->patterns, l->n, work, l->n, values, STATE);
     while (code == 0 && values[KEWOHIATA_STATE_KIND] == KEWOHIATA_MORE)
         code = kewohiata_walk_step(values, STATE, work, l->n, (size_t)__builtin_ctzll(values[KEWOHIATA_STATE_PENDING]));
-    return of_bits(code == 0 ? values[KEWOHIATA_DONE_SUM] : UINT64_MAX);
+    return kewohiata_double(code == 0 ? values[KEWOHIATA_DONE_SUM] : UINT64_MAX);
 }
 
 static double sum_in_bytes(uint32_t code, const uint8_t *out)
@@ -55,7 +55,7 @@ static double sum_in_bytes(uint32_t code, const uint8_t *out)
     uint64_t p = UINT64_MAX;
     if (code == 0)
         memcpy(&p, out, sizeof p);
-    return of_bits(p);
+    return kewohiata_double(p);
 }
 
 double faithful_call(const struct list *l)
@@ -99,7 +99,7 @@ double mpfr(const struct list *l)
 double mpfr_converted(const struct list *l)
 {
     for (size_t i = 0; i < l->n; i++)
-        mpfr_set_d(l->numbers[i], of_bits(l->patterns[i]), MPFR_RNDN);
+        mpfr_set_d(l->numbers[i], kewohiata_double(l->patterns[i]), MPFR_RNDN);
     return mpfr(l);
 }
 

@@ -39,18 +39,4 @@ double opening(const struct list *l), mpfr(const struct list *l), mpfr_converted
 /* in the order of table.py's names */
 extern double (*const sums[SUMS])(const struct list *);
 
-static inline double of_bits(uint64_t p)
-{
-    double x;
-    memcpy(&x, &p, sizeof x);
-    return x;
-}
-
-static inline uint64_t to_bits(double x)
-{
-    uint64_t p;
-    memcpy(&p, &x, sizeof p);
-    return p;
-}
-
 #endif
