@@ -10,6 +10,7 @@ That the sums of the walk are wrong in some is shown too: it is why the question
 """
 import itertools
 import os
+import re
 import random
 import shutil
 import struct
@@ -47,12 +48,14 @@ ENVIRONMENT, NEAREST, ADD, WITHDRAW, FAITHFUL, LIST_NEAREST, WORDS_ROUND, PARTS,
 TINY = [exact.ONE, 0x36EB6, exact.ONE | exact.SIGN]
 LISTS = 150
 
-# the header's names: a refusal's number, or a length
+# the header's names: a refusal's number, a length, a place in a walk's ten numbers, the version
 NAMES = {
     "TOO_MANY": 1, "NOT_FINITE": 2, "TOO_LARGE": 3, "WRONG_LENGTH": 4, "WRONG_PARTS": 5, "NO_SUCH_BLOCK": 6, "BLOCK_NOT_PENDING": 7, "UNSOUND_STATE": 8,
     "REGISTER_FULL": 9, "NO_FINITE_DOUBLE": 10, "SHEET_TOO_SHORT": 11, "OTHER_VERSION": 12, "SHEET_TOO_LONG": 13, "LIST_MOST": 4094,
     "LIST_BYTES_MOST": 32752, "BLOCK": 64, "STATE": 10, "FAITHFUL": 2, "VALUE": 1, "SUM_BYTES": 16, "WORDS": 33, "REGISTER_BYTES": 264, "PARTS_MOST": 8,
-    "ROUNDS_MOST": 51, "SHEET_HEADER": 5, "SHEET_BYTES_MOST": 32757,
+    "ROUNDS_MOST": 51, "SHEET_HEADER": 5, "SHEET_BYTES_MOST": 32757, "ACCEPTED": 0, "MORE": 1, "DONE": 2, "STATE_KIND": 0, "STATE_SIGMA": 1, "STATE_T": 2,
+    "STATE_TAU": 3, "STATE_N": 4, "STATE_PENDING": 5, "STATE_ROUNDS": 6, "DONE_SUM": 1, "DONE_ROUNDS": 2, "VERSION_MAJOR": 0, "VERSION_MINOR": 2,
+    "VERSION_PATCH": 0,
 }  # fmt: skip
 
 DIFFERENCES = []
@@ -94,6 +97,9 @@ def compiled(words):
 
 
 def check_header():
+    with open(os.path.join(kit.INCLUDE, "kewohiata.h"), encoding="utf-8") as f:
+        named = set(re.findall(r"KEWOHIATA_(\w+) = ", f.read()))
+    expect("the header has these names and no other", named == set(NAMES), sorted(named ^ set(NAMES)))
     for name, language in (("header.c", ["-std=c99"]), ("header.cc", ["-std=c++11"]), ("header.c", ["-std=c11"]), ("header.cc", ["-std=c++17"])):
         source, program = os.path.join(PLACE, name), os.path.join(PLACE, "header")
         with open(source, "w", encoding="utf-8") as f:
