@@ -8,14 +8,14 @@ use lib.Arith.{digits-div, digits-mod}
 use lib.Count.{leadingZeros, leading-top}
 use lib.Dec.{lit≤}
 use lib.Pow.{pow-mono, pow-pos}
-use lib.Ieee.{Format, binary64, prec, emax, low, hid, ones}
+use lib.Ieee.{Format, prec, emax, low, hid, ones}
 use Rattle.units.specs.Powers.{pow-split, pow-le-back}
 use Rattle.ieee.specs.Units.{fieldUnits, patternUnits}
 use Rattle.ieee.specs.Exponent.{subnormal-units}
 use Rattle.ieee.specs.Pattern.{pattern-lt, pattern-le}
 use Rattle.kinds.specs.Limits.{Width, doubles}
 use Rattle.judge.specs.FaultLaws.{most-doubles}
-use Rattle.weights.specs.Weights.{grains, grain, wholeWeight, weightOf, patternFor}
+use Rattle.weights.specs.Weights.{grains, grain, weightOf, patternFor}
 use Rattle.weights.specs.WeightLaws.{Fine, fieldOfGrain, below-one, one-units, grain-units, below-units, pattern-unique}
 
 pub fine-doubles : Fine doubles

@@ -2,15 +2,14 @@
 -- lowest places get the left over; equal weights stay within a grain of each other, and a heavier clock ends no lighter. Assumes nothing.
 use mathlib.Core.Path.{_≡_, refl, sym, ap, _∙_}
 use mathlib.Core.List.{List, [], _∷_, map}
-use Prim.Native.Nat.{ℕ, zero, suc, _+_, _-_, _*_, _/_, _≤_, _<_}
-use native.Mathlib.Nat.{mul-zero, zero-mul, zero-div, mul-le-mul-left, mul-le-mul-right}
+use Prim.Native.Nat.{ℕ, zero, suc, _+_, _-_, _≤_, _<_}
+use native.Mathlib.Nat.{zero-mul, zero-div}
 use native.Mathlib.Omega.{arith}
 use lib.ListN.{length, take, getD, set, length-set}
-use lib.Ieee.Nearest.{div-mono}
 use lib.Seq.{getD-set-same, getD-set-other, set-getD}
 use Rattle.weights.specs.Weights.{grains, total, share, staying, leftOver, gets, spread, handed}
 use Rattle.weights.specs.Promise.{positives}
-use Rattle.weights.specs.ShareLaws.{left-over, spread-total, spread-length, spread-at}
+use Rattle.weights.specs.ShareLaws.{share-rises, share-none, gets-most, gets-none, gets-more, left-over, spread-total, spread-length, spread-at}
 
 -- the leaver's weight and the others'
 pub split : (ks : List ℕ) (at : ℕ) → at < length ks → total ks ≡ getD ks at 0 + total (staying at ks)
@@ -26,23 +25,6 @@ grainAt at ks i =
     let stay = staying at ks in
     gets (leftOver w stay - positives (take i stay)) (getD stay i 0)
 
-gets-most : (left k : ℕ) → gets left k ≤ 1
-gets-most zero k = omega arith
-gets-most (suc left) zero = omega arith
-gets-most (suc left) (suc k) = omega arith
-
-gets-none : (left k : ℕ) → k ≡ 0 → gets left k ≡ 0
-gets-none zero k e = refl
-gets-none (suc left) zero e = refl
-gets-none (suc left) (suc k) e = absurd (omega arith)
-
--- one is got of more too
-gets-more : (left more k l : ℕ) → left ≤ more → 0 < l → gets left k ≡ 1 → gets more l ≡ 1
-gets-more zero more k l h p e = absurd (omega arith)
-gets-more (suc left) zero k l h p e = absurd (omega arith)
-gets-more (suc left) (suc more) k zero h p e = absurd (omega arith)
-gets-more (suc left) (suc more) k (suc l) h p e = refl
-
 -- fewer places have fewer clocks of positive weight
 fewer : (ks : List ℕ) (i j : ℕ) → i ≤ j → positives (take i ks) ≤ positives (take j ks)
 unfolding positives
@@ -51,12 +33,6 @@ fewer [] (suc i) (suc j) h = omega arith
 fewer (k ∷ ks) (suc i) zero h = absurd (omega arith)
 fewer (k ∷ ks) (suc i) (suc j) h = omega (arith, fewer ks i j (omega arith))
 fewer [] (suc i) zero h = omega arith
-
-share-rises : (w k l : ℕ) → w < grains → k ≤ l → share w k ≤ share w l
-share-rises w k l d h = div-mono (w * k) (grains - w) (w * l) (grains - w) (omega arith) (omega arith) (mul-le-mul-right (grains - w) (mul-le-mul-left w h))
-
-share-none : (w : ℕ) → share w 0 ≡ 0
-share-none w = rw (mul-zero w) (zero-div (grains - w))
 
 module _ (at : ℕ) (ks : List ℕ) where
   abbrev w : ℕ

@@ -2,17 +2,16 @@
 use mathlib.Core.Path.{_≡_, refl, sym, ap, _∙_}
 use mathlib.Core.Bool.{true}
 use mathlib.Core.List.{List, [], _∷_, map}
-use Prim.Native.Nat.{ℕ, zero, suc, _+_, _*_, _≤_, _<_}
+use Prim.Native.Nat.{ℕ, suc, _+_, _*_, _≤_, _<_}
 use native.Mathlib.Omega.{arith}
 use lib.IntN.{ℤ, pos, _+ℤ_}
 use lib.ListN.{length, getD, length-map}
 use lib.Seq.{getD-set-other}
 use lib.Ieee.{ofBits}
-use Rattle.units.specs.Whole.{exactSum}
 use Rattle.lists.specs.Front.{map-at}
-use Rattle.ieee.specs.Units.{value}
 use Rattle.kinds.specs.Limits.{Width}
-use Rattle.weights.specs.Weights.{grains, grain, wholeWeight, weightGood, weightOf, patternFor, total, share, staying, leftOver, handed, weightsOf, handedOf}
+use Rattle.weights.specs.Weights.{grains, grain, wholeWeight, weightGood, weightOf, patternFor, total}
+use Rattle.weights.specs.Weights.{share, staying, leftOver, handed, weightsOf, handedOf}
 use Rattle.weights.specs.Table.{Weighed, WeightList, Accepted}
 use Rattle.weights.specs.Promise.{sumUnits, weightAt, positives, Stays, HandedOn}
 use Rattle.weights.specs.WeightLaws.{Fine, one-is, is-value, good-is, good-pattern, pattern-good, pattern-weight}

@@ -1,17 +1,48 @@
--- Shares rounded down, and what is left over: it is less than the number of clocks of positive weight, all of it goes, nobody gets more than one grain of it,
--- the lowest places come first, and the total is conserved. Weights are whole numbers here, in grains. Assumes nothing.
-use mathlib.Core.Path.{_≡_, refl, sym, ap, _∙_}
-use mathlib.Core.Logic.{_⊎_, inl, inr}
-use mathlib.Core.Bool.{Bool, true, false, cond, _||_}
+-- Shares rounded down, and what is left over: it is less than the number of clocks with weight, all of it goes, and a clock gets a grain of it where one is
+-- left after those before it. Weights are whole numbers here, in grains. Assumes nothing.
+use mathlib.Core.Path.{_≡_, refl, ap, _∙_}
+use mathlib.Core.Logic.{inl, inr}
 use mathlib.Core.List.{List, [], _∷_, map}
 use Prim.Native.Nat.{ℕ, zero, suc, _+_, _-_, _*_, _/_, _≤_, _<_}
-use native.Mathlib.Nat.{sub-zero, eq-zero-or-pos, div-mul-le-self, lt-div-mul-add, le-of-mul-le-mul-right, lt-of-mul-lt-mul-right}
+use native.Mathlib.Nat.{mul-zero, zero-div, sub-zero, eq-zero-or-pos, div-mul-le-self, lt-div-mul-add}
+use native.Mathlib.Nat.{mul-le-mul-left, mul-le-mul-right, le-of-mul-le-mul-right, lt-of-mul-lt-mul-right}
 use native.Mathlib.Omega.{arith}
-use borrow.Author.Tests.{eqb-true, eqb-false}
-use lib.Dec.{eqb}
-use lib.ListN.{length, take, getD, set}
-use Rattle.weights.specs.Weights.{total, share, gets, spread}
+use lib.ListN.{length, take, getD}
+use lib.Ieee.Nearest.{div-mono}
+use Rattle.weights.specs.Weights.{grains, total, share, gets, spread}
 use Rattle.weights.specs.Promise.{counts, positives}
+
+-- ---- rule V3: the part of w, rounded down
+pub share-down : (w k : ℕ) → w < grains → (share w k * (grains - w) ≤ w * k) × (w * k < share w k * (grains - w) + (grains - w))
+share-down w k h = (div-mul-le-self (w * k) (grains - w), lt-div-mul-add (omega arith))
+
+-- more weight, no smaller share; and of none none
+pub share-rises : (w k l : ℕ) → w < grains → k ≤ l → share w k ≤ share w l
+share-rises w k l d h = div-mono (w * k) (grains - w) (w * l) (grains - w) (omega arith) (omega arith) (mul-le-mul-right (grains - w) (mul-le-mul-left w h))
+
+pub share-none : (w : ℕ) → share w 0 ≡ 0
+share-none w = rw (mul-zero w) (zero-div (grains - w))
+
+-- ---- rule V4: of what is left a clock gets one grain at most
+pub gets-most : (left k : ℕ) → gets left k ≤ 1
+gets-most zero k = omega arith
+gets-most (suc left) zero = omega arith
+gets-most (suc left) (suc k) = omega arith
+
+-- one without weight none
+pub gets-none : (left k : ℕ) → k ≡ 0 → gets left k ≡ 0
+gets-none zero k e = refl
+gets-none (suc left) zero e = refl
+gets-none (suc left) (suc k) e = absurd (omega arith)
+
+-- where one is got of fewer, one is got of more too
+pub gets-more : (left more k l : ℕ) → left ≤ more → 0 < l → gets left k ≡ 1 → gets more l ≡ 1
+gets-more zero more k l h p e = absurd (omega arith)
+gets-more (suc left) zero k l h p e = absurd (omega arith)
+gets-more (suc left) (suc more) k zero h p e = absurd (omega arith)
+gets-more (suc left) (suc more) k (suc l) h p e = refl
+
+-- ---- who has weight
 
 -- where no clock has weight, the total is zero
 pub none-positive : (ks : List ℕ) → positives ks ≡ 0 → total ks ≡ 0

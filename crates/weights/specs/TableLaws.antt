@@ -1,22 +1,22 @@
 -- Handing on gives each answer exactly when its row says (rule O6), and so it is heard, with a place for 2, 3 and 14; a refusal leaves the area as it was; and
 -- two results that meet the contract are equal. Assumes nothing.
-use mathlib.Core.Path.{_≡_, refl, sym, ap, _∙_}
+use mathlib.Core.Path.{_≡_, refl, ap, _∙_}
 use mathlib.Core.Logic.{_⊎_, inl, inr, _↔_}
-use mathlib.Core.Bool.{Bool, true, not}
+use mathlib.Core.Bool.{true, not}
 use mathlib.Core.List.{List, map}
-use Prim.Native.Nat.{ℕ, _≤_, _<_}
+use Prim.Native.Nat.{ℕ, _≤_}
 use native.Mathlib.Decide.{ℕ-discrete}
 use native.Mathlib.Nat.{eq-zero-or-pos}
 use native.Mathlib.Omega.{arith}
 use borrow.Author.Tests.{eq-eqb, ne-eqb}
 use lib.Dec.{T, eqb, lit<}
-use lib.ListN.{length, getD}
+use lib.ListN.{length}
 use Rattle.units.specs.Powers.{le-or-lt}
 use Rattle.lists.specs.Apart.{apart}
 use Rattle.kinds.specs.Limits.{Width}
 use Rattle.kinds.specs.Heard.{Place, refused, Row, Refusal}
 use Rattle.kinds.specs.Hearing.{exactly, placed, at-place-0, hears}
-use Rattle.kinds.specs.Outcome.{Outcome, outcome}
+use Rattle.kinds.specs.Outcome.{outcome}
 use Rattle.kinds.specs.OutcomeLaws.{determined}
 use Rattle.kinds.specs.declared.Verdict.{Verdict}
 use Rattle.kinds.specs.declared.Verdict.the-variants as verdicts
@@ -24,8 +24,9 @@ use Rattle.judge.specs.Judge.{firstFault, judged}
 use Rattle.judge.specs.Table.{Allowed}
 use Rattle.judge.specs.FirstFaultLaws as faults
 use Rattle.judge.specs.JudgeLaws.{judged-1, judged-4, judged-passed}
-use Rattle.weights.specs.Weights.{grains, patternFor, total, staying, handed, badWeight, weightsOf, weighed, andThen, verdictOf, handedAfter, handedOf, handedHeard}
-use Rattle.weights.specs.Table.{Weighed, Fitting, WeightList, Other, Accepted, HandedWhen}
+use Rattle.weights.specs.Weights.{grains, patternFor, total, staying, handed, badWeight}
+use Rattle.weights.specs.Weights.{weightsOf, weighed, andThen, verdictOf, handedAfter, handedOf, handedHeard}
+use Rattle.weights.specs.Table.{Weighed, Fitting, WeightList, Accepted, HandedWhen}
 use Rattle.weights.specs.Table.{too-many, wrong-length, bad-number, bad-weight, other-total, no-place, nobody, shared}
 use Rattle.weights.specs.WeightLaws.{Fine, weighed-allowed}
 use Rattle.weights.specs.LoopLaws.{found, bad-at, bad-nowhere}

@@ -1,28 +1,28 @@
 -- Weights by their patterns: what a good one is in units, that the pattern of so many grains is a good weight of so many, that there is no other pattern of
 -- it, and which patterns are good. Assumes nothing.
 use mathlib.Core.Path.{_≡_, refl, sym, ap, _∙_}
-use mathlib.Core.Logic.{_⊎_, inl, inr, _↔_}
 use mathlib.Core.Bool.{Bool, true, false, not, _&&_}
 use mathlib.Core.List.{List}
-use Prim.Native.Nat.{ℕ, zero, suc, _+_, _-_, _*_, _/_, _%_, _^_, _≤_, _<_}
-use native.Mathlib.Nat.{le-trans, le-of-eq, lt-of-le-of-lt, mul-comm, mul-le-mul-right, mul-lt-mul-of-pos-right, mul-div-cancel, mul-mod-left, mod-eq-of-lt, div-add-mod', add-zero, div-le-of-le-mul}
+use Prim.Native.Nat.{ℕ, zero, suc, _+_, _-_, _*_, _%_, _^_, _≤_, _<_}
+use native.Mathlib.Nat.{le-trans, le-of-eq, lt-of-le-of-lt, mul-comm, mul-le-mul-right, mul-lt-mul-of-pos-right}
+use native.Mathlib.Nat.{mul-div-cancel, mul-mod-left, mod-eq-of-lt, div-add-mod', div-le-of-le-mul}
 use native.Mathlib.Omega.{arith}
 use borrow.Author.Tests.{leb-false, le-leb, eq-eqb, ne-eqb}
 use lib.Dec.{T, leb, eqb, leb→le, ltb→lt, eqb→eq}
 use lib.ListN.{length, getD}
-use lib.IntN.{ℤ, pos}
+use lib.IntN.{pos}
 use lib.Pow.{pow-pos, pow-mono, pow-lt}
 use lib.Ieee.{Float, Format, prec, emax, low, hid, ones, top, ofBits, toBits}
-use lib.Ieee.Fits.{two, reach, and-l, and-r, and-i, eq→eqb}
+use lib.Ieee.Fits.{reach, and-l, and-r}
 use lib.Ieee.Bits.{is-true, is-false, ofBits-fits, ofBits-toBits, toBits-ofBits}
 use lib.Ieee.Scale.{finite, overflow}
 use Rattle.units.specs.Rounding.{Short}
-use Rattle.units.specs.Powers.{pow-split, le-or-lt}
+use Rattle.units.specs.Powers.{pow-split}
 use Rattle.ieee.specs.Units.{Is, Number, negative, magnitude, signed, value, signOf, nearestFloat, patternUnits}
 use Rattle.ieee.specs.Finite.{is-units, is-finite, facts, finite-no-nan, same-float}
 use Rattle.ieee.specs.Rounded.{round-exact}
 use Rattle.ieee.specs.Overflow.{nearest-round, nearest-fits}
-use Rattle.ieee.specs.Pattern.{pattern-is, pattern-positive, pattern-finite, pattern-le, pattern-number}
+use Rattle.ieee.specs.Pattern.{pattern-is, pattern-positive, pattern-finite, pattern-le}
 use Rattle.ieee.specs.Exponent.{power-pattern}
 use Rattle.lists.specs.Apart.{apart}
 use Rattle.kinds.specs.Limits.{Width}
@@ -74,11 +74,16 @@ module _ (W : Width) (F : Fine W) where
 
   -- the patterns of 1 and of a grain
   pub one-units : patternUnits f (emax f * hid f) ≡ wholeWeight f
-  one-units = power-units (emax f) (emax f - 1) (low f) (omega (arith, reach f, F .digits)) (omega (arith, reach f, F .digits)) (omega (arith, reach f, F .digits))
+  one-units =
+      let d = F .digits in
+      let r = reach f in
+      power-units (emax f) (emax f - 1) (low f) (omega arith) (omega arith) (omega arith)
 
   pub grain-units : patternUnits f (fieldOfGrain f * hid f) ≡ grain f
   grain-units =
-      power-units (fieldOfGrain f) (low f - 30 - (prec f - 1)) (low f - 30) (omega arith) (omega (arith, F .deep, F .digits)) (omega (arith, F .deep, F .digits))
+      let d = F .digits in
+      let e = F .deep in
+      power-units (fieldOfGrain f) (low f - 30 - (prec f - 1)) (low f - 30) (omega arith) (omega arith) (omega arith)
 
   -- ---- so many grains as a float
   module _ (k : ℕ) (h : k ≤ grains) where
@@ -150,7 +155,9 @@ module _ (W : Width) (F : Fine W) where
         let C = leb (magnitude f y) (wholeWeight f) in
         let D = eqb (magnitude f y % grain f) 0 in
         let t : T (A && B && C && D) = rw g tt in
-        (and-l A B (and-l (A && B) C (and-l (A && B && C) D t)), and-r A B (and-l (A && B) C (and-l (A && B && C) D t)), and-r (A && B) C (and-l (A && B && C) D t), and-r (A && B && C) D t)
+        let c = and-l (A && B && C) D t in
+        let b = and-l (A && B) C c in
+        (and-l A B b, and-r A B b, and-r (A && B) C c, and-r (A && B && C) D t)
 
     good-number : Number f y
     good-number = record { fit = ofBits-fits f p; fini = tests .0 }

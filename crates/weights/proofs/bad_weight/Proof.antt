@@ -34,8 +34,8 @@ returns : tie.Need-returns Inv-loop μ-loop
 returns c =
     let g = c .before in
     let l = g .before .before .before in
-    sym
-    (bad-at doubles (l .before .before .args .list .now) (l .loop .i) (omega arith) (l .loop .inv .1) (sym (g .is-weight .ensures) ∙ not-true _ (c .if1 .taken)))
+    let none = sym (g .is-weight .ensures) ∙ not-true _ (c .if1 .taken) in
+    sym (bad-at doubles (l .before .before .args .list .now) (l .loop .i) (omega arith) (l .loop .inv .1) none)
 
 add-i : tie.Need-add-i Inv-loop μ-loop
 add-i c = search needs

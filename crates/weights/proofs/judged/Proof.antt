@@ -1,6 +1,6 @@
 -- `weights::judged` meets its contract: the list's own refusal comes first. Assumes nothing.
 use borrow.Author.Needs.{needs}
-use mathlib.Core.Path.{_≡_, sym, ap, _∙_}
+use mathlib.Core.Path.{sym, ap, _∙_}
 use mathlib.Core.Bool.{true}
 use Rattle.kinds.specs.Limits.{doubles}
 use Rattle.kinds.specs.declared.Verdict.{Verdict}

@@ -1,9 +1,9 @@
 -- `weights::total` meets its contract: the places passed and those to come add up to the total. Assumes nothing.
 use borrow.Author.Needs.{needs}
-use mathlib.Core.Path.{_≡_, refl}
+use mathlib.Core.Path.{_≡_}
 use Prim.Native.Nat.{_+_, _-_, _*_, _≤_, _<_}
 use native.Mathlib.Omega.{arith}
-use lib.ListN.{length, drop, getD, length-map}
+use lib.ListN.{length, drop, length-map}
 use Rattle.lists.specs.Front.{map-at}
 use Rattle.kinds.specs.Limits.{doubles}
 use Rattle.weights.specs.Weights.{grains, weightOf, weightsOf, total}

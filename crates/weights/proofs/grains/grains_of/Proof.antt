@@ -1,7 +1,6 @@
 -- `weights::grains::grains_of` meets its contract: the shift is from 22 to 52. Assumes nothing.
 use borrow.Author.Needs.{needs}
-use mathlib.Core.Path.{_≡_, sym}
-use Prim.Native.Nat.{_≤_}
+use mathlib.Core.Path.{sym}
 use native.Mathlib.Omega.{arith}
 use Rattle.kinds.specs.Limits.{doubles}
 use Rattle.weights.specs.WeightLaws.{below-most}

@@ -1,6 +1,6 @@
 -- `weights::grains::is_weight` meets its contract: a pattern up to that of 1 is a weight where its grains lead back to it. Assumes nothing.
 use borrow.Author.Needs.{needs}
-use mathlib.Core.Path.{_≡_, sym, ap, _∙_}
+use mathlib.Core.Path.{sym, ap, _∙_}
 use Prim.Native.Nat.{ℕ}
 use native.Mathlib.Omega.{arith}
 use lib.Dec.{eqb}

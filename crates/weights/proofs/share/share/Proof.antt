@@ -1,6 +1,5 @@
 -- `weights::share::share` meets its contract: the product is at most 2^60. Assumes nothing.
 use borrow.Author.Needs.{needs}
-use Prim.Native.Nat.{_*_, _^_, _≤_}
 use native.Mathlib.Nat.{le-trans, le-of-lt, mul-le-mul-left, mul-le-mul-right}
 use native.Mathlib.Omega.{arith}
 use Rattle.weights.specs.Weights.{grains}

@@ -1,9 +1,9 @@
 -- `weights::share::weight_at` meets its contract: the leaver's place holds 0, and any other its own weight. Assumes nothing.
 use borrow.Author.Needs.{needs}
-use mathlib.Core.Path.{_≡_, sym, ap, _∙_}
-use Prim.Native.Nat.{ℕ, _<_}
+use mathlib.Core.Path.{sym, _∙_}
+use Prim.Native.Nat.{_<_}
 use native.Mathlib.Omega.{arith}
-use lib.ListN.{length, getD, length-map}
+use lib.ListN.{length, length-map}
 use lib.Seq.{getD-set-same, getD-set-other}
 use Rattle.lists.specs.Front.{map-at}
 use Rattle.kinds.specs.Limits.{doubles}

@@ -1,13 +1,12 @@
 -- `weights::share::write` meets its contract: the places passed hold the new weights, and what is left goes to those to come. Assumes nothing.
 use borrow.Author.Needs.{needs}
-use mathlib.Core.Path.{_≡_, refl, sym, ap, _∙_}
+use mathlib.Core.Path.{_≡_, refl, ap, _∙_}
 use mathlib.Core.List.{List, map}
 use Prim.Native.Nat.{ℕ, zero, suc, _+_, _-_, _≤_, _<_}
-use native.Mathlib.Numerals.{add-one}
 use native.Mathlib.Omega.{arith}
-use lib.ListN.{length, getD, set, length-map, length-set}
+use lib.ListN.{length, getD, length-set}
 use Rattle.kinds.specs.Limits.{doubles}
-use Rattle.weights.specs.Weights.{grains, patternFor, weightOf, weightsOf, share, staying, gets, spread}
+use Rattle.weights.specs.Weights.{grains, patternFor, weightsOf, share, staying, gets, spread}
 use Rattle.weights.specs.LoopLaws.{staying-length, Written, written-small, written-next, written-end}
 use Rattle.weights.proofs.share.write.Statement.{statement}
 use Rattle.weights.proofs.share.write.Tie as tie
