@@ -24,7 +24,7 @@ use Rattle.weights.specs.FieldLaws.{fine-doubles}
 use Rattle.weights.specs.Instances.{one-64, promised-64}
 
 -- a number that isn't zero has its own sign, whatever sign a zero would have
-pub nearest-positive : (f : Format) (z y : Bool) (n : ℕ) → 0 < n → nearestFloat f z (pos n) ≡ nearestFloat f y (pos n)
+nearest-positive : (f : Format) (z y : Bool) (n : ℕ) → 0 < n → nearestFloat f z (pos n) ≡ nearestFloat f y (pos n)
 nearest-positive f z y zero h = absurd (omega arith)
 nearest-positive f z y (suc n) h = nearest-round f z (pos (suc n)) ∙ sym (nearest-round f y (pos (suc n)))
 
@@ -38,7 +38,7 @@ module _ (ps : List ℕ) (at : ℕ) (area : List ℕ) (A : Accepted doubles ps a
   P : HandedOn doubles ps at new
   P = promised-64 ps at area A
 
-  pub weights-conserved : sumOf (doubles .format) new ≡ sumOf (doubles .format) ps
+  pub weights-conserved : sumOf (doubles .format) (handedOf doubles ps at area .area) ≡ sumOf (doubles .format) ps
   weights-conserved = P .conserved
 
   listed : ListWhen doubles true true new Good
@@ -55,5 +55,5 @@ module _ (ps : List ℕ) (at : ℕ) (area : List ℕ) (A : Accepted doubles ps a
       (ap (nearestFloat f z) (e ∙ ap pos (sym (one-is doubles fine-doubles)))
       ∙ nearest-positive f z false (grains * grain f) (rw (one-is doubles fine-doubles) (pow-pos (low f))))
 
-  pub weights-nearest : nearestHeard doubles (nearestOf doubles new) ≡ nearest 0x3FF0000000000000
+  pub weights-nearest : nearestHeard doubles (nearestOf doubles (handedOf doubles ps at area .area)) ≡ nearest 0x3FF0000000000000
   weights-nearest = nearest-promised new listed .0 ∙ ap nearest (one-pattern (zeroSign new) (sumOf (doubles .format) new) (P .whole) ∙ one-64)

@@ -75,7 +75,7 @@ module _ (W : Width) (F : Fine W) where
       small : getD new i 0 ≤ grains
       small = omega (arith, at-most-total new i in-new, sum)
 
-      pub new-weight : weightAt W qs i ≡ getD new i 0
+      new-weight : weightAt W qs i ≡ getD new i 0
       new-weight = ap (weightOf W) pattern-at ∙ pattern-weight W F (getD new i 0) small
 
       good-at : weightGood W (getD qs i 0) ≡ true

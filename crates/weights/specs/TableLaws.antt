@@ -15,6 +15,7 @@ use Rattle.units.specs.Powers.{le-or-lt}
 use Rattle.lists.specs.Apart.{apart}
 use Rattle.kinds.specs.Limits.{Width}
 use Rattle.kinds.specs.Heard.{Place, refused, Row, Refusal}
+use Rattle.kinds.specs.HeardLaws.{verdict-heard}
 use Rattle.kinds.specs.Hearing.{exactly, placed, at-place-0, hears}
 use Rattle.kinds.specs.Outcome.{outcome}
 use Rattle.kinds.specs.OutcomeLaws.{determined}
@@ -38,6 +39,13 @@ use Rattle.weights.specs.declared.Handed.the-variants.{Shared, Refused}
 abbrev answerFor : Verdict → Handed
 answerFor verdicts.Good = Shared
 answerFor (verdicts.Refused k i) = Refused k i
+
+-- two answers of which the same is heard are the same
+pub answer-heard : (a b : Handed) → handedHeard a ≡ handedHeard b → a ≡ b
+answer-heard Shared Shared e = refl
+answer-heard Shared (Refused l q) e = apart (cc)
+answer-heard (Refused k p) Shared e = apart (cc)
+answer-heard (Refused k p) (Refused l q) e = ap answerFor (verdict-heard (verdicts.Refused k p) (verdicts.Refused l q) e)
 
 module _ (W : Width) (F : Fine W) (ps : List ℕ) (at : ℕ) (area : List ℕ) where
   answered : (v : Verdict) → handedAfter W v ps at area .answer ≡ answerFor v
