@@ -12,7 +12,7 @@ use Rattle.lists.specs.Front.{map-at}
 use Rattle.kinds.specs.Limits.{Width}
 use Rattle.weights.specs.Weights.{grains, grain, wholeWeight, weightGood, weightOf, patternFor, total}
 use Rattle.weights.specs.Weights.{share, staying, leftOver, handed, weightsOf, handedOf}
-use Rattle.weights.specs.Table.{Weighed, WeightList, Accepted}
+use Rattle.weights.specs.Table.{Weighed, WeightList, Other, Accepted}
 use Rattle.weights.specs.Promise.{sumUnits, weightAt, positives, Stays, HandedOn}
 use Rattle.weights.specs.WeightLaws.{Fine, one-is, is-value, good-is, good-pattern, pattern-good, pattern-weight}
 use Rattle.weights.specs.FieldLaws.{pattern-zero}
@@ -154,6 +154,19 @@ module _ (W : Width) (F : Fine W) where
       near = near;
       in-order = in-order;
     }
+
+    -- it can be handed on again, by any clock, as long as another has weight
+    again : {next : ℕ} {room : List ℕ} → length room ≡ length ps → next < length ps → Other W qs next → Accepted W qs next room
+    again r h O = record {
+      fitting = record { few = rw new-length (A .fitting .few); room = rw new-length r };
+      list = new-list;
+      inside = rw new-length h;
+      other = O;
+    }
+
+    pub handed-again : {next : ℕ} {room : List ℕ} → length room ≡ length ps → next < length ps → Other W (handedOf W ps at area .area) next
+        → Accepted W (handedOf W ps at area .area) next room
+    handed-again = rw (accepted-hands W F ps at area A) again
 
     -- what the call leaves in the area
     pub handed-promised : HandedOn W ps at (handedOf W ps at area .area)
