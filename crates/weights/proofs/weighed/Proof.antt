@@ -7,7 +7,7 @@ use lib.ListN.{length, getD, length-map}
 use Rattle.lists.specs.Front.{map-at}
 use Rattle.kinds.specs.Limits.{doubles}
 use Rattle.kinds.specs.declared.Verdict.the-variants.{Refused}
-use Rattle.weights.specs.Weights.{badWeight, weightOf, weightsOf, total, staying}
+use Rattle.weights.specs.Weights.{grains, badWeight, weightOf, weightsOf, total, staying}
 use Rattle.weights.specs.WeightLaws.{good-below}
 use Rattle.weights.specs.FieldLaws.{fine-doubles}
 use Rattle.weights.specs.GrainLaws.{split}
@@ -39,14 +39,14 @@ returns-2 : tie.Need-returns-2
 returns-2 c =
     let t = c .before in
     let a = t .before .before .before .before .args in
-    sym (weighed-15 doubles (a .list .now) (a .leaver) (none (t .before)) (λ e. c .if2 .taken (t .total .ensures ∙ e)))
+    sym (weighed-15 doubles (a .list .now) (a .leaver) (none (t .before)) (λ e. omega (arith, t .total .ensures, c .if2 .taken, e)))
 
 returns-3 : tie.Need-returns-3
 returns-3 c =
     let e = c .before in
     let t = e .before in
     let a = t .before .before .before .before .args in
-    sym (weighed-16 doubles (a .list .now) (a .leaver) (none (t .before)) (sym (t .total .ensures) ∙ e .if2 .left) (omega arith))
+    sym (weighed-16 doubles (a .list .now) (a .leaver) (none (t .before)) (omega (arith, t .total .ensures, e .if2 .left)) (omega arith))
 
 mul-grains-of : tie.Need-mul-grains-of
 mul-grains-of c = search needs
@@ -77,7 +77,7 @@ returns-4 c =
     let e = c .before .before .before .before in
     let t = e .before in
     let a = t .before .before .before .before .args in
-    let s = sym (t .total .ensures) ∙ e .if2 .left in
+    let s : total (weightsOf doubles (a .list .now)) ≡ grains = omega (arith, t .total .ensures, e .if2 .left) in
     sym (weighed-17 doubles (a .list .now) (a .leaver) (none (t .before)) s (omega arith) (omega (arith, parts (c .before), s, c .if4 .taken)))
 
 returns-5 : tie.Need-returns-5
@@ -85,7 +85,7 @@ returns-5 c =
     let e = c .before .before .before .before in
     let t = e .before in
     let a = t .before .before .before .before .args in
-    let s = sym (t .total .ensures) ∙ e .if2 .left in
+    let s : total (weightsOf doubles (a .list .now)) ≡ grains = omega (arith, t .total .ensures, e .if2 .left) in
     sym
     (weighed-good doubles (a .list .now) (a .leaver) (none (t .before)) s (omega arith)
     (λ o. c .if4 .left (omega (arith, parts (c .before), s, o))))
