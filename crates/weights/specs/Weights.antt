@@ -54,7 +54,7 @@ share w k = w * k / (grains - w)
 abbrev pub staying : ℕ → List ℕ → List ℕ
 staying at ks = set ks at 0
 
--- ---- rule V4: what is left over, and one grain of it each to clocks of positive weight, lowest place first
+-- ---- rule V4: what the shares leave of w; what a clock of k grains gets where so many are left; and the new weights from the lowest place up
 abbrev pub leftOver : ℕ → List ℕ → ℕ
 leftOver w ks = w - total (map (share w) ks)
 

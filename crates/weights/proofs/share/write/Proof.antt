@@ -85,7 +85,9 @@ one-left (suc left) zero = omega arith
 one-left (suc left) (suc k) = omega arith
 
 sub-rest : tie.Need-sub-rest Inv-loop μ-loop
-sub-rest c = rw (c .before .before .gets .ensures) (one-left _ _)
+sub-rest c =
+    let k = c .before .before .before .weight-at .result in
+    omega (arith, c .before .before .gets .ensures, one-left (c .before .before .before .before .before .loop .rest) k)
 
 add-i : tie.Need-add-i Inv-loop μ-loop
 add-i c = search needs
@@ -99,7 +101,7 @@ loop-again c =
     let l = t .before in
     let v = c .pattern .ensures ∙ ap (patternFor doubles) (new (c .before)) in
     let g = c .before .before .gets .ensures ∙ ap (gets (l .loop .rest)) (c .before .before .before .weight-at .ensures .0) in
-    (length-set (l .loop .out) (l .loop .i) _ ∙ l .loop .inv .0, omega arith, rw (v, g) (written-next (l .loop .inv .2) (inside t .0) (inside t .1)))
+    (length-set (l .loop .out) (l .loop .i) _ ∙ l .loop .inv .0, omega arith, rw (← v, ← g) at (written-next (l .loop .inv .2) (inside t .0) (inside t .1)))
 
 same-length : tie.Need-same-length Inv-loop μ-loop
 same-length c = search needs
