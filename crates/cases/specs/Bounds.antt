@@ -1,19 +1,20 @@
 -- Calls at the scope's bounds, beyond its twelve cases: a table of the same kind. Definitions only. The limits are written once, in the definition of a
--- width; these rows hold it to the scope's numbers. Patterns: 2^8 is 4070000000000000, 64 4050000000000000, 1 3FF0000000000000, 2^-60 3C30000000000000.
+-- width; these rows hold it to the scope's numbers. Patterns: 2^8 is 4070000000000000, 64 4050000000000000, 1 3FF0000000000000, 2^-60 3C30000000000000,
+-- 2 4000000000000000, 2^100 4630000000000000.
 use mathlib.Core.Bool.{true, false}
 use mathlib.Core.List.{List, [], _∷_, _++_}
 use Prim.Native.Nat.{ℕ, _+_, _^_}
 use lib.ListN.{replicate}
 use Rattle.kinds.specs.Outcome.{outcome}
-use Rattle.kinds.specs.Heard.{nowhere, at, refused, more, done, parts}
-use Rattle.cases.specs.Calls.{Given, Case, beforehand, opening, step, faithfulSum, sumInParts}
+use Rattle.kinds.specs.Heard.{nowhere, at, refused, more, done, nearest, parts, count}
+use Rattle.cases.specs.Calls.{Given, Case, beforehand, opening, step, faithfulSum, nearestSum, sumInParts, round, sheet}
 
--- a state with t = tau = +0; one with a given t
+-- a state with t = tau = +0; one with a given t and tau
 abbrev opened : ℕ → ℕ → ℕ → Given
 opened n pending rounds = record { sigma = 0x4070000000000000; t = 0; tau = 0; n = n; pending = pending; rounds = rounds }
 
-abbrev carrying : ℕ → Given
-carrying t = record { sigma = 0x4070000000000000; t = t; tau = 0; n = 1; pending = 1; rounds = 0 }
+abbrev carrying : ℕ → ℕ → Given
+carrying t tau = record { sigma = 0x4070000000000000; t = t; tau = tau; n = 1; pending = 1; rounds = 0 }
 
 -- 62 zeros behind two numbers, and a block of 2^-107; the area behind 1 and 2^-53 before them; a state in that list's first round
 abbrev tiny : List ℕ
@@ -35,11 +36,19 @@ bounds =
     ∷ record { call = step (opened 1 1 51) (0x3C30000000000000 ∷ []) 0; expected = outcome (refused 8 nowhere) (0x3C30000000000000 ∷ []) }
     -- rule WS7
     ∷ record {
-      call = step (carrying 0x7F30000000000000) (0x3FF0000000000000 ∷ []) 0;
+      call = step (carrying 0x7F30000000000000 0) (0x3FF0000000000000 ∷ []) 0;
       expected = outcome (done 0x7F30000000000000 1) (0 ∷ []);
     }
     ∷ record {
-      call = step (carrying 0x7F30000000000001) (0x3FF0000000000000 ∷ []) 0;
+      call = step (carrying 0x7F30000000000001 0) (0x3FF0000000000000 ∷ []) 0;
+      expected = outcome (refused 8 nowhere) (0x3FF0000000000000 ∷ []);
+    }
+    ∷ record {
+      call = step (carrying 0 0xFF30000000000000) (0x3FF0000000000000 ∷ []) 0;
+      expected = outcome (done 0xFF30000000000000 1) (0 ∷ []);
+    }
+    ∷ record {
+      call = step (carrying 0 0xFF30000000000001) (0x3FF0000000000000 ∷ []) 0;
       expected = outcome (refused 8 nowhere) (0x3FF0000000000000 ∷ []);
     }
     -- rule WS3: the last of 64 blocks; and one number more, in an area of that length
@@ -84,6 +93,11 @@ bounds =
       call = faithfulSum (0x3FF0000000000000 ∷ 0x3CA0000000000000 ∷ 0x3950000000000000 ∷ 0x3950000000000000 ∷ []);
       expected = outcome (done 0x3FF0000000000000 1) (0 ∷ 0x3CA0000000000000 ∷ 0x3950000000000000 ∷ 0x3950000000000000 ∷ []);
     }
+    -- tau2 of rule W3: in the second round t is 2^-45 and tau 2^-98, which their sum loses; with 2^-104 left it makes the sum one place more
+    ∷ record {
+      call = faithfulSum (0x3FF0000000000000 ∷ 0xBFEFFFFFFFFFFF00 ∷ 0x39D0000000000000 ∷ 0x3970000000000000 ∷ []);
+      expected = outcome (done 0x3D20000000000001 2) (0 ∷ 0 ∷ 0 ∷ 0x3970000000000000 ∷ []);
+    }
     -- one step below the second test, and above the first: sigma is 4 with t' = 31·2^-51, and 2^-1021 with t' one unit
     ∷ record {
       call = faithfulSum (0x3FF0000000000000 ∷ 0xBFEFFFFFFFFFFF84 ∷ []);
@@ -115,6 +129,20 @@ bounds =
     ∷ record { call = faithfulSum (replicate 4095 0); expected = outcome (refused 1 nowhere) (replicate 4095 beforehand) }
     -- rule L10: a part too few for 2^-53, and the flag says so
     ∷ record { call = sumInParts (0x3FF0000000000000 ∷ 0x3CA0000000000000 ∷ []) 1; expected = outcome (parts false) (0x3FF0000000000000 ∷ []) }
+    -- rule S5: one unit that is left over is enough for the flag
+    ∷ record { call = sumInParts (0x3FF0000000000000 ∷ 1 ∷ []) 1; expected = outcome (parts false) (0x3FF0000000000000 ∷ []) }
+    -- rules L2 and S3: numbers of both signs; a zero that is negative; a register of zeros
+    ∷ record {
+      call = nearestSum (0x4630000000000000 ∷ 0x3FF0000000000000 ∷ 0xC630000000000000 ∷ []);
+      expected = outcome (nearest 0x3FF0000000000000) [];
+    }
+    ∷ record { call = nearestSum (0x8000000000000000 ∷ []); expected = outcome (nearest 0) [] }
+    ∷ record { call = round (replicate 33 0); expected = outcome (nearest 0) [] }
+    -- rules H1 to H3: two numbers, in an area of three places
+    ∷ record {
+      call = sheet (1 ∷ 0 ∷ 0 ∷ 0 ∷ 2 ∷ (0x3F ∷ 0xF0 ∷ replicate 6 0) ++ (0x40 ∷ replicate 7 0)) 3;
+      expected = outcome (count 2) (0x3FF0000000000000 ∷ 0x4000000000000000 ∷ beforehand ∷ []);
+    }
     -- rules L10 and R5
     ∷ record { call = sumInParts [] 0; expected = outcome (refused 5 nowhere) [] }
     ∷ record { call = sumInParts [] 8; expected = outcome (parts true) (replicate 8 0) }
