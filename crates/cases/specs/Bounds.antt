@@ -3,7 +3,7 @@
 -- 2 4000000000000000, 2^100 4630000000000000.
 use mathlib.Core.Bool.{true, false}
 use mathlib.Core.List.{List, [], _∷_, _++_}
-use Prim.Native.Nat.{ℕ, _+_, _^_}
+use Prim.Native.Nat.{ℕ, _+_, _-_, _^_}
 use lib.ListN.{replicate}
 use Rattle.kinds.specs.Outcome.{outcome}
 use Rattle.kinds.specs.Heard.{nowhere, at, refused, more, done, nearest, parts, count}
@@ -125,7 +125,13 @@ bounds =
     }
     ∷ record { call = step (opened 64 1 0) (replicate 64 0) 1; expected = outcome (refused 6 nowhere) (replicate 64 0) }
     ∷ record { call = step (opened 64 3 0) (replicate 64 0) 0; expected = outcome (refused 8 nowhere) (replicate 64 0) }
-    -- rule L3
+    -- rule L7: M is 3 for three numbers, the first power of two that isn't below 5
+    ∷ record {
+      call = opening (replicate 3 0x3FF0000000000000);
+      expected = outcome (more 0x4020000000000000 0 0 3 1 0) (replicate 3 0x3FF0000000000000);
+    }
+    -- rules L4 and R1
+    ∷ record { call = nearestSum (replicate 4094 0); expected = outcome (nearest 0) [] }
     ∷ record { call = faithfulSum (replicate 4095 0); expected = outcome (refused 1 nowhere) (replicate 4095 beforehand) }
     -- rule L10: a part too few for 2^-53, and the flag says so
     ∷ record { call = sumInParts (0x3FF0000000000000 ∷ 0x3CA0000000000000 ∷ []) 1; expected = outcome (parts false) (0x3FF0000000000000 ∷ []) }
@@ -138,6 +144,8 @@ bounds =
     }
     ∷ record { call = nearestSum (0x8000000000000000 ∷ []); expected = outcome (nearest 0) [] }
     ∷ record { call = round (replicate 33 0); expected = outcome (nearest 0) [] }
+    -- rules L11 and G4: -1 unit
+    ∷ record { call = round (replicate 33 (2 ^ 64 - 1)); expected = outcome (nearest 0x8000000000000001) [] }
     -- rules H1 to H3: two numbers, in an area of three places
     ∷ record {
       call = sheet (1 ∷ 0 ∷ 0 ∷ 0 ∷ 2 ∷ (0x3F ∷ 0xF0 ∷ replicate 6 0) ++ (0x40 ∷ replicate 7 0)) 3;
