@@ -78,6 +78,8 @@ bounds =
       expected = outcome (more 0x7E90000000000000 0 0 2 1 0) (0x7E70000000000000 ∷ 0xFE70000000000000 ∷ []);
     }
     ∷ record { call = opening (0 ∷ 0xFE70000000000001 ∷ []); expected = outcome (refused 3 (at 1)) (beforehand ∷ beforehand ∷ []) }
+    -- rule WO3: mu of a list without a positive number
+    ∷ record { call = faithfulSum (0xBFF0000000000000 ∷ []); expected = outcome (done 0xBFF0000000000000 1) (0 ∷ []) }
     -- rule W3's second test: t' is 2^-46 at sigma = 4 and M = 2, and that is enough
     ∷ record {
       call = faithfulSum (0x3FF0000000000000 ∷ 0xBFEFFFFFFFFFFF80 ∷ []);
