@@ -9,12 +9,15 @@ use Rattle.kinds.specs.Outcome.{outcome}
 use Rattle.kinds.specs.Heard.{nowhere, at, refused, more, done, nearest, parts, count}
 use Rattle.cases.specs.Calls.{Given, Case, beforehand, opening, step, faithfulSum, nearestSum, sumInParts, round, sheet}
 
--- a state with t = tau = +0; one with a given t and tau
+-- a state with t = tau = +0; one with a given t and tau, and one with a given sigma, of one number
 abbrev opened : ℕ → ℕ → ℕ → Given
 opened n pending rounds = record { sigma = 0x4070000000000000; t = 0; tau = 0; n = n; pending = pending; rounds = rounds }
 
 abbrev carrying : ℕ → ℕ → Given
 carrying t tau = record { sigma = 0x4070000000000000; t = t; tau = tau; n = 1; pending = 1; rounds = 0 }
+
+abbrev sized : ℕ → Given
+sized sigma = record { sigma = sigma; t = 0; tau = 0; n = 1; pending = 1; rounds = 0 }
 
 -- 62 zeros behind two numbers, and a block of 2^-107; the area behind 1 and 2^-53 before them; a state in that list's first round
 abbrev tiny : List ℕ
@@ -51,7 +54,32 @@ bounds =
       call = step (carrying 0 0xFF30000000000001) (0x3FF0000000000000 ∷ []) 0;
       expected = outcome (refused 8 nowhere) (0x3FF0000000000000 ∷ []);
     }
-    -- rule WS3: the last of 64 blocks; and one number more, in an area of that length
+    -- rule WS6, where M is 2: 4 units and 2^1002 are the ends, 2 units and 2^1003 beyond them; 384 is no power of two, and -256 isn't positive
+    ∷ record { call = step (sized 4) (1 ∷ []) 0; expected = outcome (done 1 1) (0 ∷ []) }
+    ∷ record { call = step (sized 2) (0 ∷ []) 0; expected = outcome (refused 8 nowhere) (0 ∷ []) }
+    ∷ record { call = step (sized 0x7E90000000000000) (0 ∷ []) 0; expected = outcome (done 0 1) (0 ∷ []) }
+    ∷ record { call = step (sized 0x7EA0000000000000) (0 ∷ []) 0; expected = outcome (refused 8 nowhere) (0 ∷ []) }
+    ∷ record { call = step (sized 0x4078000000000000) (0 ∷ []) 0; expected = outcome (refused 8 nowhere) (0 ∷ []) }
+    ∷ record { call = step (sized 0xC070000000000000) (0 ∷ []) 0; expected = outcome (refused 8 nowhere) (0 ∷ []) }
+    -- rule WS8: -64 is 2^-M sigma, and the number below it and an infinity are too large; the second place counts too
+    ∷ record {
+      call = step (opened 1 1 0) (0xC050000000000000 ∷ []) 0;
+      expected = outcome (done 0xC050000000000000 1) (0 ∷ []);
+    }
+    ∷ record {
+      call = step (opened 1 1 0) (0xC050000000000001 ∷ []) 0;
+      expected = outcome (refused 8 nowhere) (0xC050000000000001 ∷ []);
+    }
+    ∷ record {
+      call = step (opened 1 1 0) (0x7FF0000000000000 ∷ []) 0;
+      expected = outcome (refused 8 nowhere) (0x7FF0000000000000 ∷ []);
+    }
+    ∷ record {
+      call = step (opened 2 1 0) (0 ∷ 0x4050000000000001 ∷ []) 0;
+      expected = outcome (refused 8 nowhere) (0 ∷ 0x4050000000000001 ∷ []);
+    }
+    -- rule WS3: no number at all; the last of 64 blocks; and one number more, in an area of that length
+    ∷ record { call = step (opened 0 1 0) [] 0; expected = outcome (refused 8 nowhere) [] }
     ∷ record {
       call = step (opened 4094 (2 ^ 63 + 1) 0) (replicate 4094 0) 63;
       expected = outcome (more 0x4070000000000000 0 0 4094 1 0) (replicate 4094 0);
