@@ -184,5 +184,5 @@ bounds =
     -- rules L10 and R5
     ∷ record { call = sumInParts [] 0; expected = outcome (refused 5 nowhere) [] }
     ∷ record { call = sumInParts [] 8; expected = outcome (parts true) (replicate 8 0) }
-    ∷ record { call = sumInParts [] 9; expected = outcome (refused 5 nowhere) (replicate 9 0) }
+    ∷ record { call = sumInParts [] 9; expected = outcome (refused 5 nowhere) (replicate 9 beforehand) }
     ∷ []
