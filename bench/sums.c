@@ -44,9 +44,12 @@ double opening(const struct list *l)
 /* blocks in rising order */
 double by_blocks(const struct list *l)
 {
+    size_t last = (l->n + 63) / 64 - 1, block = 0;
     uint32_t code = kewohiata_walk_open(l->patterns, l->n, work, l->n, values, STATE);
-    while (code == 0 && values[KEWOHIATA_STATE_KIND] == KEWOHIATA_MORE)
-        code = kewohiata_walk_step(values, STATE, work, l->n, (size_t)__builtin_ctzll(values[KEWOHIATA_STATE_PENDING]));
+    while (code == 0 && values[KEWOHIATA_STATE_KIND] == KEWOHIATA_MORE) {
+        code = kewohiata_walk_step(values, STATE, work, l->n, block);
+        block = block == last ? 0 : block + 1;
+    }
     return kewohiata_double(code == 0 ? values[KEWOHIATA_DONE_SUM] : UINT64_MAX);
 }
 

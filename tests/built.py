@@ -7,8 +7,8 @@ import hashlib
 import os
 import time
 
+import archive
 import kit
-import native
 from command import Trouble, say
 
 ROOT = os.path.dirname(os.path.dirname(os.path.abspath(__file__)))
@@ -17,17 +17,23 @@ PARTS = ("src", "specs", "proofs", "stdin", "stdout", "args", "data")  # of a cr
 
 
 class Made:
-    """A file that `rt` makes of a crate, by these words; or that is made with it by a function of the file's path, which answers a status."""
+    """A file that a function of its path makes of crates, and answers a status; the words tell how. What the crates are is asked when it is needed; the
+    file may need another one first."""
 
-    def __init__(self, path, crate, words, by=None):
-        self.path, self.crate, self.name = os.path.join(ROOT, path), crate, path
-        self.command, self.by = f"'rt {' '.join(words)}'", by or (lambda _: kit.rt(*words))
-        self.mark = os.path.join(PLACE, os.path.basename(path))
+    def __init__(self, path, crates, words, by, after=None):
+        self.path, self.name, self.crates, self.after = os.path.join(ROOT, path), path, crates, after
+        self.command, self.by = f"'rt {words}'", by
+        self.mark = os.path.join(PLACE, path.replace(os.sep, "-"))
 
 
-SHEET_PROGRAM = Made("target/bin/sum_sheet", "sum_sheet", ("check", "sum_sheet"))
-ARCHIVE = Made("target/staticlib/libexports.a", "exports", ("staticlib", "exports"))
-NATIVE = Made("target/native/libkewohiata.a", "exports", ("staticlib", "exports"), lambda path: native.archive("exports", path))
+def calls():
+    """The crates whose functions have names of C: those are called so."""
+    return [name for name in needs() if name.endswith("_calls")]
+
+
+SHEET_PROGRAM = Made("target/bin/sum_sheet", lambda: ["sum_sheet"], "check sum_sheet", lambda _: kit.rt("check", "sum_sheet"))
+ARCHIVE = Made("target/staticlib/libkewohiata.a", calls, "staticlib", lambda path: archive.kits(path, calls()))
+NATIVE = Made("target/native/libkewohiata.a", calls, "staticlib", lambda path: archive.natives(path, calls()), ARCHIVE)
 
 
 # ---- the sources
@@ -38,9 +44,9 @@ def needs():
     return {line[0].strip(): line[1].split() for line in lines if len(line) == 2}
 
 
-def reached(crate):
-    """The crate and all below it, with what each takes."""
-    listed, found, todo = needs(), {}, [crate]
+def reached(crates):
+    """The crates and all below them, with what each takes."""
+    listed, found, todo = needs(), {}, list(crates)
     while todo:
         name = todo.pop()
         if name in listed and name not in found:
@@ -49,9 +55,9 @@ def reached(crate):
     return found
 
 
-def sources(crate):
-    """Every file and folder of the crate and of those below it."""
-    for name in sorted(reached(crate)):
+def sources(crates):
+    """Every file and folder of the crates and of those below them."""
+    for name in sorted(reached(crates)):
         for part in PARTS:
             top = os.path.join(ROOT, "crates", name, part)
             if os.path.isfile(top):
@@ -69,9 +75,9 @@ def content(path):
 
 def digest(made):
     """Of the kit, of what crates.txt says, and of the files' names and contents."""
-    summed = hashlib.sha256(repr(sorted(reached(made.crate).items())).encode())
+    summed = hashlib.sha256(repr(sorted(reached(made.crates()).items())).encode())
     identity = os.path.join(kit.home(), "KIT-ID")
-    for path in ([identity] if os.path.exists(identity) else []) + [path for path in sources(made.crate) if os.path.isfile(path)]:
+    for path in ([identity] if os.path.exists(identity) else []) + [path for path in sources(made.crates()) if os.path.isfile(path)]:
         data = content(path)
         summed.update(f"{os.path.relpath(path, ROOT) if path != identity else 'KIT-ID'} {len(data)}\n".encode() + data)
     return summed.hexdigest()
@@ -89,7 +95,7 @@ def stale(made):
         return f"{made.name} is missing"
     if os.path.exists(made.mark):
         return None if content(made.mark) == marked(made, digest(made)) else f"sources have changed since {made.name} was built"
-    newest = max(map(os.path.getmtime, [os.path.join(ROOT, "crates.txt"), *sources(made.crate)]))
+    newest = max(map(os.path.getmtime, [os.path.join(ROOT, "crates.txt"), *sources(made.crates())]))
     return f"sources are newer than {made.name}" if newest > os.path.getmtime(made.path) else None
 
 
@@ -113,9 +119,9 @@ def rebuild(made, why):
     say(f"{why}: {made.command} proves and builds it, which takes minutes where nothing is proved yet")
     began, summed = time.monotonic(), digest(made)  # of the sources before: what changes while they are proved is seen next time
     if not os.path.exists(made.path):
-        stamp = os.path.join(ROOT, "target", "stamp", made.crate)
-        if os.path.exists(stamp):  # by which `rt` would take the missing file for unchanged
-            os.remove(stamp)
+        for stamp in (os.path.join(ROOT, "target", "stamp", name) for name in made.crates()):
+            if os.path.exists(stamp):  # by which `rt` would take the missing file for unchanged
+                os.remove(stamp)
     status = made.by(made.path)
     if status or not os.path.exists(made.path):
         raise Trouble(f"{made.command} ended with status {status} and {made.name} is not built")
@@ -126,6 +132,8 @@ def rebuild(made, why):
 
 def need(made):
     """The path of the file, which is built first where it isn't of the sources."""
+    if made.after:
+        need(made.after)
     if stale(made):
         with lock():
             why = stale(made)  # another command may have built it since

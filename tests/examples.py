@@ -5,7 +5,7 @@
 
 In a block marked console, a line with a dollar is a command and the lines behind it are what it prints. A block marked sh has commands alone, which have to
 succeed; scripts/test, which runs this, isn't run again, nor a compiler that isn't there. A block marked python is run too, and the block marked text behind it
-is what it prints; a block marked c is compiled. Needs what `rt check sum_sheet` and `rt staticlib exports` build, and builds it where it is missing.
+is what it prints; a block marked c is compiled. Needs what `rt check sum_sheet` and `rt staticlib` build, and builds it where it is missing.
 """
 import os
 import re

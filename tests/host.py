@@ -27,12 +27,12 @@ HERE = os.path.dirname(os.path.abspath(__file__))
 ROOT = os.path.dirname(HERE)
 sys.dont_write_bytecode = True
 sys.path[:0] = [HERE, os.path.join(HERE, "host")]
+import archive  # noqa: E402
 import built  # noqa: E402
 import calls  # noqa: E402
 import drawn  # noqa: E402
 import fixed  # noqa: E402
 import kit  # noqa: E402
-import native  # noqa: E402
 
 PLACE = os.path.join(ROOT, "target", "host")
 LISTS = 20000
@@ -84,7 +84,7 @@ def native_driver():
     for name in ("driver", "alone"):
         objects.append(os.path.join(PLACE, f"native-{name}.o"))
         words = ["-std=gnu99", "-O2", "-Wall", "-Wextra", "-Werror", "-ffreestanding", "-fno-builtin", "-fPIC", "-I", kit.INCLUDE, "-isystem", kit.HEADERS]
-        run(kit.clang(), f"--target={native.target()}", *words, "-c", source(name), "-o", objects[-1])
+        run(kit.clang(), f"--target={archive.target()}", *words, "-c", source(name), "-o", objects[-1])
     run(os.path.join(kit.toolchain(), "bin", "ld.lld"), "-static", *objects, built.need(built.NATIVE), "-o", made)
     return [made]
 

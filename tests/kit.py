@@ -42,13 +42,14 @@ def c_commands(source, archives, program, *more):
     yield [link, "--target", TARGET, "--toolchain", toolchain(), "-o", program, made, *archives]
 
 
-def rt(*words):
+def rt(*words, **environment):
     """Runs rt at the repository's root, with its own lines on standard error, but for those on crates that it needn't prove again; all that it says where it
-    fails. Answers its status."""
+    fails. Answers its status. The environment gains what is named."""
     said = []
     root = os.path.dirname(INCLUDE)
     home()  # without a kit that can be told in a better line than that there is no such file
-    with subprocess.Popen(["rt", *words], cwd=root, stdin=subprocess.DEVNULL, stdout=subprocess.PIPE, stderr=subprocess.STDOUT) as process:
+    with subprocess.Popen(["rt", *words], cwd=root, stdin=subprocess.DEVNULL, stdout=subprocess.PIPE, stderr=subprocess.STDOUT,
+                          env={**os.environ, **environment}) as process:
         for line in process.stdout:
             line = line.decode(errors="replace")
             said.append(line)

@@ -11,7 +11,7 @@ ghost use Rattle.kinds.specs.Limits.{doubles};
 ghost use Rattle.kinds.specs.Outcome.{outcome};
 ghost use Rattle.kinds.specs.Heard.{stepHeard};
 ghost use Rattle.walk.specs.Walk.{faithfulOf};
-ghost use Rattle.calls.specs.Calls.{sumBytes, answered, summed, own, faithfulHeard, faithfulCall};
+ghost use Rattle.calls.specs.Calls.{sumBytes, answered, summed, own, faithfulHeard};
 ghost use Rattle.calls.specs.Inner.{Listed};
 
 // Of numbers: what is answered goes to the 16 bytes.
@@ -41,7 +41,7 @@ fn within(list: &[u8], numbers: &mut [u64], work: &mut [f64], out: &mut [u8]) ->
 }
 
 // An array's length is part of its type and there are no generics over it: so one function for each length, in both files. Up to 64 numbers.
-fn short(list: &[u8], out: &mut [u8]) -> u32
+pub fn short(list: &[u8], out: &mut [u8]) -> u32
     requires { ⌜ Listed 64 (length (now list)) × (length (now out) ≡ sumBytes) ⌝ }
     ensures { λ r. ⌜ outcome r (now (out .exit)) ≡ summed faithfulHeard (now (list .entry)) (now (out .entry)) ⌝ }
 {
@@ -52,7 +52,7 @@ fn short(list: &[u8], out: &mut [u8]) -> u32
 }
 
 // Up to 512.
-fn middle(list: &[u8], out: &mut [u8]) -> u32
+pub fn middle(list: &[u8], out: &mut [u8]) -> u32
     requires { ⌜ Listed 512 (length (now list)) × (length (now out) ≡ sumBytes) ⌝ }
     ensures { λ r. ⌜ outcome r (now (out .exit)) ≡ summed faithfulHeard (now (list .entry)) (now (out .entry)) ⌝ }
 {
@@ -63,7 +63,7 @@ fn middle(list: &[u8], out: &mut [u8]) -> u32
 }
 
 // Every list.
-fn long(list: &[u8], out: &mut [u8]) -> u32
+pub fn long(list: &[u8], out: &mut [u8]) -> u32
     requires { ⌜ Listed (doubles .length) (length (now list)) × (length (now out) ≡ sumBytes) ⌝ }
     ensures { λ r. ⌜ outcome r (now (out .exit)) ≡ summed faithfulHeard (now (list .entry)) (now (out .entry)) ⌝ }
 {
@@ -71,22 +71,4 @@ fn long(list: &[u8], out: &mut [u8]) -> u32
     let mut numbers = [0u64; Doubles::LENGTH];
     let mut work = [0f64; Doubles::LENGTH];
     within(list, &mut numbers[..n], &mut work[..n], out)
-}
-
-// In the shortest of them that holds the list, where the lengths are right.
-pub fn faithful(list: &[u8], out: &mut [u8]) -> u32
-    ensures { λ r. ⌜ outcome r (now (out .exit)) ≡ faithfulCall (now (list .entry)) (now (out .entry)) ⌝ }
-{
-    let fault = calls::lengths(list, out);
-    if fault != 0 {
-        return fault;
-    }
-    let n = list.len() / SIZE;
-    if n <= 64 {
-        return short(list, out);
-    }
-    if n <= 512 {
-        return middle(list, out);
-    }
-    long(list, out)
 }

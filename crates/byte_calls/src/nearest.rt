@@ -8,7 +8,7 @@ ghost use Prim.Native.Nat.{_*_};
 ghost use lib.ListN.{length};
 ghost use Rattle.kinds.specs.Limits.{doubles};
 ghost use Rattle.kinds.specs.Outcome.{outcome};
-ghost use Rattle.calls.specs.Calls.{sumBytes, answered, summed, sumHeard, nearestCall};
+ghost use Rattle.calls.specs.Calls.{sumBytes, answered, summed, sumHeard};
 ghost use Rattle.calls.specs.Inner.{Listed};
 
 // Of numbers: what is answered goes to the 16 bytes.
@@ -35,7 +35,7 @@ fn within(list: &[u8], numbers: &mut [u64], out: &mut [u8]) -> u32
 }
 
 // Three functions as there, since no generics go over an array's length. Up to 64 numbers.
-fn short(list: &[u8], out: &mut [u8]) -> u32
+pub fn short(list: &[u8], out: &mut [u8]) -> u32
     requires { ⌜ Listed 64 (length (now list)) × (length (now out) ≡ sumBytes) ⌝ }
     ensures { λ r. ⌜ outcome r (now (out .exit)) ≡ summed sumHeard (now (list .entry)) (now (out .entry)) ⌝ }
 {
@@ -45,7 +45,7 @@ fn short(list: &[u8], out: &mut [u8]) -> u32
 }
 
 // Up to 512.
-fn middle(list: &[u8], out: &mut [u8]) -> u32
+pub fn middle(list: &[u8], out: &mut [u8]) -> u32
     requires { ⌜ Listed 512 (length (now list)) × (length (now out) ≡ sumBytes) ⌝ }
     ensures { λ r. ⌜ outcome r (now (out .exit)) ≡ summed sumHeard (now (list .entry)) (now (out .entry)) ⌝ }
 {
@@ -55,29 +55,11 @@ fn middle(list: &[u8], out: &mut [u8]) -> u32
 }
 
 // Every list.
-fn long(list: &[u8], out: &mut [u8]) -> u32
+pub fn long(list: &[u8], out: &mut [u8]) -> u32
     requires { ⌜ Listed (doubles .length) (length (now list)) × (length (now out) ≡ sumBytes) ⌝ }
     ensures { λ r. ⌜ outcome r (now (out .exit)) ≡ summed sumHeard (now (list .entry)) (now (out .entry)) ⌝ }
 {
     let n = list.len() / SIZE;
     let mut numbers = [0u64; Doubles::LENGTH];
     within(list, &mut numbers[..n], out)
-}
-
-// In the shortest of them that holds the list, where the lengths are right.
-pub fn nearest(list: &[u8], out: &mut [u8]) -> u32
-    ensures { λ r. ⌜ outcome r (now (out .exit)) ≡ nearestCall (now (list .entry)) (now (out .entry)) ⌝ }
-{
-    let fault = calls::lengths(list, out);
-    if fault != 0 {
-        return fault;
-    }
-    let n = list.len() / SIZE;
-    if n <= 64 {
-        return short(list, out);
-    }
-    if n <= 512 {
-        return middle(list, out);
-    }
-    long(list, out)
 }

@@ -1,19 +1,23 @@
 -- Calls at the scope's bounds, beyond its twelve cases: a table of the same kind. Definitions only. The limits are written once, in the definition of a
--- width; these rows hold it to the scope's numbers. Patterns: 2^8 is 4070000000000000, 64 4050000000000000, 1 3FF0000000000000, 2^-60 3C30000000000000.
+-- width; these rows hold it to the scope's numbers. Patterns: 2^8 is 4070000000000000, 64 4050000000000000, 1 3FF0000000000000, 2^-60 3C30000000000000,
+-- 2 4000000000000000, 2^100 4630000000000000.
 use mathlib.Core.Bool.{true, false}
 use mathlib.Core.List.{List, [], _∷_, _++_}
-use Prim.Native.Nat.{ℕ, _+_, _^_}
+use Prim.Native.Nat.{ℕ, _+_, _-_, _^_}
 use lib.ListN.{replicate}
 use Rattle.kinds.specs.Outcome.{outcome}
-use Rattle.kinds.specs.Heard.{nowhere, at, refused, more, done, parts, accepted}
-use Rattle.cases.specs.Calls.{Given, Case, beforehand, opening, step, faithfulSum, sumInParts, handOn}
+use Rattle.kinds.specs.Heard.{nowhere, at, refused, more, done, nearest, parts, accepted, count}
+use Rattle.cases.specs.Calls.{Given, Case, beforehand, opening, step, faithfulSum, nearestSum, sumInParts, round, sheet, handOn}
 
--- a state with t = tau = +0; one with a given t
+-- a state with t = tau = +0; one with a given t and tau, and one with a given sigma, of one number
 abbrev opened : ℕ → ℕ → ℕ → Given
 opened n pending rounds = record { sigma = 0x4070000000000000; t = 0; tau = 0; n = n; pending = pending; rounds = rounds }
 
-abbrev carrying : ℕ → Given
-carrying t = record { sigma = 0x4070000000000000; t = t; tau = 0; n = 1; pending = 1; rounds = 0 }
+abbrev carrying : ℕ → ℕ → Given
+carrying t tau = record { sigma = 0x4070000000000000; t = t; tau = tau; n = 1; pending = 1; rounds = 0 }
+
+abbrev sized : ℕ → Given
+sized sigma = record { sigma = sigma; t = 0; tau = 0; n = 1; pending = 1; rounds = 0 }
 
 -- 62 zeros behind two numbers, and a block of 2^-107; the area behind 1 and 2^-53 before them; a state in that list's first round
 abbrev tiny : List ℕ
@@ -35,14 +39,47 @@ bounds =
     ∷ record { call = step (opened 1 1 51) (0x3C30000000000000 ∷ []) 0; expected = outcome (refused 8 nowhere) (0x3C30000000000000 ∷ []) }
     -- rule WS7
     ∷ record {
-      call = step (carrying 0x7F30000000000000) (0x3FF0000000000000 ∷ []) 0;
+      call = step (carrying 0x7F30000000000000 0) (0x3FF0000000000000 ∷ []) 0;
       expected = outcome (done 0x7F30000000000000 1) (0 ∷ []);
     }
     ∷ record {
-      call = step (carrying 0x7F30000000000001) (0x3FF0000000000000 ∷ []) 0;
+      call = step (carrying 0x7F30000000000001 0) (0x3FF0000000000000 ∷ []) 0;
       expected = outcome (refused 8 nowhere) (0x3FF0000000000000 ∷ []);
     }
-    -- rule WS3: the last of 64 blocks; and one number more, in an area of that length
+    ∷ record {
+      call = step (carrying 0 0xFF30000000000000) (0x3FF0000000000000 ∷ []) 0;
+      expected = outcome (done 0xFF30000000000000 1) (0 ∷ []);
+    }
+    ∷ record {
+      call = step (carrying 0 0xFF30000000000001) (0x3FF0000000000000 ∷ []) 0;
+      expected = outcome (refused 8 nowhere) (0x3FF0000000000000 ∷ []);
+    }
+    -- rule WS6, where M is 2: 4 units and 2^1002 are the ends, 2 units and 2^1003 beyond them; 384 is no power of two, and -256 isn't positive
+    ∷ record { call = step (sized 4) (1 ∷ []) 0; expected = outcome (done 1 1) (0 ∷ []) }
+    ∷ record { call = step (sized 2) (0 ∷ []) 0; expected = outcome (refused 8 nowhere) (0 ∷ []) }
+    ∷ record { call = step (sized 0x7E90000000000000) (0 ∷ []) 0; expected = outcome (done 0 1) (0 ∷ []) }
+    ∷ record { call = step (sized 0x7EA0000000000000) (0 ∷ []) 0; expected = outcome (refused 8 nowhere) (0 ∷ []) }
+    ∷ record { call = step (sized 0x4078000000000000) (0 ∷ []) 0; expected = outcome (refused 8 nowhere) (0 ∷ []) }
+    ∷ record { call = step (sized 0xC070000000000000) (0 ∷ []) 0; expected = outcome (refused 8 nowhere) (0 ∷ []) }
+    -- rule WS8: -64 is 2^-M sigma, and the number below it and an infinity are too large; the second place counts too
+    ∷ record {
+      call = step (opened 1 1 0) (0xC050000000000000 ∷ []) 0;
+      expected = outcome (done 0xC050000000000000 1) (0 ∷ []);
+    }
+    ∷ record {
+      call = step (opened 1 1 0) (0xC050000000000001 ∷ []) 0;
+      expected = outcome (refused 8 nowhere) (0xC050000000000001 ∷ []);
+    }
+    ∷ record {
+      call = step (opened 1 1 0) (0x7FF0000000000000 ∷ []) 0;
+      expected = outcome (refused 8 nowhere) (0x7FF0000000000000 ∷ []);
+    }
+    ∷ record {
+      call = step (opened 2 1 0) (0 ∷ 0x4050000000000001 ∷ []) 0;
+      expected = outcome (refused 8 nowhere) (0 ∷ 0x4050000000000001 ∷ []);
+    }
+    -- rule WS3: no number at all; the last of 64 blocks; and one number more, in an area of that length
+    ∷ record { call = step (opened 0 1 0) [] 0; expected = outcome (refused 8 nowhere) [] }
     ∷ record {
       call = step (opened 4094 (2 ^ 63 + 1) 0) (replicate 4094 0) 63;
       expected = outcome (more 0x4070000000000000 0 0 4094 1 0) (replicate 4094 0);
@@ -69,6 +106,8 @@ bounds =
       expected = outcome (more 0x7E90000000000000 0 0 2 1 0) (0x7E70000000000000 ∷ 0xFE70000000000000 ∷ []);
     }
     ∷ record { call = opening (0 ∷ 0xFE70000000000001 ∷ []); expected = outcome (refused 3 (at 1)) (beforehand ∷ beforehand ∷ []) }
+    -- rule WO3: mu of a list without a positive number
+    ∷ record { call = faithfulSum (0xBFF0000000000000 ∷ []); expected = outcome (done 0xBFF0000000000000 1) (0 ∷ []) }
     -- rule W3's second test: t' is 2^-46 at sigma = 4 and M = 2, and that is enough
     ∷ record {
       call = faithfulSum (0x3FF0000000000000 ∷ 0xBFEFFFFFFFFFFF80 ∷ []);
@@ -83,6 +122,11 @@ bounds =
     ∷ record {
       call = faithfulSum (0x3FF0000000000000 ∷ 0x3CA0000000000000 ∷ 0x3950000000000000 ∷ 0x3950000000000000 ∷ []);
       expected = outcome (done 0x3FF0000000000000 1) (0 ∷ 0x3CA0000000000000 ∷ 0x3950000000000000 ∷ 0x3950000000000000 ∷ []);
+    }
+    -- tau2 of rule W3: in the second round t is 2^-45 and tau 2^-98, which their sum loses; with 2^-104 left it makes the sum one place more
+    ∷ record {
+      call = faithfulSum (0x3FF0000000000000 ∷ 0xBFEFFFFFFFFFFF00 ∷ 0x39D0000000000000 ∷ 0x3970000000000000 ∷ []);
+      expected = outcome (done 0x3D20000000000001 2) (0 ∷ 0 ∷ 0 ∷ 0x3970000000000000 ∷ []);
     }
     -- one step below the second test, and above the first: sigma is 4 with t' = 31·2^-51, and 2^-1021 with t' one unit
     ∷ record {
@@ -111,14 +155,36 @@ bounds =
     }
     ∷ record { call = step (opened 64 1 0) (replicate 64 0) 1; expected = outcome (refused 6 nowhere) (replicate 64 0) }
     ∷ record { call = step (opened 64 3 0) (replicate 64 0) 0; expected = outcome (refused 8 nowhere) (replicate 64 0) }
-    -- rule L3
+    -- rule L7: M is 3 for three numbers, the first power of two that isn't below 5
+    ∷ record {
+      call = opening (replicate 3 0x3FF0000000000000);
+      expected = outcome (more 0x4020000000000000 0 0 3 1 0) (replicate 3 0x3FF0000000000000);
+    }
+    -- rules L4 and R1
+    ∷ record { call = nearestSum (replicate 4094 0); expected = outcome (nearest 0) [] }
     ∷ record { call = faithfulSum (replicate 4095 0); expected = outcome (refused 1 nowhere) (replicate 4095 beforehand) }
     -- rule L10: a part too few for 2^-53, and the flag says so
     ∷ record { call = sumInParts (0x3FF0000000000000 ∷ 0x3CA0000000000000 ∷ []) 1; expected = outcome (parts false) (0x3FF0000000000000 ∷ []) }
+    -- rule S5: one unit that is left over is enough for the flag
+    ∷ record { call = sumInParts (0x3FF0000000000000 ∷ 1 ∷ []) 1; expected = outcome (parts false) (0x3FF0000000000000 ∷ []) }
+    -- rules L2 and S3: numbers of both signs; a zero that is negative; a register of zeros
+    ∷ record {
+      call = nearestSum (0x4630000000000000 ∷ 0x3FF0000000000000 ∷ 0xC630000000000000 ∷ []);
+      expected = outcome (nearest 0x3FF0000000000000) [];
+    }
+    ∷ record { call = nearestSum (0x8000000000000000 ∷ []); expected = outcome (nearest 0) [] }
+    ∷ record { call = round (replicate 33 0); expected = outcome (nearest 0) [] }
+    -- rules L11 and G4: -1 unit
+    ∷ record { call = round (replicate 33 (2 ^ 64 - 1)); expected = outcome (nearest 0x8000000000000001) [] }
+    -- rules H1 to H3: two numbers, in an area of three places
+    ∷ record {
+      call = sheet (1 ∷ 0 ∷ 0 ∷ 0 ∷ 2 ∷ (0x3F ∷ 0xF0 ∷ replicate 6 0) ++ (0x40 ∷ replicate 7 0)) 3;
+      expected = outcome (count 2) (0x3FF0000000000000 ∷ 0x4000000000000000 ∷ beforehand ∷ []);
+    }
     -- rules L10 and R5
     ∷ record { call = sumInParts [] 0; expected = outcome (refused 5 nowhere) [] }
     ∷ record { call = sumInParts [] 8; expected = outcome (parts true) (replicate 8 0) }
-    ∷ record { call = sumInParts [] 9; expected = outcome (refused 5 nowhere) (replicate 9 0) }
+    ∷ record { call = sumInParts [] 9; expected = outcome (refused 5 nowhere) (replicate 9 beforehand) }
     -- rules V3 and V5: 1/2, 1/4 and 1/4, without the first
     ∷ record {
       call = handOn (0x3FE0000000000000 ∷ 0x3FD0000000000000 ∷ 0x3FD0000000000000 ∷ []) 0 3;

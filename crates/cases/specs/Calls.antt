@@ -14,7 +14,7 @@ use Rattle.sums.specs.Sums.{nearestOf, partsOf}
 use Rattle.sheet.specs.Sheet.{readOf}
 use Rattle.weights.specs.Weights.{handedOf, handedHeard}
 
--- what a work area holds before the call, at each place: 1.5, a number that is in no list and no answer of the table
+-- what an area holds before the call, at each place: 1.5, a number that is in no list and no answer of the table
 abbrev pub beforehand : ℕ
 beforehand = 0x3FF8000000000000
 
@@ -34,7 +34,7 @@ pub data Call : Type 0 where
   -- the opening of a list's walk; a step at a block, of a state with its work area
   opening : List ℕ → Call
   step : Given → List ℕ → ℕ → Call
-  -- the nearest sum of a list; its sum in k parts, from an area of zeros
+  -- the nearest sum of a list; its sum in k parts
   nearestSum : List ℕ → Call
   sumInParts : List ℕ → ℕ → Call
   -- a register's words, and the pattern of the number to add or to withdraw; rounding them
@@ -62,7 +62,7 @@ resultOf (step s ps b) =
     walkResult (stepped doubles given b (map (ofBits binary64) ps))
 resultOf (nearestSum ps) = outcome (nearestHeard doubles (nearestOf doubles ps)) []
 resultOf (sumInParts ps k) =
-    let s = partsOf doubles ps (replicate k (ofBits binary64 0)) in
+    let s = partsOf doubles ps (replicate k (ofBits binary64 beforehand)) in
     outcome (partedHeard (s .answer)) (map (toBits binary64) (s .area))
 resultOf (add ws p) = outcome (entryHeard (added ws p .answer)) (added ws p .area)
 resultOf (withdraw ws p) = outcome (entryHeard (withdrawn ws p .answer)) (withdrawn ws p .area)

@@ -26,7 +26,7 @@ faults =
     ∷ record { call = faithfulWithin (0x7FF0000000000000 ∷ []) 0; expected = outcome (refused 4 nowhere) [] }
     ∷ record { call = faithfulWithin (0x7E70000000000001 ∷ []) 2; expected = outcome (refused 4 nowhere) (beforehand ∷ beforehand ∷ []) }
     ∷ record { call = sumInParts (0xFFF8000000000000 ∷ []) 0; expected = outcome (refused 5 nowhere) [] }
-    ∷ record { call = sumInParts (0x7E70000000000001 ∷ []) 9; expected = outcome (refused 5 nowhere) (replicate 9 0) }
+    ∷ record { call = sumInParts (0x7E70000000000001 ∷ []) 9; expected = outcome (refused 5 nowhere) (replicate 9 beforehand) }
     -- and among numbers the first place, whichever of 2 and 3 it has
     ∷ record { call = nearestSum (0x7E70000000000001 ∷ 0x7FF0000000000000 ∷ []); expected = outcome (refused 3 (at 0)) [] }
     ∷ record { call = nearestSum (0 ∷ 0xFFF8000000000000 ∷ 0x7E70000000000001 ∷ []); expected = outcome (refused 2 (at 1)) [] }
@@ -45,13 +45,13 @@ faults =
     ∷ record { call = round (greatest ++ (0 ∷ [])); expected = outcome (refused 4 nowhere) [] }
     ∷ record { call = round greatest; expected = outcome (refused 10 nowhere) [] }
     -- rule O5: 11 of the header before 12; 12 before 1; 1 before the numbers' 11; that and 13 before 4
-    ∷ record { call = sheet (2 ∷ 0 ∷ 0 ∷ 0 ∷ []) 0; expected = outcome (refused 11 nowhere) [] }
-    ∷ record { call = sheet (2 ∷ 0 ∷ 0 ∷ 15 ∷ 255 ∷ []) 0; expected = outcome (refused 12 nowhere) [] }
-    ∷ record { call = sheet (1 ∷ 0 ∷ 0 ∷ 15 ∷ 255 ∷ []) 0; expected = outcome (refused 1 nowhere) [] }
-    ∷ record { call = sheet (1 ∷ 0 ∷ 0 ∷ 0 ∷ 1 ∷ []) 0; expected = outcome (refused 11 nowhere) [] }
-    ∷ record { call = sheet (1 ∷ 0 ∷ 0 ∷ 0 ∷ 0 ∷ 0 ∷ []) 0; expected = outcome (refused 13 nowhere) [] }
-    ∷ record { call = sheet (1 ∷ 0 ∷ 0 ∷ 0 ∷ 1 ∷ replicate 9 0) 0; expected = outcome (refused 13 nowhere) [] }
-    ∷ record { call = sheet (1 ∷ 0 ∷ 0 ∷ 0 ∷ 1 ∷ replicate 8 0) 0; expected = outcome (refused 4 nowhere) [] }
+    ∷ record { call = sheet (2 ∷ 0 ∷ 0 ∷ 0 ∷ []) 1; expected = outcome (refused 11 nowhere) (beforehand ∷ []) }
+    ∷ record { call = sheet (2 ∷ 0 ∷ 0 ∷ 15 ∷ 255 ∷ []) 1; expected = outcome (refused 12 nowhere) (beforehand ∷ []) }
+    ∷ record { call = sheet (1 ∷ 0 ∷ 0 ∷ 15 ∷ 255 ∷ []) 1; expected = outcome (refused 1 nowhere) (beforehand ∷ []) }
+    ∷ record { call = sheet (1 ∷ 0 ∷ 0 ∷ 0 ∷ 2 ∷ []) 1; expected = outcome (refused 11 nowhere) (beforehand ∷ []) }
+    ∷ record { call = sheet (1 ∷ 0 ∷ 0 ∷ 0 ∷ 0 ∷ 0 ∷ []) 1; expected = outcome (refused 13 nowhere) (beforehand ∷ []) }
+    ∷ record { call = sheet (1 ∷ 0 ∷ 0 ∷ 0 ∷ 2 ∷ replicate 17 0) 1; expected = outcome (refused 13 nowhere) (beforehand ∷ []) }
+    ∷ record { call = sheet (1 ∷ 0 ∷ 0 ∷ 0 ∷ 2 ∷ replicate 16 0) 1; expected = outcome (refused 4 nowhere) (beforehand ∷ []) }
     -- rule O7: 1 before 4; 4 before a bad number; that, at any place, before 14; 14 before 15; 15 before 16 and 17, also of no weight at all
     ∷ record { call = handOn (0x7FF0000000000000 ∷ replicate 4094 0) 0 0; expected = outcome (refused 1 nowhere) [] }
     ∷ record { call = handOn (0xFFF8000000000000 ∷ []) 0 0; expected = outcome (refused 4 nowhere) [] }

@@ -22,6 +22,7 @@ use Rattle.sums.specs.Sums as S
 use Rattle.weights.specs.Weights as H
 use Rattle.kinds.specs.Outcome.{outcome}
 use Rattle.kinds.specs.Heard.{nowhere, at, Heard, refused, more, done, nearest, parts, accepted, count}
+use Rattle.octets.specs.Octets.{eights}
 use Rattle.sheet.specs.Sheet.{readOf}
 use Rattle.cases.specs.Calls.{Result, Case, resultOf}
 use Rattle.cases.specs.Table.{table}
@@ -126,7 +127,7 @@ computed-bounds : every bounds ≡ true
 unfolding
     every bounds judged firstFault faultOf W.openedAfter W.steppedAfter W.taken W.rising W.roundsFrom R.turned R.fresh R.scaled R.finished R.closedBy
     N.soundSigma N.atMost N.soundNumbers N.soundPending N.badPlace N.sound N.gated remainders gathered lastSum largest powerOf ceil
-    S.partsAfter S.parts signed residue nearestFloat value
+    S.nearestAfter S.partsAfter S.parts rounded number signed residue nearestFloat value readOf eights
     H.weightGood H.weightOf H.patternFor H.total H.spread H.badWeight H.weighed H.handedAfter
     ofBits toBits add sub mul le eq
 computed-bounds = refl

@@ -1,7 +1,8 @@
--- The scope's twelve sums and registers, calls at its bounds, and calls with two faults.
+-- The scope's twelve sums and registers, calls at its bounds, calls with two faults, and calls from C.
 pub mod Calls
 pub mod Table
 pub mod Bounds
 pub mod Faults
+pub mod FromC
 pub mod Holds
 pub mod Example

@@ -1,4 +1,4 @@
--- Lines of rules P4 and P5, computed: `refused 11`, `refused 3 at 1`, and the three lines of the example. Assumes nothing.
+-- Lines of rules P4 and P5, computed: `refused 11`, `refused 3 at 1`, the three lines of the example, and those of two sums that differ. Assumes nothing.
 use mathlib.Core.Path.{_≡_, refl}
 use mathlib.Core.List.{List, [], _∷_, _++_}
 use Prim.Native.Nat.{ℕ}
@@ -39,3 +39,15 @@ exampleLines =
 pub three-lines : countLine 3 ++ faithfulLine 0x3FF0000000000000 2 ++ nearestLine 0x3FF0000000000000 ≡ exampleLines
 unfolding countLine faithfulLine nearestLine decimalIn capitalsOf
 three-lines = refl
+
+-- ---- two sums that differ: `count 3`, `faithful 3FF0000000000000 rounds 1`, `nearest 3FF0000000000001`
+abbrev pub unequalLines : List ℕ
+unequalLines =
+    99 ∷ 111 ∷ 117 ∷ 110 ∷ 116 ∷ 32 ∷ 51 ∷ 10
+    ∷ 102 ∷ 97 ∷ 105 ∷ 116 ∷ 104 ∷ 102 ∷ 117 ∷ 108 ∷ 32 ∷ 51 ∷ 70 ∷ 70 ∷ 48 ∷ 48 ∷ 48 ∷ 48 ∷ 48 ∷ 48 ∷ 48 ∷ 48 ∷ 48 ∷ 48 ∷ 48 ∷ 48 ∷ 48
+    ∷ 32 ∷ 114 ∷ 111 ∷ 117 ∷ 110 ∷ 100 ∷ 115 ∷ 32 ∷ 49 ∷ 10
+    ∷ 110 ∷ 101 ∷ 97 ∷ 114 ∷ 101 ∷ 115 ∷ 116 ∷ 32 ∷ 51 ∷ 70 ∷ 70 ∷ 48 ∷ 48 ∷ 48 ∷ 48 ∷ 48 ∷ 48 ∷ 48 ∷ 48 ∷ 48 ∷ 48 ∷ 48 ∷ 48 ∷ 49 ∷ 10 ∷ []
+
+pub unequal-lines : countLine 3 ++ faithfulLine 0x3FF0000000000000 1 ++ nearestLine 0x3FF0000000000001 ≡ unequalLines
+unfolding countLine faithfulLine nearestLine decimalIn capitalsOf
+unequal-lines = refl

@@ -1,0 +1,4 @@
+-- The sum of a list in parts, for C.
+pub mod PartArrays
+pub mod PartArraysLaws
+pub mod PartCodes

@@ -1,0 +1,4 @@
+-- A sheet, for C.
+pub mod SheetArrays
+pub mod SheetArraysLaws
+pub mod SheetCodes

@@ -1,0 +1,69 @@
+-- Exactly when each code of an opening and of a step is returned, and 0; any two results that meet a contract are equal, the code and every array; and another
+-- code than 0 leaves every array as it was. Assumes nothing.
+use mathlib.Core.Path.{_≡_, refl, ap}
+use mathlib.Core.List.{List}
+use Prim.Native.Nat.{ℕ}
+use native.Mathlib.Omega.{arith}
+use lib.Dec.{eqb}
+use lib.Ieee.{Float}
+use lib.ListN.{length}
+use Rattle.kinds.specs.Limits.{doubles}
+use Rattle.kinds.specs.Heard.{Heard, stepHeard}
+use Rattle.kinds.specs.Hearing.{step-is}
+use Rattle.kinds.specs.declared.State.{State}
+use Rattle.kinds.specs.declared.Step.the-variants as steps
+use Rattle.kinds.specs.declared.Verdict.the-variants as verdicts
+use Rattle.walk.specs.Walk.{opened, stepped}
+use Rattle.demands.specs.Tables.{StepWhen, wrong-length, not-sound, no-block, taken-before}
+use Rattle.demands.specs.Hearing.{open-heard, step-heard}
+use Rattle.demands.specs.Refusals as refusals
+use Rattle.arrays.specs.Arrays.{codeOf, Returned, returned, tooManyOr4}
+use Rattle.arrays.specs.Codes.{Coded, Left}
+use Rattle.arrays.specs.CodesLaws.{coded, codeIn, list-some, list-nonzero, refused-code, call-left, returned-determined}
+use Rattle.step_calls.specs.StepArrays.{walkNumbers, walkValues, stateIn, openArrays, stepArrays}
+use Rattle.step_calls.specs.StepArraysLaws.{open-other, open-walked, step-other, step-walked}
+
+-- ---- exactly when
+step-some : {s : State} {b : ℕ} {work : List Float} {k i : ℕ} → StepWhen doubles s b work (verdicts.Refused k i) → k ≡ 0 → ⊥
+step-some (wrong-length l) z = omega arith
+step-some (not-sound l s) z = omega arith
+step-some (no-block l s b) z = omega arith
+step-some (taken-before l s b t) z = omega arith
+
+module _ (ps : List ℕ) (work : List Float) (numbers : List ℕ) where
+  pub open-coded : Coded walkNumbers (length numbers) (tooManyOr4 ps) (stepHeard doubles (opened doubles ps work .answer)) (openArrays ps work numbers .code)
+  open-coded = coded walkNumbers (length numbers) (tooManyOr4 ps) (stepHeard doubles (opened doubles ps work .answer))
+      (λ l. ap codeIn (open-walked ps work numbers l)) (λ l. ap codeIn (open-other ps work numbers l))
+      (λ p e. list-some (open-heard ps work 0 p .0 e .1) refl) (list-nonzero ps)
+
+module _ (numbers : List ℕ) (work : List Float) (b : ℕ) where
+  pub step-coded : Coded walkNumbers (length numbers) 4 (stepHeard doubles (stepped doubles (stateIn numbers) b work .answer)) (stepArrays numbers work b .code)
+  step-coded = coded walkNumbers (length numbers) 4 (stepHeard doubles (stepped doubles (stateIn numbers) b work .answer))
+      (λ l. ap codeIn (step-walked numbers work b l)) (λ l. ap codeIn (step-other numbers work b l))
+      (λ p e. step-some (step-heard (stateIn numbers) b work 0 p .0 e .1) refl) (λ z. omega arith)
+
+-- ---- determined
+module _ {r q : ℕ} {xs ys : List Float} {us vs : List ℕ} where
+  pub open-determined : (ps : List ℕ) (work : List Float) (numbers : List ℕ)
+      → returned r xs us ≡ openArrays ps work numbers → returned q ys vs ≡ openArrays ps work numbers → (r ≡ q) × (xs ≡ ys) × (us ≡ vs)
+  open-determined ps work numbers = returned-determined (openArrays ps work numbers)
+
+  pub step-determined : (numbers : List ℕ) (work : List Float) (b : ℕ)
+      → returned r xs us ≡ stepArrays numbers work b → returned q ys vs ≡ stepArrays numbers work b → (r ≡ q) × (xs ≡ ys) × (us ≡ vs)
+  step-determined numbers work b = returned-determined (stepArrays numbers work b)
+
+-- ---- what a refusal leaves
+walk-left : (h : Heard) (before : List ℕ) → (codeOf h ≡ 0 → ⊥) → walkValues h before ≡ before
+walk-left h before n = let r = refused-code h n in ap (λ (x : Heard). walkValues x before) (r .2)
+
+module _ (ps : List ℕ) (work : List Float) (values : List ℕ) where
+  pub open-left : (openArrays ps work values .code ≡ 0 → ⊥) → Left (openArrays ps work values) work values
+  unfolding openArrays
+  open-left = call-left (stepHeard doubles) steps.Refused (step-is doubles) (opened doubles ps work) work (refusals.open-leaves ps work)
+      walkValues values walk-left
+      (eqb (length values) walkNumbers) (tooManyOr4 ps)
+
+pub step-left : (values : List ℕ) (work : List Float) (b : ℕ) → (stepArrays values work b .code ≡ 0 → ⊥) → Left (stepArrays values work b) work values
+unfolding stepArrays
+step-left values work b = call-left (stepHeard doubles) steps.Refused (step-is doubles) (stepped doubles (stateIn values) b work) work
+    (refusals.step-leaves (stateIn values) b work) walkValues values walk-left (eqb (length values) walkNumbers) 4

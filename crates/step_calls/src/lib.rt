@@ -1,0 +1,35 @@
+// The walk by blocks, for C: a state is ten numbers (rule C11).
+use numbers::NUMBERS;
+ghost use mathlib.Core.Path.{_≡_};
+ghost use Rattle.arrays.specs.Arrays.{returned};
+ghost use Rattle.step_calls.specs.StepArrays.{openArrays, stepArrays};
+
+mod numbers;
+
+// Opens the walk of a list, as `walk::open` does. The state is ten numbers.
+#[no_mangle]
+pub extern "C" fn kewohiata_walk_open(list: &[u64], work: &mut [f64], state: &mut [u64]) -> u32
+    ensures { λ r. ⌜ returned r (now (work .exit)) (now (state .exit)) ≡ openArrays (now (list .entry)) (now (work .entry)) (now (state .entry)) ⌝ }
+{
+    if state.len() != NUMBERS {
+        return arrays::lengths::too_many_or_4(list);
+    }
+    numbers::told(walk::open(list, work), state)
+}
+
+// Takes one block of a walk, as `walk::step` does. Numbers that are no state's are 8, after 4.
+#[no_mangle]
+pub extern "C" fn kewohiata_walk_step(state: &mut [u64], work: &mut [f64], block: usize) -> u32
+    ensures { λ r. ⌜ returned r (now (work .exit)) (now (state .exit)) ≡ stepArrays (now (state .entry)) (now (work .entry)) block ⌝ }
+{
+    if state.len() != NUMBERS {
+        return 4;
+    }
+    if numbers::readable(state) {
+        return numbers::told(walk::step(numbers::state(state), work, block), state);
+    }
+    if work.len() != state[4] as usize {
+        return 4;
+    }
+    8
+}

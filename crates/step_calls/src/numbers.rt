@@ -1,0 +1,84 @@
+// The ten numbers that a walk stands in.
+use arrays::doubles::pattern;
+use arrays::values::write;
+use kinds::INFINITY;
+use kinds::SIGN;
+use kinds::State;
+use kinds::Step;
+ghost use mathlib.Core.Path.{_≡_};
+ghost use mathlib.Core.Bool.{true};
+ghost use mathlib.Core.List.{[]};
+ghost use lib.ListN.{length};
+ghost use Rattle.kinds.specs.Limits.{doubles};
+ghost use Rattle.kinds.specs.Heard.{stepHeard};
+ghost use Rattle.kinds.specs.Outcome.{outcome};
+ghost use Rattle.kinds.specs.declared.Step.the-variants.{More};
+ghost use Rattle.arrays.specs.Arrays.{codeOf};
+ghost use Rattle.step_calls.specs.StepArrays.{walkNumbers, walkValues, stateIn};
+ghost use Rattle.step_calls.specs.Inner.{StepRefusal, readable};
+
+// The numbers of a walk.
+pub const NUMBERS: usize = 10;
+
+// The most rounds that a state's field holds.
+const MOST: u64 = 0xFFFF_FFFF;
+
+fn state_numbers(s: State) -> [u64; NUMBERS]
+    ensures { λ r. ⌜ r ≡ walkValues (stepHeard doubles (More s)) [] ⌝ }
+{
+    let sigma = pattern(s.sigma);
+    let t = pattern(s.t);
+    let tau = pattern(s.tau);
+    let n = s.n as u64;
+    let rounds = s.rounds as u64;
+    [1, sigma, t, tau, n, s.pending, rounds, 0, 0, 0]
+}
+
+// A state or a sum goes to the ten numbers; a refusal leaves them.
+pub fn told(answer: Step, numbers: &mut [u64]) -> u32
+    requires { ⌜ (length (now numbers) ≡ walkNumbers) × StepRefusal answer ⌝ }
+    ensures { λ r. ⌜
+        outcome r (now (numbers .exit)) ≡ outcome (codeOf (stepHeard doubles answer)) (walkValues (stepHeard doubles answer) (now (numbers .entry)))
+        ⌝ }
+{
+    match answer {
+        Step::More(s) => {
+            let ten = state_numbers(s);
+            write(&ten, numbers);
+            0
+        }
+        Step::Done(x, rounds) => {
+            let sum = pattern(x);
+            let rounds = rounds as u64;
+            let ten = [2, sum, rounds, 0, 0, 0, 0, 0, 0, 0];
+            write(&ten, numbers);
+            0
+        }
+        Step::Refused(number, place) => calls::refusal(number, place),
+    }
+}
+
+// Whether the numbers that a step reads fit a state's fields. No sound state has others, and of a NaN's pattern the language makes no double.
+pub fn readable(numbers: &[u64]) -> bool
+    requires { ⌜ length (now numbers) ≡ walkNumbers ⌝ }
+    ensures { λ r. ⌜ r ≡ readable (now (numbers .entry)) ⌝ }
+{
+    (numbers[6] <= MOST)
+        & (numbers[1] % SIGN <= INFINITY)
+        & (numbers[2] % SIGN <= INFINITY)
+        & (numbers[3] % SIGN <= INFINITY)
+}
+
+pub fn state(numbers: &[u64]) -> State
+    requires { ⌜ (length (now numbers) ≡ walkNumbers) × (readable (now numbers) ≡ true) ⌝ }
+    ensures { λ r. ⌜ r ≡ stateIn (now (numbers .entry)) ⌝ }
+{
+    State::of(
+        numbers[4] as usize,
+        f64::from_bits(numbers[1]),
+        f64::from_bits(numbers[2]),
+        f64::from_bits(numbers[3]),
+        numbers[5],
+        numbers[6] as u32,
+    )
+}

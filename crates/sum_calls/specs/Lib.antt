@@ -1,0 +1,4 @@
+-- The sums of a list in one call, for C.
+pub mod SumArrays
+pub mod SumArraysLaws
+pub mod SumCodes
