@@ -47,6 +47,10 @@ answer-heard Shared (Refused l q) e = apart (cc)
 answer-heard (Refused k p) Shared e = apart (cc)
 answer-heard (Refused k p) (Refused l q) e = ap answerFor (verdict-heard (verdicts.Refused k p) (verdicts.Refused l q) e)
 
+pub handed-is : (r : Handed) (k : ℕ) (p : Place) → handedHeard r ≡ refused k p → (i : ℕ) × (r ≡ Refused k i)
+handed-is Shared k p e = apart (cc)
+handed-is (Refused l j) k p e = (j, cc)
+
 module _ (W : Width) (F : Fine W) (ps : List ℕ) (at : ℕ) (area : List ℕ) where
   answered : (v : Verdict) → handedAfter W v ps at area .answer ≡ answerFor v
   unfolding handedAfter
@@ -182,10 +186,6 @@ module _ (W : Width) (F : Fine W) (ps : List ℕ) (at : ℕ) (area : List ℕ) w
   handed-refusal (other-total G N t) = at-place-0 (lit< tt)
   handed-refusal (no-place G L h) = at-place-0 (lit< tt)
   handed-refusal (nobody G L h o) = at-place-0 (lit< tt)
-
-  handed-is : (r : Handed) (k : ℕ) (p : Place) → handedHeard r ≡ refused k p → (i : ℕ) × (r ≡ Refused k i)
-  handed-is Shared k p e = apart (cc)
-  handed-is (Refused l j) k p e = (j, cc)
 
   pub handed-heard : (k : ℕ) (p : Place)
       → (handedHeard (handedOf W ps at area .answer) ≡ refused k p) ↔ Row (λ k i. HandedWhen W ps at area (Refused k i)) k p
