@@ -73,7 +73,8 @@ unfolding nearestArrays judged firstFault faultOf S.nearestAfter nearestFloat va
 nearest = refl
 
 -- 2^54 + 1 in one part: the part is 2^54, and doesn't add up
-pub in-parts : partsArrays (0x4350000000000000 ∷ 0x3FF0000000000000 ∷ []) (ofBits binary64 0 ∷ []) (7 ∷ []) ≡ returned 0 (ofBits binary64 0x4350000000000000 ∷ []) (0 ∷ [])
+pub in-parts : partsArrays (0x4350000000000000 ∷ 0x3FF0000000000000 ∷ []) (ofBits binary64 0 ∷ []) (7 ∷ [])
+    ≡ returned 0 (ofBits binary64 0x4350000000000000 ∷ []) (0 ∷ [])
 unfolding partsArrays judged firstFault faultOf S.partsAfter S.parts nearestFloat value ofBits toBits
 in-parts = refl
 
