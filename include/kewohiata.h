@@ -61,7 +61,7 @@ enum kewohiata_lengths {
     KEWOHIATA_BLOCK = 64,               /* numbers of a block; a list's last may have fewer */
     KEWOHIATA_STATE = 10,               /* numbers of a state */
     KEWOHIATA_FAITHFUL = 2,             /* numbers that kewohiata_walk_faithful writes: pattern, rounds */
-    KEWOHIATA_VALUE = 1,                /* numbers that any other call with an array `out` writes */
+    KEWOHIATA_VALUE = 1,                /* numbers that any other call on arrays writes to `out` */
     KEWOHIATA_SUM_BYTES = 16,           /* bytes of a sum of the calls on bytes */
     KEWOHIATA_WORDS = 33,               /* words of a register */
     KEWOHIATA_REGISTER_BYTES = 264,     /* the same in bytes */
@@ -133,7 +133,8 @@ static inline int kewohiata_adds(uint64_t a, uint64_t b, uint64_t sum)
     return kewohiata_pattern(s) == sum;
 }
 
-/* 1 where the floating-point environment of the calling thread is what the calls of the walk need, else 0. It may raise the flags inexact and underflow. */
+/* 1 where rounding and subnormal numbers are in the calling thread as the calls of the walk need them, else 0; exceptions that are trapped it can't tell. It may
+ * raise the flags inexact and underflow. */
 static inline int kewohiata_environment(void)
 {
     const uint64_t sign = (uint64_t)1 << 63, one = (uint64_t)0x3FF << 52, half = (uint64_t)0x3CA << 52, least_normal = (uint64_t)1 << 52;
