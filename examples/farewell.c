@@ -32,6 +32,7 @@ static void print_total(const uint64_t *weights)
 int main(void)
 {
     uint64_t weights[CLOCKS], handed[CLOCKS], divided[CLOCKS];
+    double sum = 0;
     uint32_t code;
 
     for (int i = 0; i < CLOCKS; i++)
@@ -48,8 +49,11 @@ int main(void)
         divided[i] = kewohiata_pattern(i == LEAVER ? 0 : grains[i] * grain / (1 - grains[LEAVER] * grain));
     print_weights("by doubles", divided);
     print_total(divided);
+    for (int i = 0; i < CLOCKS; i++)
+        sum += kewohiata_double(divided[i]);
+    printf("  added in doubles: %.17g\n", sum);
 
-    /* and those can't be handed on again: they are no weights any more */
+    /* and those can't be handed on again: they are no weight list any more */
     printf("code %u", (unsigned)code);
     code = kewohiata_weights_hand_on(divided, CLOCKS, 0, handed, CLOCKS);
     printf(", of the doubles refusal %u at place %u\n", (unsigned)kewohiata_refusal(code), (unsigned)kewohiata_place(code));

@@ -65,7 +65,7 @@ enum kewohiata_lengths {
     KEWOHIATA_BLOCK = 64,               /* numbers of a block; a list's last may have fewer */
     KEWOHIATA_STATE = 10,               /* numbers of a state */
     KEWOHIATA_FAITHFUL = 2,             /* numbers that kewohiata_walk_faithful writes: pattern, rounds */
-    KEWOHIATA_VALUE = 1,                /* numbers that any other call with an array `out` writes */
+    KEWOHIATA_VALUE = 1,                /* numbers that any other call on arrays writes to `out` */
     KEWOHIATA_SUM_BYTES = 16,           /* bytes of a sum of the calls on bytes */
     KEWOHIATA_WORDS = 33,               /* words of a register */
     KEWOHIATA_REGISTER_BYTES = 264,     /* the same in bytes */
@@ -137,7 +137,8 @@ static inline int kewohiata_adds(uint64_t a, uint64_t b, uint64_t sum)
     return kewohiata_pattern(s) == sum;
 }
 
-/* 1 where the floating-point environment of the calling thread is what the calls of the walk need, else 0. It may raise the flags inexact and underflow. */
+/* 1 where rounding and subnormal numbers are in the calling thread as the calls of the walk need them, else 0; exceptions that are trapped it can't tell. It may
+ * raise the flags inexact and underflow. */
 static inline int kewohiata_environment(void)
 {
     const uint64_t sign = (uint64_t)1 << 63, one = (uint64_t)0x3FF << 52, half = (uint64_t)0x3CA << 52, least_normal = (uint64_t)1 << 52;
@@ -192,9 +193,10 @@ uint32_t kewohiata_words_round(const uint64_t *words, size_t words_length, uint6
 /* ---- weights: patterns of numbers from 0 to 1, each a whole multiple of 2^-30 and not -0, whose exact sum is 1 (rules V1 and V2) */
 
 /* Hands on the weight of a clock that leaves (rules V3 to V5). Where it has w and another clock v, that one gains w * v / (1 - w), rounded down to a multiple
- * of 2^-30; what is left over goes 2^-30 each to the staying clocks of positive weight, lowest place first; the leaver gets +0. The new weights are a weight
- * list again, and their exact sum is 1.
- * list: the weights. leaver: its place, from 0. out: n numbers, the new weights. Refusals: 1; 4; 2 or 3 of the lowest bad place; 14 of the lowest; 15; 16; 17. */
+ * of 2^-30. What the rounding leaves goes out in single steps of 2^-30, from place 0 up, one for each other clock with a weight above 0 until none is left.
+ * The leaver's new weight is +0. The new weights are a weight list again, and their exact sum is 1.
+ * list: the weights. leaver: its place, from 0. out: n numbers, the new weights.
+ * Refusals: 1; 4; 2 or 3 of the lowest bad place; 14 of the lowest; 15; 16; 17. */
 uint32_t kewohiata_weights_hand_on(const uint64_t *list, size_t list_length, size_t leaver, uint64_t *out, size_t out_length);
 
 /* ---- a contribution sheet (rule H1): the byte 1, the count in 4 bytes, and 8 bytes for each number, all with the highest byte first */

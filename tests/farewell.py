@@ -54,7 +54,7 @@ def hand_on(patterns, leaver, room):
         raise Refused(15, 0)
     if leaver >= len(weights):
         raise Refused(16, 0)
-    if weights[leaver] == 1:
+    if not any(v > 0 for i, v in enumerate(weights) if i != leaver):
         raise Refused(17, 0)
     return [pattern(v) for v in shared(weights, leaver)]
 

@@ -1,7 +1,7 @@
 """The C calls: each as a request to the driver, with the answer that docs/SCOPE.md asks for.
 
-The answers come from the models of tests/exact.py (sums, parts and registers in whole units), tests/walk.py (the faithful walk) and tests/farewell.py (weights); what is said here is how
-they lie in arrays and which lengths are refused. Sheets are read as by tests/sheets.py. An array is its bytes, of whatever its elements are.
+The answers come from the models of tests/exact.py (sums, parts and registers in whole units), tests/walk.py (the faithful walk) and tests/farewell.py
+(weights); what is said here is how they lie in arrays and which lengths are refused. Sheets are read as by tests/sheets.py. An array is its bytes, of whatever its elements are.
 """
 import collections
 import functools

@@ -26,8 +26,8 @@ def cut(chance, n, positive):
 
 # ---- in every run
 def heavy(chance, most):
-    """One clock with nearly all of the weight, and as many others as it leaves steps, with one each. Where their number divides 2^30 + 1 all but one of them get
-    a step of what is left over, the most there can be."""
+    """One clock with nearly all of the weight, and as many others as it leaves steps, with one each. Where their number divides 2^30 + 1 all but one of
+    them get a step of what is left over, the most there can be."""
     steps = [1] * most
     steps.insert(chance.randrange(most + 1), WHOLE - most)
     return steps
@@ -62,6 +62,9 @@ def weight_refusals(chance):
             lists += [[strange, fault, *good], [*good, strange, fault], [fault, strange, LARGE, NAN]]
     lists += [[*good[:k], strange, *good[k + 1 :]] for strange in STRANGE for k in range(3)]
     lists += [[strange, *alone, other] for strange in STRANGE for other in STRANGE]
+    lists += [[number, *[0] * LENGTH] for number in (NAN, LARGE, SIGN, ONE)]  # 1 beside 2, 3, 14 and 17
+    lists += [[0, fault, 0] for fault in (NAN, LARGE)]  # 2 or 3 beside 17
+    lists.append([*good, *[0] * (LENGTH - 4), SIGN])  # the greatest code
     for patterns in lists:
         n = len(patterns)
         for leaver in {0, 1, 2, n - 1 if n else 0, n, n + 1, 2**32, 2**63, ONES}:

@@ -1,4 +1,4 @@
--- What the calls with the C calling convention promise.
+-- What the calls on bytes promise.
 pub mod SumBytes
 pub mod Promised
 pub mod Codes

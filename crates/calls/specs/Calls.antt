@@ -1,4 +1,4 @@
--- The calls with the C calling convention: what each answers, and the bytes that it leaves. Definitions only.
+-- The calls on bytes: what each answers, and the bytes that it leaves; and the code of a refusal, which is every C call's. Definitions only.
 use mathlib.Core.Bool.{cond, not}
 use mathlib.Core.List.{List, [], _∷_}
 use Prim.Native.Nat.{ℕ, _+_, _*_, _/_, _%_}

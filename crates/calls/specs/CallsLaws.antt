@@ -1,4 +1,4 @@
--- The C calls case by case: the lengths, what is heard as a code and bytes, and the areas of the exported faithful sum. Assumes nothing.
+-- The calls on bytes case by case: the lengths, what is heard as a code and bytes, and the faithful sum's own areas. Assumes nothing.
 use mathlib.Core.Path.{_≡_, refl, ap, _∙_}
 use mathlib.Core.Bool.{Bool, true, false, cond, not}
 use mathlib.Core.List.{List, [], _∷_}

@@ -1,4 +1,4 @@
--- The calls with the C calling convention.
+-- The calls on bytes.
 pub mod Calls
 pub mod Inner
 pub mod CallsLaws

@@ -7,7 +7,6 @@ use Prim.Native.Nat.{ℕ}
 use lib.Ieee.{Float, binary64, ofBits, toBits, add, sub, mul, le, eq}
 use lib.ListN.{replicate}
 use Rattle.units.specs.Rounding.{ceil}
-use Rattle.lists.specs.Digits.{number, digits}
 use Rattle.lists.specs.Digits.{number, digits, signed, residue}
 use Rattle.ieee.specs.Units.{value, magnitude, negative, nearestFloat}
 use Rattle.kinds.specs.Outcome.{outcome}
@@ -22,7 +21,7 @@ use Rattle.walk.specs.Walk as W
 use Rattle.sums.specs.Sums as S
 use Rattle.sheet.specs.Sheet.{readOf}
 use Rattle.weights.specs.Weights as H
-use Rattle.calls.specs.Calls.{answered, sumCall, faithfulCall, nearestCall}
+use Rattle.calls.specs.Calls.{answered, sumCall, faithfulCall, nearestCall, registerCall, addCall, withdrawCall}
 use Rattle.arrays.specs.Arrays.{returned}
 use Rattle.step_calls.specs.StepArrays.{openArrays, stepArrays}
 use Rattle.sum_calls.specs.SumArrays.{faithfulArrays, nearestArrays}
@@ -128,3 +127,90 @@ nearest-in-bytes = refl
 pub bad-in-bytes : nearestCall (replicate 6 0 ++ 0xF8 ∷ 0x7F ∷ []) (replicate 16 7) ≡ outcome 34 (replicate 16 7)
 unfolding sumCall answered eights number judged firstFault faultOf S.nearestAfter ofBits
 bad-in-bytes = refl
+
+-- ---- two blocks, 65 ones: block 0 leaves its 64 in tau, and a step takes tau from there. It looks at the second number to the seventh alone: the others are 7
+abbrev one : Float
+one = ofBits binary64 0x3FF0000000000000
+
+abbrev halfDone : List Float
+halfDone = replicate 64 (ofBits binary64 0) ++ one ∷ []
+
+pub half-way : stepArrays (7 ∷ 0x4060000000000000 ∷ 0 ∷ 0 ∷ 65 ∷ 3 ∷ 0 ∷ 7 ∷ 7 ∷ 7 ∷ []) (replicate 65 one) 0
+    ≡ returned 0 halfDone (1 ∷ 0x4060000000000000 ∷ 0 ∷ 0x4050000000000000 ∷ 65 ∷ 2 ∷ 0 ∷ 0 ∷ 0 ∷ 0 ∷ [])
+unfolding stepArrays W.steppedAfter W.taken R.turned R.fresh R.scaled R.finished R.closedBy
+    N.soundSigma N.atMost N.soundNumbers N.soundPending N.badPlace N.sound N.gated remainders gathered lastSum largest powerOf ceil
+    magnitude negative nearestFloat ofBits toBits add sub mul le eq
+half-way = refl
+
+pub second-half : stepArrays (7 ∷ 0x4060000000000000 ∷ 0 ∷ 0x4050000000000000 ∷ 65 ∷ 2 ∷ 0 ∷ 7 ∷ 7 ∷ 7 ∷ []) halfDone 1
+    ≡ returned 0 (replicate 65 (ofBits binary64 0)) (2 ∷ 0x4050400000000000 ∷ 1 ∷ replicate 7 0)
+unfolding stepArrays W.steppedAfter W.taken R.turned R.fresh R.scaled R.finished R.closedBy
+    N.soundSigma N.atMost N.soundNumbers N.soundPending N.badPlace N.sound N.gated remainders gathered lastSum largest powerOf ceil
+    magnitude negative nearestFloat ofBits toBits add sub mul le eq
+second-half = refl
+
+-- rule C11: 2^32 rounds are no state's
+abbrev manyRounds : List ℕ
+manyRounds = 1 ∷ 0x4660000000000000 ∷ 0 ∷ 0 ∷ 3 ∷ 1 ∷ 0x100000000 ∷ 0 ∷ 0 ∷ 0 ∷ []
+
+pub rounds-of-33-bits : stepArrays manyRounds copied 0 ≡ returned 8 copied manyRounds
+unfolding stepArrays W.steppedAfter W.taken R.turned R.fresh R.scaled R.finished R.closedBy
+    N.soundSigma N.atMost N.soundNumbers N.soundPending N.badPlace N.sound N.gated remainders gathered lastSum largest powerOf ceil
+    magnitude negative nearestFloat ofBits toBits add sub mul le eq
+rounds-of-33-bits = refl
+
+-- 2^54 + 1 in two parts adds up
+pub in-two-parts : partsArrays (0x4350000000000000 ∷ 0x3FF0000000000000 ∷ []) (replicate 2 (ofBits binary64 0)) (7 ∷ [])
+    ≡ returned 0 (ofBits binary64 0x4350000000000000 ∷ one ∷ []) (1 ∷ [])
+unfolding partsArrays judged firstFault faultOf S.partsAfter S.parts nearestFloat value ofBits toBits
+in-two-parts = refl
+
+-- a sum below zero keeps its sign; a NaN at place 1 is 2 + 64
+pub below-zero : nearestArrays (0xBFF0000000000000 ∷ []) (7 ∷ []) ≡ outcome 0 (0xBFF0000000000000 ∷ [])
+unfolding nearestArrays judged firstFault faultOf S.nearestAfter nearestFloat value ofBits toBits
+below-zero = refl
+
+pub bad-on-arrays : nearestArrays (0x3FF0000000000000 ∷ 0x7FF8000000000000 ∷ []) (7 ∷ []) ≡ outcome 66 (7 ∷ [])
+unfolding nearestArrays judged firstFault faultOf magnitude S.nearestAfter ofBits
+bad-on-arrays = refl
+
+-- ---- rule C10, another length of the array of values: 1 before it, 5 behind it, on a sheet all else before it
+pub too-many-first : nearestArrays (replicate 4095 0) [] ≡ outcome 1 []
+unfolding nearestArrays
+too-many-first = refl
+
+pub four-before-five : partsArrays [] [] [] ≡ returned 4 [] []
+unfolding partsArrays
+four-before-five = refl
+
+pub four-for-ten : stepArrays [] [] 0 ≡ returned 4 [] []
+unfolding stepArrays
+four-for-ten = refl
+
+pub sheet-first : readArrays [] [] [] ≡ returned 11 [] []
+unfolding readArrays readOf eights number
+sheet-first = refl
+
+pub four-last : readArrays (1 ∷ 0 ∷ 0 ∷ 0 ∷ 0 ∷ []) [] [] ≡ returned 4 [] []
+unfolding readArrays readOf eights number
+four-last = refl
+
+-- ---- in bytes: of two numbers the second is at fault, so the first stands first; a register of 264 bytes, the lowest first: 2^50 in word 16 is 4 in byte 134
+pub second-in-bytes : nearestCall (replicate 6 0 ++ 0xF0 ∷ 0x3F ∷ replicate 6 0 ++ 0xF8 ∷ 0x7F ∷ []) (replicate 16 7) ≡ outcome 66 (replicate 16 7)
+unfolding sumCall answered eights number judged firstFault faultOf magnitude S.nearestAfter ofBits
+second-in-bytes = refl
+
+abbrev oneInBytes : List ℕ
+oneInBytes = replicate 134 0 ++ 4 ∷ replicate 129 0
+
+pub added-in-bytes : addCall (replicate 264 0) 0x3FF0000000000000 ≡ outcome 0 oneInBytes
+unfolding registerCall answered eights joined enter number digits signed residue value faultOf ofBits
+added-in-bytes = refl
+
+pub withdrawn-in-bytes : withdrawCall oneInBytes 0x3FF0000000000000 ≡ outcome 0 (replicate 264 0)
+unfolding registerCall answered eights joined enter number digits signed residue value faultOf ofBits
+withdrawn-in-bytes = refl
+
+pub short-register : addCall (replicate 263 0) 0 ≡ outcome 4 (replicate 263 0)
+unfolding registerCall
+short-register = refl

@@ -6,9 +6,12 @@ use Prim.Native.Nat.{ℕ}
 use native.Mathlib.Omega.{arith}
 use lib.Dec.{eqb}
 use lib.Ieee.{Float}
+use lib.Ieee.Bits.{ofBits-toBits}
 use lib.ListN.{length}
 use Rattle.kinds.specs.Limits.{doubles}
+use Rattle.kinds.specs.States.{stateOf}
 use Rattle.kinds.specs.Heard.{Heard, stepHeard}
+use Rattle.kinds.specs.HeardLaws.{StepFits}
 use Rattle.kinds.specs.Hearing.{step-is}
 use Rattle.kinds.specs.declared.State.{State}
 use Rattle.kinds.specs.declared.Step.the-variants as steps
@@ -51,6 +54,12 @@ module _ {r q : ℕ} {xs ys : List Float} {us vs : List ℕ} where
   pub step-determined : (numbers : List ℕ) (work : List Float) (b : ℕ)
       → returned r xs us ≡ stepArrays numbers work b → returned q ys vs ≡ stepArrays numbers work b → (r ≡ q) × (xs ≡ ys) × (us ≡ vs)
   step-determined numbers work b = returned-determined (stepArrays numbers work b)
+
+-- ---- what a step reads is what the call before it wrote
+pub state-back : (s : State) (before : List ℕ) → StepFits doubles (steps.More s) → stateIn (walkValues (stepHeard doubles (steps.More s)) before) ≡ s
+state-back s before F =
+    let f = doubles .format in
+    λ i. stateOf (s .n) (ofBits-toBits f (s .sigma) (F .0) i) (ofBits-toBits f (s .t) (F .1) i) (ofBits-toBits f (s .tau) (F .2) i) (s .pending) (s .rounds)
 
 -- ---- what a refusal leaves
 walk-left : (h : Heard) (before : List ℕ) → (codeOf h ≡ 0 → ⊥) → walkValues h before ≡ before

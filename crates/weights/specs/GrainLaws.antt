@@ -104,10 +104,11 @@ module _ (at : ℕ) (ks : List ℕ) where
     pub shares-most : total (map (share w) stay) ≤ w
     shares-most = known .0
 
-    -- all that is left over goes
+    -- less is left over than there are clocks with weight
     pub left-less : leftOver w stay < positives stay
     left-less = known .1
 
+    -- so that all of it goes
     pub conserved : total (handed at ks) ≡ grains
     conserved = omega (arith, spread-total w (leftOver w stay) stay (omega (arith, left-less)), remaining, known .0, others)
 

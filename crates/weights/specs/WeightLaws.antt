@@ -41,11 +41,11 @@ pub record Fine (W : Width) : Type 0 where
 abbrev pub fieldOfGrain : Format → ℕ
 fieldOfGrain f = low f - 30 - (prec f - 1) + 1
 
--- two numbers of one sign and one count of units are one float
 pub is-value : (f : Format) (x : Float) (s : Bool) (n : ℕ) → Is f x s n → value f x ≡ signed s n
 unfolding value
 is-value f x s n h = λ i. signed (is-units f x s n h .0 i) (is-units f x s n h .1 i)
 
+-- two numbers of one sign and one count of units are one float
 is-same : {f : Format} {x y : Float} (s : Bool) (n : ℕ) → Number f x → Number f y → Is f x s n → Is f y s n → x ≡ y
 is-same {f} {x} {y} s n X Y h k =
     same-float X Y (is-value f x s n h ∙ sym (is-value f y s n k)) (λ z. is-units f x s n h .0 ∙ sym (is-units f y s n k .0))
