@@ -13,7 +13,7 @@
  * kewohiata_walk_faithful. They need the calling thread to round to nearest, to keep subnormal results (no flush-to-zero) and to read subnormal operands as
  * they are (no denormals-as-zero), and to trap no floating-point exception; else they may return 0 with a wrong sum. A program that was linked with -Ofast
  * or -ffast-math may start with both switched on: ask kewohiata_environment once per thread, before the first of these calls. All other calls work on whole
- * numbers, make doubles by their bits, and answer the same in every environment: nearest, parts, registers, sheets.
+ * numbers, make doubles by their bits, and answer the same in every environment: nearest, parts, registers, weights, sheets.
  *
  * Outside the contract (rule C8), and nothing is promised of such a call: a null pointer (also with length 0), a length that isn't the array's, an array
  * that is not readable or not writable as its type says, an array of uint64_t or double that isn't aligned as its type is, two arrays of a call that
@@ -33,10 +33,10 @@ extern "C" {
 #endif
 
 /* Below 1.0.0 a call's form may still change, and the second number tells it. */
-#define KEWOHIATA_VERSION "0.2.0"
-enum { KEWOHIATA_VERSION_MAJOR = 0, KEWOHIATA_VERSION_MINOR = 2, KEWOHIATA_VERSION_PATCH = 0 };
+#define KEWOHIATA_VERSION "0.2.1"
+enum { KEWOHIATA_VERSION_MAJOR = 0, KEWOHIATA_VERSION_MINOR = 2, KEWOHIATA_VERSION_PATCH = 1 };
 
-/* The refusals, rules R1 to R13. A code has room for numbers up to 31; 14 and above are kept for later ones. */
+/* The refusals, rules R1 to R17. A code has room for numbers up to 31; 18 and above are kept for later ones. */
 enum kewohiata_refusals {
     KEWOHIATA_ACCEPTED = 0,
     KEWOHIATA_TOO_MANY = 1,          /* more than 4,094 numbers */
@@ -51,7 +51,11 @@ enum kewohiata_refusals {
     KEWOHIATA_NO_FINITE_DOUBLE = 10, /* the register's number is beyond the doubles */
     KEWOHIATA_SHEET_TOO_SHORT = 11,  /* no whole header, or fewer numbers than it counts */
     KEWOHIATA_OTHER_VERSION = 12,    /* the sheet's version isn't 1 */
-    KEWOHIATA_SHEET_TOO_LONG = 13    /* bytes behind the numbers that the header counts */
+    KEWOHIATA_SHEET_TOO_LONG = 13,   /* bytes behind the numbers that the header counts */
+    KEWOHIATA_NOT_A_WEIGHT = 14,     /* a weight below 0 or above 1, no whole multiple of 2^-30, or -0; its place is told */
+    KEWOHIATA_WRONG_TOTAL = 15,      /* the weights' exact sum isn't 1 */
+    KEWOHIATA_NO_SUCH_CLOCK = 16,    /* the leaver's place is none of the list */
+    KEWOHIATA_NO_OTHER_WEIGHT = 17   /* all weights but the leaver's are zero */
 };
 
 /* The lengths. */
@@ -185,6 +189,15 @@ uint32_t kewohiata_words_withdraw(uint64_t *words, size_t words_length, uint64_t
 
 /* The double nearest to a register (rule G4), at a tie the one with the even significand; zero gives +0. out: 1 number, its pattern. Refusals: 4; 10. */
 uint32_t kewohiata_words_round(const uint64_t *words, size_t words_length, uint64_t *out, size_t out_length);
+
+/* ---- weights: patterns of numbers from 0 to 1, each a whole multiple of 2^-30 and not -0, whose exact sum is 1 (rules V1 and V2) */
+
+/* Hands on the weight of a clock that leaves (rules V3 to V5). Where it has w and another clock v, that one gains w * v / (1 - w), rounded down to a multiple
+ * of 2^-30. What the rounding leaves goes out in single steps of 2^-30, from place 0 up, one for each other clock with a weight above 0 until none is left.
+ * The leaver's new weight is +0. The new weights are a weight list again, and their exact sum is 1.
+ * list: the weights. leaver: its place, from 0. out: n numbers, the new weights.
+ * Refusals: 1; 4; 2 or 3 of the lowest bad place; 14 of the lowest; 15; 16; 17. */
+uint32_t kewohiata_weights_hand_on(const uint64_t *list, size_t list_length, size_t leaver, uint64_t *out, size_t out_length);
 
 /* ---- a contribution sheet (rule H1): the byte 1, the count in 4 bytes, and 8 bytes for each number, all with the highest byte first */
 

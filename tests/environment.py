@@ -21,6 +21,7 @@ sys.dont_write_bytecode = True
 import built  # noqa: E402
 import command  # noqa: E402
 import exact  # noqa: E402
+import farewell  # noqa: E402
 import kit  # noqa: E402
 import samples  # noqa: E402
 
@@ -43,19 +44,21 @@ ENVIRONMENTS = {
     "both, upward": USUAL | UP | FLUSH | ZEROED,
 }
 GOOD = {"as usual", "with flags raised"}
-ENVIRONMENT, NEAREST, ADD, WITHDRAW, FAITHFUL, LIST_NEAREST, WORDS_ROUND, PARTS, WALK, READ = range(10)
+ENVIRONMENT, NEAREST, ADD, WITHDRAW, FAITHFUL, LIST_NEAREST, WORDS_ROUND, PARTS, WALK, READ, HAND_ON = range(11)
 
 TINY = [exact.ONE, 0x36EB6, exact.ONE | exact.SIGN]
 LISTS = 150
+WEIGHTS = [0x3E28000000000000, 0, 0x3E10000000000000, 0x3E10000000000000, 0x3FEFFFFFFD800000]  # those of tests/host/environment.c
 
 # the header's names: a refusal's number, a length, a place in a walk's ten numbers, the version
 NAMES = {
     "TOO_MANY": 1, "NOT_FINITE": 2, "TOO_LARGE": 3, "WRONG_LENGTH": 4, "WRONG_PARTS": 5, "NO_SUCH_BLOCK": 6, "BLOCK_NOT_PENDING": 7, "UNSOUND_STATE": 8,
-    "REGISTER_FULL": 9, "NO_FINITE_DOUBLE": 10, "SHEET_TOO_SHORT": 11, "OTHER_VERSION": 12, "SHEET_TOO_LONG": 13, "LIST_MOST": 4094,
+    "REGISTER_FULL": 9, "NO_FINITE_DOUBLE": 10, "SHEET_TOO_SHORT": 11, "OTHER_VERSION": 12, "SHEET_TOO_LONG": 13, "NOT_A_WEIGHT": 14,
+    "WRONG_TOTAL": 15, "NO_SUCH_CLOCK": 16, "NO_OTHER_WEIGHT": 17, "LIST_MOST": 4094,
     "LIST_BYTES_MOST": 32752, "BLOCK": 64, "STATE": 10, "FAITHFUL": 2, "VALUE": 1, "SUM_BYTES": 16, "WORDS": 33, "REGISTER_BYTES": 264, "PARTS_MOST": 8,
     "ROUNDS_MOST": 51, "SHEET_HEADER": 5, "SHEET_BYTES_MOST": 32757, "ACCEPTED": 0, "MORE": 1, "DONE": 2, "STATE_KIND": 0, "STATE_SIGMA": 1, "STATE_T": 2,
     "STATE_TAU": 3, "STATE_N": 4, "STATE_PENDING": 5, "STATE_ROUNDS": 6, "DONE_SUM": 1, "DONE_ROUNDS": 2, "VERSION_MAJOR": 0, "VERSION_MINOR": 2,
-    "VERSION_PATCH": 0,
+    "VERSION_PATCH": 1,
 }  # fmt: skip
 
 DIFFERENCES = []
@@ -83,6 +86,7 @@ def uses():
         "kewohiata_refusal(4) == KEWOHIATA_WRONG_LENGTH && !kewohiata_tells_place(4)",
         "kewohiata_refusal(34) == KEWOHIATA_NOT_FINITE && kewohiata_tells_place(34) && kewohiata_place(34) == 0",
         "kewohiata_refusal(131011) == KEWOHIATA_TOO_LARGE && kewohiata_place(131011) == 4093",
+        "kewohiata_refusal(131022) == KEWOHIATA_NOT_A_WEIGHT && kewohiata_place(131022) == 4093",
         "kewohiata_blocks(0) == 0 && kewohiata_blocks(1) == 1 && kewohiata_blocks(64) == 1 && kewohiata_blocks(65) == 2 && kewohiata_blocks(4094) == 64",
         "kewohiata_environment()",
     ):
@@ -162,6 +166,8 @@ def wanted(call, numbers):
         return [exact.nearest_sum(numbers)]
     if call == WORDS_ROUND:
         return [whole(numbers, 1).round()]
+    if call == HAND_ON:
+        return farewell.hand_on(WEIGHTS, len(numbers) % 5, 5)
     if call == READ:
         return (numbers + [0] * 32)[:32] + [len(numbers)]
     if call == PARTS:
@@ -172,7 +178,7 @@ def wanted(call, numbers):
 
 def check_calls(name, program, prefix, some):
     """The calls on whole numbers answer the same everywhere; the walk's are counted where they are wrong."""
-    calls = [NEAREST, ADD, WITHDRAW] + [LIST_NEAREST, WORDS_ROUND, PARTS, READ]
+    calls = [NEAREST, ADD, WITHDRAW] + [LIST_NEAREST, WORDS_ROUND, PARTS, READ, HAND_ON]
     right = {(call, k): wanted(call, numbers) for call in calls for k, numbers in enumerate(some)}
     for what, control in ENVIRONMENTS.items():
         asked = [(call, k) for call in calls for k in range(len(some))]

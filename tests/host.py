@@ -31,10 +31,12 @@ import archive  # noqa: E402
 import built  # noqa: E402
 import calls  # noqa: E402
 import drawn  # noqa: E402
+import farewells  # noqa: E402
 import fixed  # noqa: E402
 import kit  # noqa: E402
 
 PLACE = os.path.join(ROOT, "target", "host")
+FIXED, DRAWN = fixed.GROUPS + farewells.FIXED, drawn.GROUPS + farewells.DRAWN
 LISTS = 20000
 PROGRESS = 8  # seconds between lines
 TOGETHER = 500  # requests that the driver is handed at once: each may have arrays of 32 KB
@@ -56,6 +58,7 @@ REFUSALS = {
     "kewohiata_words_withdraw": ENTRIES,
     "kewohiata_words_round": {0, 4, 10},
     "kewohiata_sheet_read": {0, 1, 4, 11, 12, 13},
+    "kewohiata_weights_hand_on": {0, 1, 2, 3, 4, 14, 15, 16, 17},
 }
 
 
@@ -98,13 +101,13 @@ def build(with_native):
 # ---- a batch
 def batches(wanted):
     """The names of the batches in which so many lists are tried: those of the fixed groups, and the random ones' numbers."""
-    return [group.__name__ for group in fixed.GROUPS] + list(range(-(-wanted // drawn.LISTS)))
+    return [group.__name__ for group in FIXED] + list(range(-(-wanted // drawn.LISTS)))
 
 
 def requests_of(seed, name):
     """The requests of a batch. Its random numbers depend on the seed and its name alone."""
     chance = random.Random(f"{seed}/{name}")
-    for group in drawn.GROUPS if isinstance(name, int) else [group for group in fixed.GROUPS if group.__name__ == name]:
+    for group in DRAWN if isinstance(name, int) else [group for group in FIXED if group.__name__ == name]:
         yield from group(chance)
 
 

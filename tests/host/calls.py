@@ -1,13 +1,14 @@
 """The C calls: each as a request to the driver, with the answer that docs/SCOPE.md asks for.
 
-The answers come from the models of tests/exact.py (sums, parts and registers in whole units) and tests/walk.py (the faithful walk); what is said here is how
-they lie in arrays and which lengths are refused. Sheets are read as by tests/sheets.py. An array is its bytes, of whatever its elements are.
+The answers come from the models of tests/exact.py (sums, parts and registers in whole units), tests/walk.py (the faithful walk) and tests/farewell.py
+(weights); what is said here is how they lie in arrays and which lengths are refused. Sheets are read as by tests/sheets.py. An array is its bytes, of whatever its elements are.
 """
 import collections
 import functools
 import struct
 
 import exact
+import farewell
 import sheets
 import walk
 from exact import INFINITY, NAN, SIGN, Refused
@@ -27,6 +28,7 @@ CALLS = {
     "kewohiata_words_withdraw": "Q",
     "kewohiata_words_round": "QQ",
     "kewohiata_sheet_read": "BQQ",
+    "kewohiata_weights_hand_on": "QQ",
 }
 NUMBERS = {call: number for number, call in enumerate(CALLS)}
 SIZE, SUM, REGISTER = 8, 16, 8 * exact.WORDS  # bytes of a number, of a sum in bytes, and of a register
@@ -51,7 +53,7 @@ def unpacked(data):
 
 def heard(number, place):
     """A refusal's code, rule C3."""
-    return number + 32 * (place + 1) if number in (2, 3) else number
+    return number + 32 * (place + 1) if number in (2, 3, 14) else number
 
 
 # ---- what goes through the pipes
@@ -280,6 +282,14 @@ def rounded(data, out):
         return [data, packed([exact.Register(unpacked(data)).round()])], None
 
     return asked("kewohiata_words_round", [data, out], model)
+
+
+# ---- weights
+def handed(data, leaver, out):
+    def model():
+        return [data, packed(farewell.hand_on(unpacked(data), leaver, len(out) // SIZE))], None
+
+    return asked("kewohiata_weights_hand_on", [data, out], model, leaver)
 
 
 # ---- sheets

@@ -65,6 +65,13 @@ static uint32_t sheet_read(size_t n)
     return code;
 }
 
+/* weights of 3, 0, 1, 1 and 2^30 - 5 times 2^-30; which clock leaves is chosen by the list's length */
+static uint32_t handed_on(size_t n)
+{
+    static const uint64_t weights[5] = {0x3E28000000000000, 0, 0x3E10000000000000, 0x3E10000000000000, 0x3FEFFFFFFD800000};
+    return kewohiata_weights_hand_on(weights, 5, n % 5, values, 5);
+}
+
 static uint32_t call(uint64_t which, size_t n)
 {
     switch (which) {
@@ -78,6 +85,7 @@ static uint32_t call(uint64_t which, size_t n)
     case 7: return parted(n);
     case 8: return kewohiata_walk_faithful(list, n, area, n, values, KEWOHIATA_FAITHFUL);
     case 9: return sheet_read(n);
+    case 10: return handed_on(n);
     default: return UINT32_MAX;
     }
 }

@@ -6,8 +6,8 @@ use mathlib.Core.List.{List, [], _∷_, _++_}
 use Prim.Native.Nat.{ℕ, _+_, _-_, _^_}
 use lib.ListN.{replicate}
 use Rattle.kinds.specs.Outcome.{outcome}
-use Rattle.kinds.specs.Heard.{nowhere, at, refused, more, done, nearest, parts, count}
-use Rattle.cases.specs.Calls.{Given, Case, beforehand, opening, step, faithfulSum, nearestSum, sumInParts, round, sheet}
+use Rattle.kinds.specs.Heard.{nowhere, at, refused, more, done, nearest, parts, accepted, count}
+use Rattle.cases.specs.Calls.{Given, Case, beforehand, opening, step, faithfulSum, nearestSum, sumInParts, round, sheet, handOn}
 
 -- a state with t = tau = +0; one with a given t and tau, and one with a given sigma, of one number
 abbrev opened : ℕ → ℕ → ℕ → Given
@@ -185,4 +185,19 @@ bounds =
     ∷ record { call = sumInParts [] 0; expected = outcome (refused 5 nowhere) [] }
     ∷ record { call = sumInParts [] 8; expected = outcome (parts true) (replicate 8 0) }
     ∷ record { call = sumInParts [] 9; expected = outcome (refused 5 nowhere) (replicate 9 beforehand) }
+    -- rules V3 and V5: 1/2, 1/4 and 1/4, without the first
+    ∷ record {
+      call = handOn (0x3FE0000000000000 ∷ 0x3FD0000000000000 ∷ 0x3FD0000000000000 ∷ []) 0 3;
+      expected = outcome accepted (0 ∷ 0x3FE0000000000000 ∷ 0x3FE0000000000000 ∷ []);
+    }
+    -- rule V4: 3, 0, 1, 1 and 2^30 - 5 grains; the shares are 0, 0, 0 and 2, and the grain left over goes to place 2
+    ∷ record {
+      call = handOn (0x3E28000000000000 ∷ 0 ∷ 0x3E10000000000000 ∷ 0x3E10000000000000 ∷ 0x3FEFFFFFFD800000 ∷ []) 0 5;
+      expected = outcome accepted (0 ∷ 0 ∷ 0x3E20000000000000 ∷ 0x3E10000000000000 ∷ 0x3FEFFFFFFE800000 ∷ []);
+    }
+    -- rule V9
+    ∷ record {
+      call = handOn (0x3FE0000000000000 ∷ 0 ∷ 0x3FE0000000000000 ∷ []) 1 3;
+      expected = outcome accepted (0x3FE0000000000000 ∷ 0 ∷ 0x3FE0000000000000 ∷ []);
+    }
     ∷ []

@@ -12,6 +12,7 @@ use Rattle.kinds.specs.States.{stateOf}
 use Rattle.walk.specs.Walk.{Walked, opened, stepped, faithfulOf}
 use Rattle.sums.specs.Sums.{nearestOf, partsOf}
 use Rattle.sheet.specs.Sheet.{readOf}
+use Rattle.weights.specs.Weights.{handedOf, handedHeard}
 
 -- what an area holds before the call, at each place: 1.5, a number that is in no list and no answer of the table
 abbrev pub beforehand : ℕ
@@ -42,6 +43,8 @@ pub data Call : Type 0 where
   round : List ℕ → Call
   -- reading a sheet's bytes to an area of a length
   sheet : List ℕ → ℕ → Call
+  -- handing on the weight of a weight list's clock at a place, to an area of a length
+  handOn : List ℕ → ℕ → ℕ → Call
 
 -- what its caller hears, beside the patterns or words of the lent area afterwards
 abbrev pub Result : Type 0
@@ -67,6 +70,9 @@ resultOf (round ws) = outcome (nearestHeard doubles (rounded ws)) []
 resultOf (sheet bytes m) =
     let r = readOf doubles bytes (replicate m beforehand) in
     outcome (sheetHeard (r .answer)) (r .area)
+resultOf (handOn ps place m) =
+    let r = handedOf doubles ps place (replicate m beforehand) in
+    outcome (handedHeard (r .answer)) (r .area)
 
 -- one row of the table
 pub record Case : Type 0 where

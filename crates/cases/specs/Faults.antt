@@ -1,11 +1,12 @@
--- Calls with two faults at once, where rules O1 to O5 say which is told, and some with the later fault alone: a table of the same kind. Definitions only.
+-- Calls with two faults at once, where rules O1 to O5 and O7 say which is told, and some with the later fault alone: a table of the same kind. Definitions
+-- only.
 -- Patterns: 7FF0000000000000 is an infinity, FFF8000000000000 a NaN, and 7E70000000000001 the first double above 2^1000.
 use mathlib.Core.List.{List, [], _∷_, _++_}
 use Prim.Native.Nat.{ℕ, _-_, _^_}
 use lib.ListN.{replicate}
 use Rattle.kinds.specs.Outcome.{outcome}
 use Rattle.kinds.specs.Heard.{nowhere, at, refused}
-use Rattle.cases.specs.Calls.{Given, Case, beforehand, faithfulWithin, step, nearestSum, sumInParts, add, withdraw, round, sheet}
+use Rattle.cases.specs.Calls.{Given, Case, beforehand, faithfulWithin, step, nearestSum, sumInParts, add, withdraw, round, sheet, handOn}
 
 abbrev numbered : ℕ → ℕ → Given
 numbered n pending = record { sigma = 0x4070000000000000; t = 0; tau = 0; n = n; pending = pending; rounds = 0 }
@@ -51,4 +52,22 @@ faults =
     ∷ record { call = sheet (1 ∷ 0 ∷ 0 ∷ 0 ∷ 0 ∷ 0 ∷ []) 1; expected = outcome (refused 13 nowhere) (beforehand ∷ []) }
     ∷ record { call = sheet (1 ∷ 0 ∷ 0 ∷ 0 ∷ 2 ∷ replicate 17 0) 1; expected = outcome (refused 13 nowhere) (beforehand ∷ []) }
     ∷ record { call = sheet (1 ∷ 0 ∷ 0 ∷ 0 ∷ 2 ∷ replicate 16 0) 1; expected = outcome (refused 4 nowhere) (beforehand ∷ []) }
+    -- rule O7: 1 before 4; 4 before a bad number; that, at any place, before 14; 14 before 15; 15 before 16 and 17, also of no weight at all
+    ∷ record { call = handOn (0x7FF0000000000000 ∷ replicate 4094 0) 0 0; expected = outcome (refused 1 nowhere) [] }
+    ∷ record { call = handOn (0xFFF8000000000000 ∷ []) 0 0; expected = outcome (refused 4 nowhere) [] }
+    ∷ record {
+      call = handOn (0x4000000000000000 ∷ 0x7FF0000000000000 ∷ []) 2 2;
+      expected = outcome (refused 2 (at 1)) (beforehand ∷ beforehand ∷ []);
+    }
+    ∷ record {
+      call = handOn (0x3FF0000000000000 ∷ 0x8000000000000000 ∷ []) 2 2;
+      expected = outcome (refused 14 (at 1)) (beforehand ∷ beforehand ∷ []);
+    }
+    ∷ record { call = handOn (0x3FF0000000400000 ∷ []) 0 1; expected = outcome (refused 14 (at 0)) (beforehand ∷ []) }
+    ∷ record { call = handOn (0x3E00000000000000 ∷ []) 0 1; expected = outcome (refused 14 (at 0)) (beforehand ∷ []) }
+    ∷ record { call = handOn (0x3FE0000000000000 ∷ []) 1 1; expected = outcome (refused 15 nowhere) (beforehand ∷ []) }
+    ∷ record { call = handOn (0 ∷ []) 0 1; expected = outcome (refused 15 nowhere) (beforehand ∷ []) }
+    ∷ record { call = handOn [] 0 0; expected = outcome (refused 15 nowhere) [] }
+    ∷ record { call = handOn (0x3FF0000000000000 ∷ []) 1 1; expected = outcome (refused 16 nowhere) (beforehand ∷ []) }
+    ∷ record { call = handOn (0x3FF0000000000000 ∷ []) 0 1; expected = outcome (refused 17 nowhere) (beforehand ∷ []) }
     ∷ []

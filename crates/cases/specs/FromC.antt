@@ -20,6 +20,7 @@ use Rattle.rounds.specs.Round as R
 use Rattle.walk.specs.Walk as W
 use Rattle.sums.specs.Sums as S
 use Rattle.sheet.specs.Sheet.{readOf}
+use Rattle.weights.specs.Weights as H
 use Rattle.calls.specs.Calls.{answered, sumCall, faithfulCall, nearestCall, registerCall, addCall, withdrawCall}
 use Rattle.arrays.specs.Arrays.{returned}
 use Rattle.step_calls.specs.StepArrays.{openArrays, stepArrays}
@@ -27,6 +28,7 @@ use Rattle.sum_calls.specs.SumArrays.{faithfulArrays, nearestArrays}
 use Rattle.part_calls.specs.PartArrays.{partsArrays}
 use Rattle.register_calls.specs.RegisterArrays.{addArrays, withdrawArrays, roundArrays}
 use Rattle.sheet_calls.specs.SheetArrays.{readArrays}
+use Rattle.weight_calls.specs.WeightArrays.{handOnArrays}
 
 abbrev numbers : List ℕ
 numbers = 0x4630000000000000 ∷ 0x4320000000000000 ∷ 0xC630000000000000 ∷ []
@@ -98,6 +100,13 @@ pub reads : readArrays (1 ∷ 0 ∷ 0 ∷ 0 ∷ 2 ∷ 0x3F ∷ 0xF0 ∷ replicat
     ≡ returned 0 (0x3FF0000000000000 ∷ 0x4000000000000000 ∷ 7 ∷ []) (2 ∷ [])
 unfolding readArrays readOf eights number
 reads = refl
+
+-- ---- weights: 1/2, 1/4 and 1/4, without the first
+pub hands-on : handOnArrays (0x3FE0000000000000 ∷ 0x3FD0000000000000 ∷ 0x3FD0000000000000 ∷ []) 0 (7 ∷ 7 ∷ 7 ∷ [])
+    ≡ outcome 0 (0 ∷ 0x3FE0000000000000 ∷ 0x3FE0000000000000 ∷ [])
+unfolding judged firstFault faultOf H.weightGood H.weightOf H.patternFor H.total H.spread H.badWeight H.weighed H.handedAfter
+    magnitude negative nearestFloat ofBits toBits
+hands-on = refl
 
 -- ---- in bytes: -1 is summed in 1 round, and its nearest sum tells none
 abbrev minusOne : List ℕ

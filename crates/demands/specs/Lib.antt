@@ -7,3 +7,4 @@ pub mod WalkRefusals
 pub mod Determined
 pub mod Refusals
 pub mod Hearing
+pub mod Weighed

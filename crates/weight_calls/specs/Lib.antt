@@ -1,0 +1,3 @@
+-- The leaver's weight handed on, for C.
+pub mod WeightArrays
+pub mod WeightCodes
