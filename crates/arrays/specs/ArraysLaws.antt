@@ -20,6 +20,14 @@ heard-returned {A} {X} heard written values b {r} {vs} {w} {a} {xs} c v e q =
     ∙ ap (λ (x : A). returned (codeOf (heard x)) xs (written (heard x) values)) (sym q)
     ∙ ap (λ (x : Outcome A X). returned (codeOf (heard (x .answer))) (x .area) (written (heard (x .answer)) values)) e
 
+-- and of a call with no array of values: the code, and the area as it is
+pub code-returned : {A X : Type 0} (heard : A → Heard) {r : ℕ} {a b : A} {xs : List X} {w : Outcome A X}
+    → r ≡ codeOf (heard b) → outcome a xs ≡ w → a ≡ b → outcome r xs ≡ outcome (codeOf (heard (w .answer))) (w .area)
+code-returned {A} {X} heard {r} {a} {b} {xs} {w} c e q =
+    ap (λ (n : ℕ). outcome n xs) c
+    ∙ ap (λ (x : A). outcome (codeOf (heard x)) xs) (sym q)
+    ∙ ap (λ (x : Outcome A X). outcome (codeOf (heard (x .answer))) (x .area)) e
+
 -- ---- a nearest sum that is refused is refused with a number of the table
 pub nearest-by : (a : Nearest) → ((k i : ℕ) → a ≡ nearests.Refused k i → Refusal (doubles .length) k i) → NearestRefusal a
 nearest-by (nearests.Sum x) h = tt

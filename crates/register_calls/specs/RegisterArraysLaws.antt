@@ -1,5 +1,5 @@
 -- A register's words as C calls, case by case; and that each refusal of a rounding is one of the table. Assumes nothing.
-use mathlib.Core.Path.{_≡_, refl, ap, _∙_}
+use mathlib.Core.Path.{_≡_, refl}
 use mathlib.Core.List.{List}
 use Prim.Native.Nat.{ℕ}
 use native.Mathlib.Omega.{arith}
@@ -7,19 +7,15 @@ use borrow.Author.Tests.{eq-eqb, ne-eqb}
 use lib.ListN.{length}
 use Rattle.kinds.specs.Limits.{doubles}
 use Rattle.kinds.specs.Outcome.{outcome}
-use Rattle.kinds.specs.Heard.{Refusal, nearestHeard, entryHeard}
-use Rattle.kinds.specs.declared.Entry.{Entry}
+use Rattle.kinds.specs.Heard.{Refusal, nearestHeard}
 use Rattle.kinds.specs.declared.Nearest.the-variants as nearests
-use Rattle.register.specs.Register.{Changed, rounded}
+use Rattle.register.specs.Register.{rounded}
 use Rattle.demands.specs.Tables.{RoundWhen, wrong-words, beyond}
 use Rattle.demands.specs.Refusals.{round-refused}
 use Rattle.arrays.specs.Arrays.{codeOf, valuesOf}
 use Rattle.arrays.specs.ArraysLaws.{nearest-by}
 use Rattle.arrays.specs.Inner.{NearestRefusal}
-use Rattle.register_calls.specs.RegisterArrays.{wordsReturned, roundArrays}
-
-pub entered-returned : {r : ℕ} {w : Changed} {a : Entry} {xs : List ℕ} → r ≡ codeOf (entryHeard a) → outcome a xs ≡ w → outcome r xs ≡ wordsReturned w
-entered-returned {r} {w} {a} {xs} t e = ap (λ (n : ℕ). outcome n xs) t ∙ ap (λ (x : Changed). wordsReturned x) e
+use Rattle.register_calls.specs.RegisterArrays.{roundArrays}
 
 module _ (ws out : List ℕ) where
   pub round-other : (length out ≡ 1 → ⊥) → roundArrays ws out ≡ outcome 4 out

@@ -1,35 +1,30 @@
 -- Numbers that can be read: what they are, and that a sound state's are such, since its rounds are few and its patterns are finite doubles'. Assumes nothing.
-use mathlib.Core.Path.{_≡_, sym, _∙_}
-use mathlib.Core.Bool.{true}
+use mathlib.Core.Path.{_≡_, sym, subst, _∙_}
+use mathlib.Core.Bool.{Bool, true, not}
 use mathlib.Core.Logic.{inl, inr}
 use mathlib.Core.List.{List}
 use Prim.Native.Nat.{ℕ, _*_, _-_, _^_, _%_, _≤_, _<_}
 use native.Mathlib.Omega.{arith}
 use borrow.Author.Tests.{leb-true, le-leb, lt-ltb}
 use lib.Dec.{T}
-use lib.Ieee.{Float, nan, inf, fin, binary64, isNan, ofBits, ones, hid, top}
+use lib.Ieee.{binary64, ofBits, ones, hid, top}
 use lib.Ieee.Bits.{nanBits-is, nanBits-above}
 use lib.Ieee.Scale.{finite}
 use lib.ListN.{getD}
-use Rattle.lists.specs.Apart.{apart}
 use Rattle.units.specs.Powers.{le-or-lt}
+use Rattle.ieee.specs.Finite.{finite-no-nan}
 use Rattle.kinds.specs.Limits.{doubles}
 use Rattle.sound.specs.Numbers.{Numbers}
 use Rattle.sound.specs.SigmaLaws.{both-true}
 use Rattle.step_calls.specs.StepArrays.{stateIn}
 use Rattle.step_calls.specs.Inner.{number, readable}
 
-no-number : (x : Float) → isNan x ≡ true → T (finite x) → ⊥
-unfolding isNan
-no-number nan e t = t
-no-number (inf s) e t = t
-no-number (fin s m e) h t = apart (cc)
-
 finite-number : (p : ℕ) → T (finite (ofBits binary64 p)) → number p ≡ true
 finite-number p t = elim (le-or-lt (p % top binary64) (ones binary64 * hid binary64)) [
   | inl h ↦ le-leb (p % top binary64) (ones binary64 * hid binary64) h
-  | inr h ↦ absurd (no-number (ofBits binary64 p)
-      (sym (nanBits-is binary64 p) ∙ nanBits-above binary64 p ∙ lt-ltb (ones binary64 * hid binary64) (p % top binary64) h) t)
+  | inr h ↦ absurd (subst (λ (b : Bool). T (not b))
+      (sym (nanBits-is binary64 p) ∙ nanBits-above binary64 p ∙ lt-ltb (ones binary64 * hid binary64) (p % top binary64) h)
+      (finite-no-nan (ofBits binary64 p) t))
 ]
 
 pub sound-readable : (ns : List ℕ) → Numbers doubles (stateIn ns) → readable ns ≡ true

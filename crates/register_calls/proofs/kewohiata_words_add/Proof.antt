@@ -1,10 +1,11 @@
 -- `register_calls::kewohiata_words_add` meets its contract: what is refused is one of the table's. Assumes nothing.
-use mathlib.Core.Path.{sym, ap, subst}
+use mathlib.Core.Path.{refl, sym, ap, subst}
 use borrow.Author.Needs.{needs}
 use Rattle.register.specs.Register.{Changed}
+use Rattle.kinds.specs.Heard.{entryHeard}
 use Rattle.calls.specs.Inner.{EntryRefusal}
 use Rattle.calls.specs.RefusalLaws.{entry-refusal}
-use Rattle.register_calls.specs.RegisterArraysLaws.{entered-returned}
+use Rattle.arrays.specs.ArraysLaws.{code-returned}
 use Rattle.register_calls.proofs.kewohiata_words_add.Statement.{statement}
 use Rattle.register_calls.proofs.kewohiata_words_add.Tie as tie
 
@@ -12,7 +13,7 @@ code-requires : tie.Need-code-requires
 code-requires c κs = subst EntryRefusal (sym (ap (λ (e : Changed). e .answer) (c .before .before .add .ensures))) (entry-refusal _ _ _)
 
 returns : tie.Need-returns
-returns c = entered-returned (c .code .ensures) (c .before .before .before .add .ensures)
+returns c = code-returned entryHeard (c .code .ensures) (c .before .before .before .add .ensures) refl
 
 pub kewohiata-words-add-spec : {M : Type 1} → statement M
 kewohiata-words-add-spec = tie.close (tie.spec (λ c κs. search needs) code-requires (λ c. search needs) returns)

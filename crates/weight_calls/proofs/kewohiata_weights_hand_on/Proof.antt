@@ -1,26 +1,17 @@
 -- `weight_calls::kewohiata_weights_hand_on` meets its contract: what is refused is one of the table's. Assumes nothing.
-use mathlib.Core.Path.{_≡_, refl, sym, ap, _∙_}
-use mathlib.Core.List.{List}
+use mathlib.Core.Path.{refl, sym, ap, _∙_}
 use Prim.Native.Nat.{ℕ}
 use borrow.Author.Needs.{needs}
 use Rattle.kinds.specs.Limits.{doubles}
-use Rattle.kinds.specs.Outcome.{Outcome, outcome}
+use Rattle.kinds.specs.Outcome.{Outcome}
 use Rattle.weights.specs.declared.Handed.{Handed}
 use Rattle.weights.specs.declared.Handed.the-variants.{Shared, Refused}
 use Rattle.weights.specs.Weights.{handedHeard}
 use Rattle.weights.specs.TableLaws.{handed-when, handed-refusal}
 use Rattle.weights.specs.FieldLaws.{fine-doubles}
-use Rattle.arrays.specs.Arrays.{codeOf}
+use Rattle.arrays.specs.ArraysLaws.{code-returned}
 use Rattle.weight_calls.proofs.kewohiata_weights_hand_on.Statement.{statement}
 use Rattle.weight_calls.proofs.kewohiata_weights_hand_on.Tie as tie
-
--- an answer's code, and the area that came with it
-returned : {r : ℕ} {a b : Handed} {xs : List ℕ} {w : Outcome Handed ℕ} → r ≡ codeOf (handedHeard b) → outcome a xs ≡ w → a ≡ b
-    → outcome r xs ≡ outcome (codeOf (handedHeard (w .answer))) (w .area)
-returned {r} {a} {b} {xs} {w} c e q =
-    ap (λ (n : ℕ). outcome n xs) c
-    ∙ ap (λ (x : Handed). outcome (codeOf (handedHeard x)) xs) (sym q)
-    ∙ ap (λ (x : Outcome Handed ℕ). outcome (codeOf (handedHeard (x .answer))) (x .area)) e
 
 refusal-requires : tie.Need-refusal-requires
 refusal-requires c κs =
@@ -34,13 +25,13 @@ refusal-requires c κs =
 returns : tie.Need-returns
 returns c =
     let after-handed = c .before .before .before .before in
-    returned {b = Shared} refl (after-handed .hand-on .ensures) (c .enum-told .given .1)
+    code-returned handedHeard {b = Shared} refl (after-handed .hand-on .ensures) (c .enum-told .given .1)
 
 returns-2 : tie.Need-returns-2
 returns-2 c =
     let after-number = c .before .before in
     let after-handed = after-number .before .before .before .before in
-    returned (c .refusal .ensures) (after-handed .hand-on .ensures) (after-number .number .given .1)
+    code-returned handedHeard (c .refusal .ensures) (after-handed .hand-on .ensures) (after-number .number .given .1)
 
 pub kewohiata-weights-hand-on-spec : {M : Type 1} → statement M
 kewohiata-weights-hand-on-spec =
