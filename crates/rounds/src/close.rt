@@ -7,19 +7,33 @@ use kinds::State;
 use kinds::Step;
 ghost use mathlib.Core.Path.{_≡_};
 ghost use Prim.Native.Nat.{_≤_};
+ghost use lib.Ieee.{prec};
 ghost use Rattle.kinds.specs.Limits.{doubles};
 ghost use Rattle.rounds.specs.Round.{scaled, finished, closed};
-ghost use Rattle.rounds.specs.Closable.{Closable};
+ghost use Rattle.rounds.specs.Closable.{PowerFrom, Closable};
+ghost use Rattle.rounds.specs.ClosedLaws.{enough};
 
-// 2^-53 is this power of two in units of 2^-1074.
-const EPS: u32 = 1021;
+// eps is 2^-53 (rule L3).
+const EPS: u32 = 53;
 
-// 2^j eps sigma: (2^j eps) sigma, and never (2^j sigma) eps, which overflows at the largest sigma.
+// 2^j eps sigma, of a sigma above the least normal number. The product of two powers of two is exact there, so that it is made from their exponents: in doubles
+// it would land among the subnormals (rule F4).
 fn scaled(j: u32, sigma: f64) -> f64
-    requires { ⌜ j ≤ 53 ⌝ }
+    requires { ⌜ (j ≤ prec (doubles .format)) × PowerFrom (doubles .format) (prec (doubles .format)) sigma ⌝ }
     ensures { λ r. ⌜ r ≡ scaled (doubles .format) j sigma ⌝ }
 {
-    exponent::power(EPS + j) * sigma
+    exponent::power(exponent::ceiling(sigma) + j - EPS)
+}
+
+// Rule W3's tests. The first is on patterns, which are in the order of their numbers where none is negative.
+fn enough(m: u32, sigma: f64, tau1: f64) -> bool
+    requires { ⌜ (m ≤ 12) × PowerFrom (doubles .format) 0 sigma ⌝ }
+    ensures { λ r. ⌜ r ≡ enough (doubles .format) m sigma tau1 ⌝ }
+{
+    if f64::to_bits(sigma) <= LEAST_NORMAL {
+        return true;
+    }
+    scaled(2 * m + 1, sigma) <= extract::absolute(tau1)
 }
 
 // The sum of rule W3.
@@ -44,9 +58,8 @@ pub fn close(s: State, work: &[f64]) -> Step
         return fresh::fresh(0.0, n, work, rounds);
     }
     let m = Doubles::of(n).exponent();
-    let enough = scaled(2 * m + 1, sigma);
     // rule W3
-    if (sigma <= f64::from_bits(LEAST_NORMAL)) | (enough <= extract::absolute(tau1)) {
+    if enough(m, sigma, tau1) {
         return Step::Done(finish(tau1, s.t, s.tau, work), rounds);
     }
     // rule W4
