@@ -3,16 +3,18 @@
 use mathlib.Core.Path.{_≡_, refl, sym, ap, _∙_}
 use mathlib.Core.Logic.{_↔_}
 use mathlib.Core.Bool.{false}
-use Prim.Native.Nat.{ℕ, _+_, _-_, _*_, _^_, _≤_, _<_}
+use Prim.Native.Nat.{ℕ, suc, _+_, _-_, _*_, _^_, _≤_, _<_}
+use native.Mathlib.Nat.{le-of-eq, le-antisymm, mul-lt-mul-of-pos-right}
 use native.Mathlib.Omega.{arith}
 use lib.Dec.{T, leb, leb→le, le→leb, lit<}
-use lib.Ieee.{Float, Format, binary32, binary64, prec, low, hid, ones, toBits, le, fits}
-use Rattle.units.specs.Rounding.{ceil}
-use Rattle.units.specs.Ceiling.{ceil-power}
+use lib.Pow.{pow-pos}
+use lib.Ieee.{Float, Format, binary32, binary64, prec, low, hid, ones, ofBits, toBits, le, fits}
+use lib.Ieee.Fits.{two, reach}
 use Rattle.ieee.specs.Units.{Number, negative, magnitude, patternUnits}
 use Rattle.ieee.specs.Fractions.{same-test}
 use Rattle.ieee.specs.Pattern.{pattern-le, pattern-positive}
 use Rattle.ieee.specs.Finite.{is-units}
+use Rattle.ieee.specs.Exponent.{power-pattern}
 use Rattle.exponent.specs.Power.{powers, powerOf}
 use Rattle.exponent.specs.PowerLaws.{power-same}
 use Rattle.exponent.specs.CeilingLaws.{positive-units}
@@ -66,11 +68,31 @@ module _ (f : Format) where
     to = P .to;
   }
 
+  -- a power of two above it is a field over no digit
+  pub power-field : {x : Float} (P : PowerFrom f (prec f) x) → T (fits f x) → toBits f x ≡ suc (P .k - (prec f - 1)) * hid f
+  power-field {x} P fit = le-antisymm (pattern-le f .1 (le-of-eq same)) (pattern-le f .1 (le-of-eq (sym same)))
+    where
+      y : ℕ
+      y = P .k - (prec f - 1)
+
+      field : suc y < ones f
+      field = omega (arith, P .to, P .from, two f, reach f)
+
+      e : prec f - 1 + y ≡ P .k
+      e = omega (arith, P .from)
+
+      there : magnitude f (ofBits f (suc y * hid f)) ≡ patternUnits f (suc y * hid f)
+      there = is-units f _ false _ (pattern-positive f (suc y * hid f) (mul-lt-mul-of-pos-right field (pow-pos (prec f - 1)))) .1
+
+      same : patternUnits f (toBits f x) ≡ patternUnits f (suc y * hid f)
+      same =
+          sym (positive-units (record { fit = fit; fini = P .fini }) (P .positive)) ∙ P .power
+          ∙ sym (ap (λ (k : ℕ). 2 ^ k) e) ∙ sym (is-units f _ false _ (power-pattern f y field) .1) ∙ there
+
   -- 2^j eps sigma is the power of two at sigma's exponent and j less prec
-  pub scaled-power : (j : ℕ) {sigma : Float} → prec f ≤ low f → j ≤ prec f → PowerFrom f (prec f) sigma → T (fits f sigma)
-      → powerOf f (ceil (magnitude f sigma) + j - prec f) ≡ scaled f j sigma
-  scaled-power j {sigma} fine l P fit =
-      ap (λ (k : ℕ). powerOf f (k + j - prec f)) (ap ceil (P .power) ∙ ceil-power (P .k)) ∙ sym (power-same f c-fits (S .number) (positive-is f S))
+  pub scaled-power : (j : ℕ) {sigma : Float} → prec f ≤ low f → j ≤ prec f → (P : PowerFrom f (prec f) sigma) → T (fits f sigma)
+      → powerOf f (P .k + j - prec f) ≡ scaled f j sigma
+  scaled-power j {sigma} fine l P fit = sym (power-same f c-fits (S .number) (positive-is f S))
     where
       c : ℕ
       c = P .k + j - prec f

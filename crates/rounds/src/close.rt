@@ -1,6 +1,7 @@
 // The close of a round: rules W1 to W4, in that order.
 use crate::fresh;
 use crate::round;
+use kinds::DIGITS;
 use kinds::Doubles;
 use kinds::LEAST_NORMAL;
 use kinds::State;
@@ -16,13 +17,14 @@ ghost use Rattle.rounds.specs.ClosedLaws.{enough};
 // eps is 2^-53 (rule L3).
 const EPS: u32 = 53;
 
-// 2^j eps sigma, of a sigma above the least normal number. The product of two powers of two is exact there, so that it is made from their exponents: in doubles
-// it would land among the subnormals (rule F4).
+// 2^j eps sigma, of a sigma above the least normal number, which is a field over no digit. The product of two powers of two is exact there, so that it is made
+// from their exponents: in doubles it would land among the subnormals (rule F4).
 fn scaled(j: u32, sigma: f64) -> f64
     requires { ⌜ (j ≤ prec (doubles .format)) × PowerFrom (doubles .format) (prec (doubles .format)) sigma ⌝ }
     ensures { λ r. ⌜ r ≡ scaled (doubles .format) j sigma ⌝ }
 {
-    exponent::power(exponent::ceiling(sigma) + j - EPS)
+    let field = (f64::to_bits(sigma) / LEAST_NORMAL) as u32;
+    exponent::power(field + DIGITS - 1 + j - EPS)
 }
 
 // Rule W3's tests. The first is on patterns, which are in the order of their numbers where none is negative.

@@ -1,36 +1,49 @@
 -- `rounds::close::scaled` meets its contract: the product of two powers of two is the power of two at the sum of their exponents. Assumes nothing.
 use mathlib.Core.Path.{_≡_, sym, subst, ap, _∙_}
-use Prim.Native.Nat.{_≤_}
+use Prim.Native.Nat.{ℕ, suc, _+_, _-_, _*_, _/_}
 use native.Mathlib.Omega.{arith}
+use borrow.Author.Needs.{needs}
 use lib.Dec.{T, lit≤}
-use lib.Ieee.{binary64, prec, low, fits}
-use Rattle.units.specs.Rounding.{ceil}
-use Rattle.units.specs.Ceiling.{ceil-power}
-use Rattle.rounds.specs.PatternLaws.{scaled-power}
+use lib.Ieee.{binary64, toBits, fits}
+use Rattle.ieee.specs.Finite.{finite-no-nan}
+use Rattle.exponent.specs.Power.{powerOf}
+use Rattle.rounds.specs.PatternLaws.{power-field, scaled-power}
 use Rattle.rounds.proofs.close.scaled.Statement.{statement}
 use Rattle.rounds.proofs.close.scaled.Tie as tie
 
-ceiling-requires : tie.Need-ceiling-requires
-ceiling-requires c κs = (c .pre .1 .fini, c .pre .1 .positive)
+fit : (c : tie.Start) → T (fits binary64 (c .args .sigma))
+fit c = subst T (sym (c .good .1 .0 .1)) tt
 
--- the exponent of sigma
-exponent : (c : tie.After-ceiling) → c .ceiling .result ≡ c .before .pre .1 .k
-exponent c = c .ceiling .ensures ∙ ap ceil (c .before .pre .1 .power) ∙ ceil-power (c .before .pre .1 .k)
+float-to-bits-field : tie.Need-float-to-bits-field
+float-to-bits-field c = finite-no-nan (c .args .sigma) (c .pre .1 .fini)
+
+-- the field of sigma = 2^k units
+field : (c : tie.Start) → toBits binary64 (c .args .sigma) / 4503599627370496 ≡ c .pre .1 .k - 51
+field c = omega (arith, power-field binary64 (c .pre .1) (fit c), c .pre .1 .from)
+
+cast-field : tie.Need-cast-field
+cast-field c = omega (arith, field c, c .pre .1 .to)
 
 add-power : tie.Need-add-power
-add-power c = omega (arith, exponent c, c .before .pre .1 .to)
+add-power c = omega (arith, field c, c .pre .1 .to)
 
 sub-power : tie.Need-sub-power
-sub-power c = omega (arith, exponent c, c .before .pre .1 .from)
+sub-power c = omega (arith, field c, c .pre .1 .from)
+
+add-power-2 : tie.Need-add-power-2
+add-power-2 c = omega (arith, field c, c .pre .1 .to, c .pre .0)
+
+sub-power-2 : tie.Need-sub-power-2
+sub-power-2 c = omega (arith, field c, c .pre .1 .from)
 
 power-requires : tie.Need-power-requires
-power-requires c κs = omega (arith, exponent c, c .before .pre .1 .to)
+power-requires c κs = omega (arith, field c, c .pre .1 .to, c .pre .0)
 
 returns : tie.Need-returns
 returns c =
-    let s = c .before .before in
-    rw (c .power .ensures, c .before .ceiling .ensures)
-    (scaled-power binary64 (s .args .j) (lit≤ tt) (s .pre .0) (s .pre .1) (subst T (sym (s .good .1 .0 .1)) tt))
+    let s = c .before in
+    let e : toBits binary64 (s .args .sigma) / 4503599627370496 + 52 - 1 + s .args .j - 53 ≡ s .pre .1 .k + s .args .j - 53 = omega (arith, field s, s .pre .1 .from) in
+    c .power .ensures ∙ ap (powerOf binary64) e ∙ scaled-power binary64 (s .args .j) (lit≤ tt) (s .pre .0) (s .pre .1) (fit s)
 
 pub scaled-spec : {M : Type 1} → statement M
-scaled-spec = tie.close (tie.spec ceiling-requires add-power sub-power power-requires returns)
+scaled-spec = tie.close (tie.spec float-to-bits-field cast-field add-power sub-power add-power-2 sub-power-2 power-requires returns)
