@@ -3,13 +3,14 @@ import itertools
 
 import samples
 import walk
-from calls import REGISTER, SIZE, SUM, TEN, VALUES, array_nearest, entered, packed, parted, read, rounded, started, step_of, stepped, summed
+from calls import REGISTER, SIZE, SUM, TEN, VALUES, array_nearest, entered, packed, parted, read, rounded, started, step_of, stepped, summed, unpacked
 from drawn import ENDS, LIMIT, TOP
 from exact import INFINITY, LENGTH, MAGNITUDE, NAN, ONE, ONES, PARTS, SIGN, UNIT, WORDS, nearest
 from sequences import ADD, ENTRIES, ORDERS, WITHDRAW, both_around, entries, is_allowed, list_requests, register_of, run_requests, several, turn, unread
 from sheets import sheet
 
 LARGE = MAGNITUDE + 1
+TOP_POWER = 2074  # the greatest magnitude, 2^1000, is 2^2074 units
 
 
 # ---- lengths and orders of refusals
@@ -295,6 +296,35 @@ def held_before(chance):
             yield stepped(BASE, [held] * m, 1)[0]
 
 
+# ---- powers of two: rules WO3, W3 and W4
+def power(k):
+    """The pattern of 2^k units: one digit of a subnormal number, or a field over no digit."""
+    return 1 << k if k < 52 else k - 51 << 52
+
+
+def largest_powers(chance):
+    """One number, each power of two that a list may have and the patterns beside it: e is found here by hand, and sigma is 2^(2+e). 2^0 less one pattern is a zero
+    list, 2^1000 and one more is refused."""
+    for k in range(TOP_POWER + 1):
+        for pattern, e in ((power(k) - 1, k if k > 1 else 0), (power(k), k), (power(k) + 1, k + 1)):
+            request = started("kewohiata_walk_open", packed([pattern]), chance.randbytes(SIZE), chance.randbytes(SIZE * TEN))
+            begins = unpacked(request.after[2])[:2]
+            wanted = (0, [2, 0]) if pattern == 0 else (35, begins) if k == TOP_POWER and pattern > MAGNITUDE else (0, [1, power(2 + e)])
+            assert (request.code, begins) == wanted, f"opened with {pattern:016X}: {request.code}, {begins}, by hand it is {wanted}"
+            yield request
+
+
+def scaled_powers(chance):
+    """A close at each sound sigma of one number, 2^k units, with t' at the bound of rule W3, a pattern below it, and at one unit, where rule W4 scales sigma."""
+    for k in range(2, TOP_POWER + 3):
+        bound = power(k + 5 - 53) if k > 52 else 0
+        for t in {1, bound, bound - 1} - {0, -1}:
+            request, answer, _ = stepped(walk.State(power(k), t, 0, 1, 1, 0), [0], 0)
+            wanted = ("more", power(k + 2 - 53)) if k > 52 and t < bound else ("done", t)
+            assert (answer[0], answer[1].sigma if answer[0] == "more" else answer[1]) == wanted, f"closed at {k}, {t:016X}: {answer}, by hand it is {wanted}"
+            yield request
+
+
 # ---- lists
 def list_witnesses(chance):
     """Every call on each list of tests/samples.py, with parts from none to one more than allowed; and every length at the ends of blocks."""
@@ -319,5 +349,6 @@ def walk_witnesses(chance):
 
 GROUPS = [
     walk_witnesses, list_witnesses, sum_lengths, walk_lengths, nearest_lengths, parts_lengths, register_lengths, sheet_lengths, there_and_back,
-    register_examples, register_rounds, state_witnesses, state_refusals, many_rounds, state_lengths, ended_states, sound_states, held_before,
+    register_examples, register_rounds, largest_powers, scaled_powers, state_witnesses, state_refusals, many_rounds, state_lengths, ended_states, sound_states,
+    held_before,
 ]  # fmt: skip

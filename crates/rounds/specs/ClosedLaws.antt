@@ -4,7 +4,7 @@ use mathlib.Core.Bool.{Bool, true, false, cond, _||_}
 use mathlib.Core.List.{List}
 use Prim.Native.Nat.{ℕ, _+_, _*_}
 use lib.Dec.{eqb}
-use lib.Ieee.{Float, add, le, eq}
+use lib.Ieee.{Float, Format, add, le, eq}
 use Rattle.lists.specs.Apart.{apart}
 use Rattle.extract.specs.Extract.{plusZero, absolute}
 use Rattle.kinds.specs.Limits.{Width, exponentOf}
@@ -27,10 +27,11 @@ module _ (W : Width) (zero : Float) (n mu rounds : ℕ) where
 abbrev pub tau1Of : Width → State → Float
 tau1Of W s = add (W .format) (s .t) (s .tau)
 
+abbrev pub enough : Format → ℕ → Float → Float → Bool
+enough f M sigma tau1 = le sigma (leastNormal f) || le (scaled f (2 * M + 1) sigma) (absolute f tau1)
+
 abbrev pub finishes : Width → State → Bool
-finishes W s =
-    let f = W .format in
-    le (s .sigma) (leastNormal f) || le (scaled f (2 * exponentOf (s .n) + 1) (s .sigma)) (absolute f (tau1Of W s))
+finishes W s = enough (W .format) (exponentOf (s .n)) (s .sigma) (tau1Of W s)
 
 abbrev pub furtherRound : Width → State → State
 furtherRound W s = roundOf W (s .n) (scaled (W .format) (exponentOf (s .n)) (s .sigma)) (tau1Of W s) (s .rounds + 1)

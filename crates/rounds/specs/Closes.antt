@@ -55,7 +55,7 @@ scaled-positive f j k c {sigma} fine S e h l = record {
     product = mul-powers f (powerOf f i) sigma i k c (omega arith) (power-is f (omega arith)) (positive-is f S) l
 
 -- ---- a power of two against a number, and the least normal number
-le-is : (f : Format) {x y : Float} {a b : ℕ} → Positive f x a → Unsigned f y b → le x y ≡ leb a b
+pub le-is : (f : Format) {x y : Float} {a b : ℕ} → Positive f x a → Unsigned f y b → le x y ≡ leb a b
 unfolding whole
 le-is f {x} {y} {a} {b} X Y = go (negative y) refl
   where

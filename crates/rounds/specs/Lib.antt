@@ -8,6 +8,7 @@ pub mod Begun
 pub mod FreshRound
 pub mod Blocks
 pub mod Closes
+pub mod PatternLaws
 pub mod Instances
 pub mod SigmaLaws
 pub mod ClosedLaws

@@ -1,31 +1,20 @@
--- mu, the largest magnitude of an area, as a float: whether it is zero, that it is as small as each number, and that sigma = 2^(M + e) is a power of two of
--- the format. Assumes nothing.
-use mathlib.Core.Path.{_≡_}
+-- mu, the largest magnitude of an area, as a float: that it is as small as each number, and that sigma = 2^(M + e) is a power of two of the format.
+-- Assumes nothing.
 use mathlib.Core.List.{List}
 use Prim.Native.Nat.{ℕ, _+_, _^_, _≤_, _<_}
 use native.Mathlib.Omega.{arith}
-use lib.Dec.{eqb}
-use lib.Ieee.{Float, Format, eq}
+use lib.Ieee.{Float, Format}
 use Rattle.lists.specs.Each.{Each, each-weaker}
 use Rattle.units.specs.Rounding.{ceil}
 use Rattle.units.specs.Ceiling.{ceil-least}
-use Rattle.ieee.specs.Units.{whole}
-use Rattle.ieee.specs.Compare.{eq-units}
 use Rattle.exponent.specs.Power.{powers}
-use Rattle.extract.specs.Extract.{plusZero, largest}
+use Rattle.extract.specs.Extract.{largest}
 use Rattle.extract.specs.ExtractLaws.{largest-le}
-use Rattle.extract.specs.LargestLaws.{Positive, zero-positive}
+use Rattle.extract.specs.LargestLaws.{Positive}
 use Rattle.judge.specs.Table.{sizeOf}
 use Rattle.kinds.specs.Limits.{Width, exponentOf}
 use Rattle.rounds.specs.Fitting.{Fitting}
 use Rattle.rounds.specs.InUnits.{Small}
-
-pub zero-test : (f : Format) {mu : Float} {m : ℕ} → Positive f mu m → eq mu (plusZero f) ≡ eqb m 0
-unfolding whole
-zero-test f {mu} {m} P =
-    let z = zero-positive f in
-    let e : m + 0 ≡ m = omega arith in
-    rw (eq-units f mu (plusZero f) (P .number) (z .number), P .sign, P .units, z .sign, z .units, e)
 
 pub mu-small : (f : Format) {mu : Float} {most : ℕ} (xs : List Float) → Positive f mu (largest f xs) → Each (Small f most) xs → Small f most mu
 mu-small f {most = most} xs P h =

@@ -1,25 +1,50 @@
 // The close of a round: rules W1 to W4, in that order.
 use crate::fresh;
 use crate::round;
+use kinds::DIGITS;
 use kinds::Doubles;
 use kinds::LEAST_NORMAL;
 use kinds::State;
 use kinds::Step;
 ghost use mathlib.Core.Path.{_≡_};
 ghost use Prim.Native.Nat.{_≤_};
+ghost use lib.Ieee.{prec};
 ghost use Rattle.kinds.specs.Limits.{doubles};
 ghost use Rattle.rounds.specs.Round.{scaled, finished, closed};
-ghost use Rattle.rounds.specs.Closable.{Closable};
+ghost use Rattle.rounds.specs.Closable.{PowerFrom, Closable};
+ghost use Rattle.rounds.specs.ClosedLaws.{enough};
 
-// 2^-53 is this power of two in units of 2^-1074.
-const EPS: u32 = 1021;
+// eps is 2^-53 (rule L3), which is 2^1021 units.
+const EPS: u32 = 53;
 
-// 2^j eps sigma: (2^j eps) sigma, and never (2^j sigma) eps, which overflows at the largest sigma.
+const EPS_UNITS: u32 = 1021;
+
+// The pattern of 2^-969: from there on sigma times eps is a normal number.
+const NORMAL_PRODUCT: u64 = 54 << DIGITS;
+
+// 2^j eps sigma, of a sigma above the least normal number, which is a field over no digit: (2^j eps) sigma, and never (2^j sigma) eps, which overflows at the
+// largest sigma. Where the product could land among the subnormals, it is made of the exponents (rule F4): both powers of two are exact.
 fn scaled(j: u32, sigma: f64) -> f64
-    requires { ⌜ j ≤ 53 ⌝ }
+    requires { ⌜ (j ≤ prec (doubles .format)) × PowerFrom (doubles .format) (prec (doubles .format)) sigma ⌝ }
     ensures { λ r. ⌜ r ≡ scaled (doubles .format) j sigma ⌝ }
 {
-    exponent::power(EPS + j) * sigma
+    let p = f64::to_bits(sigma);
+    if NORMAL_PRODUCT <= p {
+        return exponent::power(EPS_UNITS + j) * sigma;
+    }
+    let field = (p / LEAST_NORMAL) as u32;
+    exponent::power(field + DIGITS - 1 + j - EPS)
+}
+
+// Rule W3's tests. The first is on patterns, which are in the order of their numbers where none is negative.
+fn enough(m: u32, sigma: f64, tau1: f64) -> bool
+    requires { ⌜ (m ≤ 12) × PowerFrom (doubles .format) 0 sigma ⌝ }
+    ensures { λ r. ⌜ r ≡ enough (doubles .format) m sigma tau1 ⌝ }
+{
+    if f64::to_bits(sigma) <= LEAST_NORMAL {
+        return true;
+    }
+    scaled(2 * m + 1, sigma) <= extract::absolute(tau1)
 }
 
 // The sum of rule W3.
@@ -44,9 +69,8 @@ pub fn close(s: State, work: &[f64]) -> Step
         return fresh::fresh(0.0, n, work, rounds);
     }
     let m = Doubles::of(n).exponent();
-    let enough = scaled(2 * m + 1, sigma);
     // rule W3
-    if (sigma <= f64::from_bits(LEAST_NORMAL)) | (enough <= extract::absolute(tau1)) {
+    if enough(m, sigma, tau1) {
         return Step::Done(finish(tau1, s.t, s.tau, work), rounds);
     }
     // rule W4

@@ -1,30 +1,30 @@
--- A sound sigma: what it is, and that it is the number between two powers of two that equals the power of two at its own exponent. Assumes nothing.
+-- A sound sigma: what it is, and that it is a number up to the greatest sigma whose pattern is that of the power of two at its own exponent. Assumes nothing.
 use mathlib.Core.Path.{_≡_, refl, sym, ap, _∙_}
-use mathlib.Core.Bool.{Bool, true, false, not, _&&_, and-true}
+use mathlib.Core.Bool.{Bool, true, false, not, _&&_, and-true, and-false}
 use Prim.Native.Nat.{ℕ, _+_, _*_, _^_, _≤_, _<_}
 use native.Mathlib.Nat.{le-trans}
 use native.Mathlib.Omega.{arith}
 use borrow.Author.Tests.{eq-eqb, eqb-true, leb-true, not-true, le-leb}
-use lib.Dec.{T, leb, eqb}
-use lib.Pow.{pow-add, pow-pos, pow-mono}
-use lib.Ieee.{Float, Format, le, eq, fits}
+use lib.Dec.{T, leb, eqb, leb→le, le→leb, eqb→eq}
+use lib.Pow.{pow-add, pow-mono}
+use lib.Ieee.{Float, Format, toBits, fits}
+use lib.Ieee.Fits.{eq→eqb}
 use lib.Ieee.Bits.{is-true}
 use lib.Ieee.Scale.{finite}
 use Rattle.units.specs.Rounding.{ceil}
 use Rattle.units.specs.Ceiling.{ceil-ge, ceil-least, ceil-power}
 use Rattle.units.specs.Powers.{pow-le-back}
-use Rattle.ieee.specs.Units.{Number, negative, magnitude}
-use Rattle.ieee.specs.Fractions.{eqb-same}
+use Rattle.ieee.specs.Units.{Number, negative, magnitude, patternUnits}
+use Rattle.ieee.specs.Fractions.{same-test}
 use Rattle.ieee.specs.Finite.{facts}
-use Rattle.ieee.specs.Compare.{eq-units}
 use Rattle.lists.specs.Apart.{apart}
 use Rattle.exponent.specs.Power.{powers, powerOf}
-use Rattle.exponent.specs.PowerLaws.{power-number, power-negative, power-magnitude, power-whole, power-same}
+use Rattle.exponent.specs.PowerLaws.{power-number, power-negative, power-magnitude, power-same}
+use Rattle.exponent.specs.CeilingLaws.{positive-units}
 use Rattle.kinds.specs.Limits.{Width, exponentOf}
 use Rattle.judge.specs.Table.{sizeOf}
-use Rattle.sound.specs.Sound.{soundSigma}
+use Rattle.sound.specs.Sound.{atMost, soundSigma}
 use Rattle.sound.specs.Numbers.{limitExponent, SigmaBetween}
-use Rattle.sound.specs.WithinLaws.{between, positive-whole}
 
 pub both-true : (a b : Bool) → (a && b) ≡ true → (a ≡ true) × (b ≡ true)
 both-true true b e = (refl, e)
@@ -61,74 +61,44 @@ sigma-holds W n x h =
 exponents : {m : ℕ} (M top : ℕ) → 2 ^ M ≤ m → m ≤ 2 ^ (M + top) → (M ≤ ceil m) × (ceil m ≤ M + top)
 exponents {m} M top h k = (pow-le-back M (ceil m) (le-trans h (ceil-ge m)), ceil-least k)
 
--- ---- between two powers of two
-abbrev pub inRange : Format → ℕ → ℕ → Float → Bool
-inRange f M top x = le (powerOf f M) x && le x (powerOf f (M + top))
+-- ---- a power of two of at least 2^m units, by its pattern
+abbrev pub powerFrom : Format → ℕ → Float → Bool
+powerFrom f m x = not (negative x) && leb (2 ^ m) (magnitude f x) && eqb (magnitude f x) (2 ^ ceil (magnitude f x))
 
-pub record Inside (f : Format) (M top : ℕ) (x : Float) : Type 0 where
-  pub number : Number f x
-  pub positive : negative x ≡ false
-  pub least : 2 ^ M ≤ magnitude f x
-  pub most : magnitude f x ≤ 2 ^ (M + top)
+abbrev pub exponentIn : Format → Float → ℕ
+exponentIn f x = ceil (magnitude f x)
 
-module _ (f : Format) (M top : ℕ) (room : M + top < powers f) (x : Float) (fit : T (fits f x)) where
-  low-room : M < powers f
-  low-room = omega arith
-
-  tests : Bool
-  tests = not (negative x) && leb (2 ^ M) (magnitude f x) && leb (magnitude f x) (2 ^ (M + top))
-
-  range-is : inRange f M top x ≡ (finite x && tests)
-  unfolding tests
-  range-is =
-      rw (power-magnitude f low-room, power-magnitude f room) at
-      (between f x fit (power-number f low-room) (power-number f room) (power-negative f low-room) (power-negative f room)
-      (rw (power-magnitude f low-room) (pow-pos M)))
-
-  pub range-inside : inRange f M top x ≡ true → Inside f M top x
-  unfolding tests
-  range-inside h =
-      let A = not (negative x) in
-      let B = leb (2 ^ M) (magnitude f x) in
-      let C = leb (magnitude f x) (2 ^ (M + top)) in
-      let a = both-true (finite x) (A && B && C) (sym range-is ∙ h) in
-      let b = both-true (A && B) C (a .1) in
-      let c = both-true A B (b .0) in
-      record {
-        number = record { fit = fit; fini = rw (a .0) tt };
-        positive = not-true (negative x) (c .0);
-        least = leb-true (2 ^ M) (magnitude f x) (c .1);
-        most = leb-true (magnitude f x) (2 ^ (M + top)) (b .1);
-      }
-
-  pub range-outside : inRange f M top x ≡ false → Inside f M top x → ⊥
-  unfolding tests
-  range-outside h I =
-      let e : (finite x && tests) ≡ true = simp (
-        is-true (finite x) (I .number .fini),
-        I .positive,
-        le-leb (2 ^ M) (magnitude f x) (I .least),
-        le-leb (magnitude f x) (2 ^ (M + top)) (I .most),
-      ) in
-      let z : _≡_ {A = ℕ} 0 1 = cc range-is in
-      omega arith
-
-  -- its exponent is that of a float
-  pub inside-exponent : Inside f M top x → (M ≤ ceil (magnitude f x)) × (ceil (magnitude f x) ≤ M + top)
-  inside-exponent I = exponents M top (I .least) (I .most)
-
-  pub inside-power : (I : Inside f M top x) → eq (powerOf f (ceil (magnitude f x))) x ≡ eqb (magnitude f x) (2 ^ ceil (magnitude f x))
-  inside-power I =
-      rw (eq-units f (powerOf f k) x (power-number f l) (I .number), power-whole f l, positive-whole f x (I .positive))
-      (eqb-same (2 ^ k + 0) (magnitude f x + 0) (magnitude f x) (2 ^ k) (omega arith) (omega arith))
+module _ {f : Format} {x : Float} (X : Number f x) (s : negative x ≡ false) (room : exponentIn f x < powers f) where
+  power-bits : eqb (toBits f (powerOf f (exponentIn f x))) (toBits f x) ≡ eqb (magnitude f x) (2 ^ exponentIn f x)
+  power-bits =
+      same-test (eqb (toBits f (powerOf f (exponentIn f x))) (toBits f x)) (eqb (magnitude f x) (2 ^ exponentIn f x))
+      (λ t. eq→eqb (units (eqb→eq (toBits f (powerOf f (exponentIn f x))) (toBits f x) t))) (λ t. eq→eqb (bits (eqb→eq (magnitude f x) (2 ^ exponentIn f x) t)))
     where
-      k : ℕ
-      k = ceil (magnitude f x)
+      units : toBits f (powerOf f (exponentIn f x)) ≡ toBits f x → magnitude f x ≡ 2 ^ exponentIn f x
+      units e =
+          positive-units X s ∙ ap (patternUnits f) (sym e) ∙ sym (positive-units (power-number f room) (power-negative f room)) ∙ power-magnitude f room
 
-      l : k < powers f
-      l = omega (arith, inside-exponent I)
+      bits : magnitude f x ≡ 2 ^ exponentIn f x → toBits f (powerOf f (exponentIn f x)) ≡ toBits f x
+      bits e = ap (toBits f) (sym (power-same f room X (rw (s, e) at (facts f x X .is))))
 
--- ---- a sound sigma is in range and equals the power of two at its exponent. 2^top is the largest magnitude in units
+  pub power-from : (m : ℕ) → (leb m (exponentIn f x) && eqb (toBits f (powerOf f (exponentIn f x))) (toBits f x)) ≡ powerFrom f m x
+  power-from m = rw (power-bits, s) (go (eqb (magnitude f x) (2 ^ exponentIn f x)) (eqb-true (magnitude f x) (2 ^ exponentIn f x)))
+    where
+      exponents-same : magnitude f x ≡ 2 ^ exponentIn f x → leb m (exponentIn f x) ≡ leb (2 ^ m) (magnitude f x)
+      exponents-same e =
+          same-test (leb m (exponentIn f x)) (leb (2 ^ m) (magnitude f x))
+          (λ t. le→leb (2 ^ m) (magnitude f x) (rw e (pow-mono (leb→le m (exponentIn f x) t))))
+          (λ t. le→leb m (exponentIn f x) (pow-le-back m (exponentIn f x) (rw e at (leb→le (2 ^ m) (magnitude f x) t))))
+
+      go : (c : Bool) → (c ≡ true → magnitude f x ≡ 2 ^ exponentIn f x) → (leb m (exponentIn f x) && c) ≡ (leb (2 ^ m) (magnitude f x) && c)
+      go true h = ap (λ (b : Bool). b && true) (exponents-same (h refl))
+      go false h = and-false (leb m (exponentIn f x)) ∙ sym (and-false (leb (2 ^ m) (magnitude f x)))
+
+-- a negative number is none
+pub negative-power : (f : Format) (x : Float) (m : ℕ) → negative x ≡ true → false ≡ powerFrom f m x
+negative-power f x m s = rw s
+
+-- ---- a sound sigma, with 2^top the largest magnitude in units
 module _ (W : Width) (top : ℕ) (is : sizeOf W (W .magnitude) ≡ 2 ^ top) (n : ℕ) where
   high : 2 ^ exponentOf n * sizeOf W (W .magnitude) ≡ 2 ^ (exponentOf n + top)
   high = rw is (sym (pow-add 2 (exponentOf n) top))
@@ -163,37 +133,24 @@ module _ (W : Width) (top : ℕ) (is : sizeOf W (W .magnitude) ≡ 2 ^ top) (n :
       most : 2 ^ P .k ≤ 2 ^ exponentOf n * 2 ^ top
       most = rw (← (pow-add 2 (exponentOf n) top)) (pow-mono (omega (arith, P .to, limit-is)))
 
-module _ (W : Width) (top : ℕ) (is : sizeOf W (W .magnitude) ≡ 2 ^ top) (n : ℕ) (room : exponentOf n + top < powers (W .format))
-    (x : Float) (fit : T (fits (W .format) x)) where
-  pub sigma-inside : soundSigma W n x ≡ true → Inside (W .format) (exponentOf n) top x
-  sigma-inside h =
-      let s = sigma-holds W n x h in
-      record { number = record { fit = fit; fini = s .fini }; positive = s .positive; least = s .least; most = rw (high W top is n) at (s .most) }
-
-  pub sigma-in : inRange (W .format) (exponentOf n) top x ≡ true → soundSigma W n x ≡ eq (powerOf (W .format) (ceil (magnitude (W .format) x))) x
-  unfolding soundSigma
-  sigma-in h =
-      let I = range-inside (W .format) (exponentOf n) top room x fit h in
+  -- it is no larger than the greatest sigma, and a power of two from the least one on
+  pub sigma-is : (x : Float) → (atMost W (2 ^ (exponentOf n + top)) x && powerFrom (W .format) (exponentOf n) x) ≡ soundSigma W n x
+  unfolding atMost soundSigma
+  sigma-is x =
       let m = magnitude (W .format) x in
-      let most = 2 ^ exponentOf n * sizeOf W (W .magnitude) in
-      all (finite x) (not (negative x)) (eqb m (2 ^ ceil m)) (leb (2 ^ exponentOf n) m) (leb m most)
-      (is-true (finite x) (I .number .fini)) (ap not (I .positive)) (le-leb (2 ^ exponentOf n) m (I .least)) (le-leb m most (rw (high W top is n) (I .most)))
-      ∙ sym (inside-power (W .format) (exponentOf n) top room x fit I)
+      rw (← high) (moved (finite x) (not (negative x)) (eqb m (2 ^ ceil m)) (leb (2 ^ exponentOf n) m) (leb m (2 ^ exponentOf n * sizeOf W (W .magnitude))))
     where
-      all : (a b c d e : Bool) → a ≡ true → b ≡ true → d ≡ true → e ≡ true → (a && b && c && d && e) ≡ c
-      all a b c d e p q r s = rw (p, q, r, s) (and-true (c && true) ∙ and-true c)
-
-  pub sigma-out : inRange (W .format) (exponentOf n) top x ≡ false → soundSigma W n x ≡ false
-  sigma-out h = go (soundSigma W n x) refl
-    where
-      go : (b : Bool) → soundSigma W n x ≡ b → soundSigma W n x ≡ false
-      go true e = absurd (range-outside (W .format) (exponentOf n) top room x fit h (sigma-inside e))
-      go false e = e
+      moved : (a b c d e : Bool) → ((a && e) && (b && d && c)) ≡ (a && b && c && d && e)
+      moved false b c d e = refl
+      moved true b c d false = sym (and-false (b && c && d))
+      moved true false c d true = refl
+      moved true true c true true = sym (and-true (c && true) ∙ and-true c)
+      moved true true c false true = sym (and-true (c && false) ∙ and-false c)
 
   -- it is the float at its exponent
-  pub sigma-power : soundSigma W n x ≡ true → x ≡ powerOf (W .format) (ceil (magnitude (W .format) x))
-  sigma-power h =
+  pub sigma-power : exponentOf n + top < powers (W .format) → (x : Float) → T (fits (W .format) x) → soundSigma W n x ≡ true
+      → x ≡ powerOf (W .format) (ceil (magnitude (W .format) x))
+  sigma-power room x fit h =
       let s = sigma-holds W n x h in
-      let I = sigma-inside h in
-      power-same (W .format) (omega (arith, sigma-exponent W top is n s)) (I .number)
-      (rw (s .positive, s .power) at (facts (W .format) x (I .number) .is))
+      let X : Number (W .format) x = record { fit = fit; fini = s .fini } in
+      power-same (W .format) (omega (arith, sigma-exponent s)) X (rw (s .positive, s .power) at (facts (W .format) x X .is))

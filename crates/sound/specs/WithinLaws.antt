@@ -1,5 +1,5 @@
--- Two comparisons of floats that a number has to pass, and no NaN does: it lies between a limit and its negative exactly where it is finite and no larger,
--- and between two positive limits exactly where it is finite, positive and between them. Assumes nothing.
+-- Two comparisons of floats that a number has to pass, and no NaN does: it lies between a limit and its negative exactly where it is finite and no larger.
+-- Assumes nothing.
 use mathlib.Core.Path.{_≡_, refl, ap}
 use mathlib.Core.Bool.{Bool, true, false, not, _&&_}
 use Prim.Native.Nat.{ℕ, _+_, _≤_, _<_}
@@ -66,20 +66,3 @@ module _ (f : Format) (x : Float) (fit : T (fits f x)) where
 
     pub within : (le (neg b) x && le x b) ≡ (finite x && leb (magnitude f x) (magnitude f b))
     within = cases (leb (magnitude f x) (magnitude f b)) (neg b) b (neg-number f b B .fini) (B .fini) inside
-
-  -- ---- between two positive limits
-  module _ {a b : Float} (A : Number f a) (B : Number f b) (r : negative a ≡ false) (s : negative b ≡ false) (some : 0 < magnitude f a) where
-    pub between : (le a x && le x b) ≡ (finite x && (not (negative x) && leb (magnitude f a) (magnitude f x) && leb (magnitude f x) (magnitude f b)))
-    unfolding whole
-    between = cases (not (negative x) && leb (magnitude f a) (magnitude f x) && leb (magnitude f x) (magnitude f b)) a b (A .fini) (B .fini) above
-      where
-        by : (t : Bool) (n k m : ℕ) → 0 < k
-            → (leb (k + signedWhole t n .dn) (signedWhole t n .up + 0) && leb (signedWhole t n .up + 0) (m + signedWhole t n .dn))
-            ≡ (not t && leb k n && leb n m)
-        by false n k m h = rw (add-zero k, add-zero n, add-zero m)
-        by true n k m h = rw (lt-leb (k + n) (0 + 0) (omega arith))
-
-        above : Number f x → (le a x && le x b) ≡ (not (negative x) && leb (magnitude f a) (magnitude f x) && leb (magnitude f x) (magnitude f b))
-        above X =
-            rw (le-units f a x A X, le-units f x b X B, positive-whole f a r, positive-whole f b s)
-            (by (negative x) (magnitude f x) (magnitude f a) (magnitude f b) some)

@@ -1,9 +1,10 @@
 // The numbers of a sound state, its pending set excepted, and that set.
 use kinds::Doubles;
+use kinds::SIGN;
 use kinds::State;
 ghost use mathlib.Core.Path.{_≡_};
 ghost use mathlib.Core.Bool.{false};
-ghost use Prim.Native.Nat.{_≤_};
+ghost use Prim.Native.Nat.{_≤_, _<_};
 ghost use lib.Dec.{T};
 ghost use lib.Ieee.{binary64};
 ghost use lib.Ieee.Scale.{finite};
@@ -11,7 +12,9 @@ ghost use Rattle.units.specs.Rounding.{ceil};
 ghost use Rattle.ieee.specs.Units.{magnitude, negative};
 ghost use Rattle.kinds.specs.Limits.{doubles};
 ghost use Rattle.judge.specs.Table.{sizeOf};
+ghost use Rattle.exponent.specs.Power.{powers};
 ghost use Rattle.sound.specs.Sound.{soundSigma, atMost, soundNumbers, soundPending};
+ghost use Rattle.sound.specs.SigmaLaws.{powerFrom};
 
 // Whether x is finite and no larger than the limit. A NaN passes no comparison, so it fails this one.
 pub fn at_most(x: f64, limit: f64) -> bool
@@ -28,14 +31,28 @@ fn top() -> u32
     exponent::ceiling(f64::from_bits(Doubles::MAGNITUDE))
 }
 
-// Rule WS6: what lies between the two bounds is a number, and its exponent is that of a float. M is asked of lists that aren't too long.
+// Whether a number is 2^k units with k at least m: whether its pattern is that of the power of two at its own exponent (rule F4).
+fn power_from(x: f64, m: u32) -> bool
+    requires { ⌜ T (finite x) × (ceil (magnitude binary64 x) < powers binary64) ⌝ }
+    ensures { λ r. ⌜ r ≡ powerFrom binary64 m x ⌝ }
+{
+    let p = f64::to_bits(x);
+    if SIGN <= p {
+        return false;
+    }
+    let k = exponent::ceiling(x);
+    (m <= k) & (f64::to_bits(exponent::power(k)) == p)
+}
+
+// Rule WS6: no bits are taken of a NaN, so sigma is held to the greatest one as a double; the least, a subnormal number, is compared with by exponents. M is
+// asked of lists that aren't too long.
 pub fn sigma(sigma: f64, n: usize) -> bool
     requires { ⌜ n ≤ doubles .length ⌝ }
     ensures { λ r. ⌜ r ≡ soundSigma doubles n sigma ⌝ }
 {
     let m = Doubles::of(n).exponent();
-    if (exponent::power(m) <= sigma) & (sigma <= exponent::power(m + top())) {
-        return exponent::power(exponent::ceiling(sigma)) == sigma;
+    if at_most(sigma, exponent::power(m + top())) {
+        return power_from(sigma, m);
     }
     false
 }

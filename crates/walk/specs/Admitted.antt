@@ -68,6 +68,7 @@ module _ {W : Width} (F : Fitting W) {s : State} {b : ℕ} {xs : List Float} (P 
   pub admitted-closable : Closable W (takenState W s b xs) (turned W (s .sigma) b xs)
   admitted-closable = record {
     counts = P .numbers .counts;
+    sigma = P .numbers .sigma;
     count = turned-length ∙ P .long;
     work = each-weaker (Small (W .format) (2 ^ P .e)) (Small (W .format) (sizeOf W (W .magnitude)))
         (λ x X. record { number = X .number; within = rw (F .top-is) (le-trans (X .within) (pow-mono (P .low))) }) (turned W (s .sigma) b xs) turned-small;

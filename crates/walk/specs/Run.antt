@@ -9,12 +9,13 @@ use lib.Pow.{pow-mono}
 use lib.Ieee.{Float}
 use Rattle.lists.specs.Apart.{apart}
 use Rattle.lists.specs.Each.{each-weaker}
-use Rattle.kinds.specs.Limits.{Width, blocksOf}
+use Rattle.kinds.specs.Limits.{Width, exponentOf, blocksOf}
 use Rattle.kinds.specs.Outcome.{outcome}
 use Rattle.kinds.specs.declared.State.{State}
 use Rattle.kinds.specs.declared.Step.{Step}
 use Rattle.kinds.specs.declared.Step.the-variants.{More, Done, Refused}
 use Rattle.extract.specs.ExtractLaws.{remainders-length}
+use Rattle.sound.specs.SigmaLaws.{limit-is}
 use Rattle.rounds.specs.Round.{allTaken, allLeft, closed}
 use Rattle.rounds.specs.InUnits.{Small, remainders-small}
 use Rattle.rounds.specs.Closable.{Closable}
@@ -107,6 +108,14 @@ module _ {W : Width} {F : Fitting W} {n : ℕ} {s : State} {xs : List Float} (R 
       let l : 2 ^ R .e ≤ 2 ^ F .top = pow-mono (omega (arith, B .lowered)) in
       rw (T, Y) (record {
         counts = record { some = B .some; few = B .few; rounds = begun-rounds B };
+        sigma = record {
+          k = exponentOf (s .n) + R .e;
+          fini = B .scale .power .number .fini;
+          positive = B .scale .power .sign;
+          power = B .scale .power .units;
+          from = omega arith;
+          to = omega (arith, B .lowered, limit-is W (F .top) (F .top-is) (s .n));
+        };
         count = remainders-length (W .format) (s .sigma) xs ∙ B .count;
         work = each-weaker (Small (W .format) (2 ^ R .e)) (Small (W .format) (sizeOf W (W .magnitude)))
             (λ x X. record { number = X .number; within = rw (F .top-is) (le-trans (X .within) l) })

@@ -1,17 +1,17 @@
 -- `rounds::close::close` meets its contract: each branch is a rule's, by the laws of the close. Assumes nothing.
-use mathlib.Core.Path.{_≡_, sym, ap, _∙_}
-use mathlib.Core.Bool.{_||_}
-use Prim.Native.Nat.{_+_, _≤_}
+use mathlib.Core.Path.{_≡_, sym, subst, ap, _∙_}
+use Prim.Native.Nat.{ℕ, _+_, _≤_}
 use native.Mathlib.Omega.{arith}
 use borrow.Author.Needs.{needs}
-use lib.Dec.{lit<}
-use lib.Ieee.{Float, binary64, le}
-use Rattle.ieee.specs.Pattern.{pattern-no-nan}
-use Rattle.kinds.specs.Limits.{doubles}
+use lib.Dec.{T}
+use lib.Ieee.{Float, binary64}
+use Rattle.kinds.specs.Limits.{doubles, exponentOf}
 use Rattle.kinds.specs.LimitsLaws.{exponent-most}
 use Rattle.kinds.specs.declared.Step.the-variants.{Done}
-use Rattle.rounds.specs.ClosedLaws.{finishes, closed-zero, closed-finish, closed-further}
-use Rattle.rounds.specs.Round.{leastNormal}
+use Rattle.sound.specs.DoublesLaws.{magnitude-exponent, sigma-room}
+use Rattle.rounds.specs.Closable.{PowerFrom}
+use Rattle.rounds.specs.ClosedLaws.{tau1Of, enough, finishes, not-finishes, closed-zero, closed-finish, closed-further}
+use Rattle.rounds.specs.PatternLaws.{power-above}
 use Rattle.rounds.proofs.close.close.Statement.{statement}
 use Rattle.rounds.proofs.close.close.Tie as tie
 
@@ -35,43 +35,46 @@ exponent-requires c κs = search needs
 few : (c : tie.After-exponent) → c .exponent .result ≤ 12
 few c = rw (c .exponent .ensures) (exponent-most (c .before .of .result .n) (search needs))
 
-mul-scaled : tie.Need-mul-scaled
-mul-scaled c = omega (arith, few c)
+-- sigma is a power of two of the format
+power : (c : tie.Start) → PowerFrom binary64 0 (c .args .s .sigma)
+power c =
+    let P = c .pre .sigma in
+    record {
+      k = P .k;
+      fini = P .fini;
+      positive = P .positive;
+      power = P .power;
+      from = omega arith;
+      to = omega (arith, P .to, magnitude-exponent, sigma-room (c .args .s .n) (c .pre .counts .few));
+    }
 
-add-scaled : tie.Need-add-scaled
-add-scaled c = omega (arith, few c)
+enough-requires : tie.Need-enough-requires
+enough-requires c κs = (few c, power (c .before .before .before .before .before .before))
 
-scaled-requires : tie.Need-scaled-requires
-scaled-requires c κs = omega (arith, few c)
-
-float-from-bits-if2 : tie.Need-float-from-bits-if2
-float-from-bits-if2 c = pattern-no-nan binary64 (lit< tt)
-
-absolute-requires : tie.Need-absolute-requires
-absolute-requires c κs = search needs
+-- the code's test is rule W3's
+tested : (c : tie.After-enough) → c .enough .result ≡ finishes doubles (c .before .before .before .before .before .before .before .args .s)
+tested c =
+    let x = c .before in
+    let s = x .before .before .before .before .before .before .args .s in
+    c .enough .ensures ∙ ap (λ (M : ℕ). enough binary64 M (s .sigma) (tau1Of doubles s)) (x .exponent .ensures ∙ ap exponentOf (x .before .of .ensures))
 
 finish-requires : tie.Need-finish-requires
 finish-requires c κs = search needs
 
--- the code's test is rule W3's
-tested : (c : tie.After-absolute)
-    → (le (c .before .before .before .before .before .before .before .before .args .s .sigma) (leastNormal binary64)
-    || le (c .before .scaled .result) (c .absolute .result))
-    ≡ finishes doubles (c .before .before .before .before .before .before .before .before .args .s)
-tested c =
-    let x = c .before .before in
-    rw (c .absolute .ensures, c .before .scaled .ensures, x .exponent .ensures, x .before .of .ensures)
-
 returns-2 : tie.Need-returns-2
 returns-2 c =
     let a = c .before .before in
-    let o = a .before .before .before .before in
+    let o = a .before .before .before in
     let s = o .before .before .before .before .args in
     ap (λ (x : Float). Done x (s .s .rounds + 1)) (c .finish .ensures)
     ∙ sym (closed-finish doubles _ (s .s) (s .work .now) (o .if1 .left) (sym (tested a) ∙ c .before .if2 .taken))
 
-scaled-requires-2 : tie.Need-scaled-requires-2
-scaled-requires-2 c κs = omega (arith, few (c .before .before .before))
+scaled-requires : tie.Need-scaled-requires
+scaled-requires c κs =
+    let x = c .before .before in
+    let g = x .before .before .before .before .before .before in
+    let h = not-finishes doubles (g .args .s) (sym (tested (c .before)) ∙ c .if2 .left) .0 in
+    (omega (arith, few x), power-above binary64 (power g) (subst T (sym (g .good .0 .1 .1 .0 .1)) tt) h)
 
 begin-requires : tie.Need-begin-requires
 begin-requires c κs = search needs
@@ -80,10 +83,10 @@ returns-3 : tie.Need-returns-3
 returns-3 c =
     let g = c .before in
     let a = g .before .before in
-    let x = a .before .before in
+    let x = a .before in
     let o = x .before .before in
     let s = o .before .before .before .before .args in
-    rw (c .begin .ensures, g .scaled2 .ensures, x .exponent .ensures, x .before .of .ensures)
+    rw (c .begin .ensures, g .scaled .ensures, x .exponent .ensures, x .before .of .ensures)
     (sym (closed-further doubles _ (s .s) (s .work .now) (o .if1 .left) (sym (tested a) ∙ g .before .if2 .left)))
 
 pub close-spec : {M : Type 1} → statement M
@@ -95,13 +98,9 @@ close-spec =
     returns
     of-requires
     exponent-requires
-    mul-scaled
-    add-scaled
-    scaled-requires
-    float-from-bits-if2
-    absolute-requires
+    enough-requires
     finish-requires
     returns-2
-    scaled-requires-2
+    scaled-requires
     begin-requires
     returns-3)

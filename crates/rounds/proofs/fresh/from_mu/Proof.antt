@@ -1,15 +1,16 @@
 -- `rounds::fresh::from_mu` meets its contract: mu is zero exactly where its magnitude is, and sigma is of mu. Assumes nothing.
-use mathlib.Core.Path.{_≡_, refl, sym, _∙_}
+use mathlib.Core.Path.{_≡_, refl, sym}
 use mathlib.Core.Bool.{false}
 use Prim.Native.Nat.{_≤_}
 use native.Mathlib.Omega.{arith}
-use borrow.Author.Tests.{eqb-false}
+use borrow.Author.Tests.{eq-eqb, ne-eqb, eqb-false}
 use lib.Dec.{eqb}
 use lib.Ieee.{binary64}
 use Rattle.ieee.specs.Units.{magnitude}
+use Rattle.ieee.specs.Finite.{finite-no-nan}
 use Rattle.extract.specs.LargestLaws.{Positive}
 use Rattle.kinds.specs.Limits.{doubles}
-use Rattle.rounds.specs.SigmaLaws.{zero-test}
+use Rattle.rounds.specs.PatternLaws.{zero-bits}
 use Rattle.rounds.specs.ClosedLaws.{fresh-zero, fresh-round}
 use Rattle.rounds.proofs.fresh.from_mu.Statement.{statement}
 use Rattle.rounds.proofs.fresh.from_mu.Tie as tie
@@ -17,13 +18,17 @@ use Rattle.rounds.proofs.fresh.from_mu.Tie as tie
 mu : (c : tie.Start) → Positive binary64 (c .args .mu) (magnitude binary64 (c .args .mu))
 mu c = record { number = c .pre .1 .number; sign = c .pre .2; units = refl }
 
+float-to-bits-if1 : tie.Need-float-to-bits-if1
+float-to-bits-if1 c = finite-no-nan (c .args .mu) (c .pre .1 .number .fini)
+
 returns : tie.Need-returns
 returns c =
     let s = c .before in
-    sym (fresh-zero doubles (s .args .zero) (s .args .n) (magnitude binary64 (s .args .mu)) (s .args .rounds) (sym (zero-test binary64 (mu s)) ∙ c .if1 .taken))
+    let m = magnitude binary64 (s .args .mu) in
+    sym (fresh-zero doubles (s .args .zero) (s .args .n) m (s .args .rounds) (eq-eqb m 0 (zero-bits binary64 (mu s) .0 (c .if1 .taken))))
 
 some : (c : tie.Else1) → eqb (magnitude binary64 (c .before .args .mu)) 0 ≡ false
-some c = sym (zero-test binary64 (mu (c .before))) ∙ c .if1 .left
+some c = ne-eqb (magnitude binary64 (c .before .args .mu)) 0 (λ e. c .if1 .left (zero-bits binary64 (mu (c .before)) .1 e))
 
 sigma-requires : tie.Need-sigma-requires
 sigma-requires c κs = let s = c .before in (s .pre .0, s .pre .1, s .pre .2)
@@ -41,4 +46,4 @@ returns-2 c =
     (sym (fresh-round doubles (s .args .zero) (s .args .n) (magnitude binary64 (s .args .mu)) (s .args .rounds) (some (c .before .before))))
 
 pub from-mu-spec : {M : Type 1} → statement M
-from-mu-spec = tie.close (tie.spec returns sigma-requires begin-requires returns-2)
+from-mu-spec = tie.close (tie.spec float-to-bits-if1 returns sigma-requires begin-requires returns-2)

@@ -1,14 +1,19 @@
--- `sound::numbers::sigma` meets its contract: in range sigma is a number, and sound exactly where it equals the power of two at its exponent. Assumes nothing.
+-- `sound::numbers::sigma` meets its contract: up to the greatest sigma it is a number, and sound exactly where its pattern is a power of two's from the least
+-- one on. Assumes nothing.
 use borrow.Author.Needs.{needs}
-use mathlib.Core.Path.{_≡_, sym, subst, ap, _∙_}
-use mathlib.Core.Bool.{_&&_}
-use Prim.Native.Nat.{_+_, _<_}
+use mathlib.Core.Path.{_≡_, sym, ap, _∙_}
+use mathlib.Core.Bool.{Bool, true, false, _&&_}
+use Prim.Native.Nat.{ℕ, _+_, _^_, _<_}
 use native.Mathlib.Omega.{arith}
-use lib.Dec.{T}
-use lib.Ieee.{binary64, fits, le}
+use lib.Ieee.{binary64}
+use Rattle.units.specs.Ceiling.{ceil-least}
+use Rattle.ieee.specs.Units.{magnitude}
 use Rattle.exponent.specs.Power.{powers, powerOf}
+use Rattle.exponent.specs.PowerLaws.{power-number, power-negative, power-magnitude}
 use Rattle.kinds.specs.Limits.{doubles, exponentOf}
-use Rattle.sound.specs.SigmaLaws.{Inside, inRange, range-inside, inside-exponent, sigma-in, sigma-out}
+use Rattle.sound.specs.Sound.{atMost, soundSigma}
+use Rattle.sound.specs.SigmaLaws.{powerFrom, sigma-is}
+use Rattle.sound.specs.SoundLaws.{at-most-holds}
 use Rattle.sound.specs.DoublesLaws.{magnitude-units, magnitude-exponent, sigma-room}
 use Rattle.sound.proofs.numbers.sigma.Statement.{statement}
 use Rattle.sound.proofs.numbers.sigma.Tie as tie
@@ -25,77 +30,58 @@ low c = c .exponent .ensures ∙ ap exponentOf (c .before .of .ensures)
 room : (c : tie.Start) → exponentOf (c .args .n) + 2074 < powers binary64
 room c = sigma-room (c .args .n) (c .pre)
 
-power-requires : tie.Need-power-requires
-power-requires c κs = omega (arith, low c, room (c .before .before))
-
 top-requires : tie.Need-top-requires
 top-requires c κs = search needs
 
-high : (c : tie.After-top) → c .before .before .exponent .result + c .top .result ≡ exponentOf (c .before .before .before .before .args .n) + 2074
-high c = λ i. low (c .before .before) i + (c .top .ensures ∙ magnitude-exponent) i
+high : (c : tie.After-top) → c .before .exponent .result + c .top .result ≡ exponentOf (c .before .before .before .args .n) + 2074
+high c = λ i. low (c .before) i + (c .top .ensures ∙ magnitude-exponent) i
 
 add-power : tie.Need-add-power
-add-power c = omega (arith, high c, room (c .before .before .before .before))
+add-power c = omega (arith, high c, room (c .before .before .before))
 
-power-requires-2 : tie.Need-power-requires-2
-power-requires-2 c κs = omega (arith, high c, room (c .before .before .before .before))
+power-requires : tie.Need-power-requires
+power-requires c κs = omega (arith, high c, room (c .before .before .before))
 
--- ---- the test
-fit : (c : tie.Start) → T (fits binary64 (c .args .sigma))
-fit c = subst T (sym (c .good .0 .1)) tt
+-- the greatest sigma
+limit : (c : tie.After-power) → c .power .result ≡ powerOf binary64 (exponentOf (c .before .before .before .before .args .n) + 2074)
+limit c = c .power .ensures ∙ ap (powerOf binary64) (high (c .before))
 
-test : (c : tie.After-power2)
-    → (le (c .before .before .power .result) (c .before .before .before .before .before .args .sigma)
-    && le (c .before .before .before .before .before .args .sigma) (c .power2 .result))
-    ≡ inRange binary64 (exponentOf (c .before .before .before .before .before .args .n)) 2074 (c .before .before .before .before .before .args .sigma)
+at-most-requires : tie.Need-at-most-requires
+at-most-requires c κs =
+    let r = room (c .before .before .before .before) in
+    rw (limit c) (power-number binary64 r .fini, power-negative binary64 r)
+
+test : (c : tie.After-at-most)
+    → let a = c .before .before .before .before .before .args in c .at-most .result ≡ atMost doubles (2 ^ (exponentOf (a .n) + 2074)) (a .sigma)
 test c =
-    rw (
-      c .before .before .power .ensures ∙ ap (powerOf binary64) (low (c .before .before .before)),
-      c .power2 .ensures ∙ ap (powerOf binary64) (high (c .before)),
-    )
+    let s = c .before .before .before .before .before in
+    c .at-most .ensures
+    ∙ ap (λ (m : ℕ). atMost doubles m (s .args .sigma)) (ap (magnitude binary64) (limit (c .before)) ∙ power-magnitude binary64 (room s))
 
-inside : (c : tie.Then1)
-    → let a = c .before .before .before .before .before .before .args in Inside binary64 (exponentOf (a .n)) 2074 (a .sigma)
-inside c =
+power-from-requires : tie.Need-power-from-requires
+power-from-requires c κs =
     let s = c .before .before .before .before .before .before in
-    range-inside binary64 (exponentOf (s .args .n)) 2074 (room s) (s .args .sigma) (fit s) (sym (test (c .before)) ∙ c .if1 .taken)
+    let w = at-most-holds doubles (2 ^ (exponentOf (s .args .n) + 2074)) (s .args .sigma) (sym (test (c .before)) ∙ c .if1 .taken) in
+    (w .fini, omega (arith, ceil-least (w .small), room s))
 
-ceiling-requires : tie.Need-ceiling-requires
-ceiling-requires c κs = (inside c .number .fini, inside c .positive)
-
-power-requires-3 : tie.Need-power-requires-3
-power-requires-3 c κs =
-    let s = c .before .before .before .before .before .before .before in
-    omega (
-      arith,
-      c .ceiling .ensures,
-      inside-exponent binary64 (exponentOf (s .args .n)) 2074 (room s) (s .args .sigma) (fit s) (inside (c .before)) .1,
-      room s,
-    )
+-- a sound sigma, after the first test
+decided : (c : tie.After-at-most) (b : Bool) → c .at-most .result ≡ b → let a = c .before .before .before .before .before .args in
+    (b && powerFrom binary64 (exponentOf (a .n)) (a .sigma)) ≡ soundSigma doubles (a .n) (a .sigma)
+decided c b e =
+    let a = c .before .before .before .before .before .args in
+    ap (λ (t : Bool). t && powerFrom binary64 (exponentOf (a .n)) (a .sigma)) (sym e ∙ test c) ∙ sigma-is doubles 2074 magnitude-units (a .n) (a .sigma)
 
 returns : tie.Need-returns
 returns c =
     let t = c .before .before in
-    let s = t .before .before .before .before .before .before in
-    rw (c .power3 .ensures ∙ ap (powerOf binary64) (c .before .ceiling .ensures))
-    (sym (sigma-in doubles 2074 magnitude-units (s .args .n) (room s) (s .args .sigma) (fit s) (sym (test (t .before)) ∙ t .if1 .taken)))
+    let a = t .before .before .before .before .before .args in
+    c .power-from .ensures
+    ∙ ap (λ (m : ℕ). powerFrom binary64 m (a .sigma)) (low (t .before .before .before)) ∙ decided t true (c .before .if1 .taken)
 
 returns-2 : tie.Need-returns-2
-returns-2 c =
-    let s = c .before .before .before .before .before .before in
-    sym (sigma-out doubles 2074 magnitude-units (s .args .n) (room s) (s .args .sigma) (fit s) (sym (test (c .before)) ∙ c .if1 .left))
+returns-2 c = decided (c .before) false (c .if1 .left)
 
 pub sigma-spec : {M : Type 1} → statement M
 sigma-spec =
     tie.close
-    (tie.spec
-    of-requires
-    exponent-requires
-    power-requires
-    top-requires
-    add-power
-    power-requires-2
-    ceiling-requires
-    power-requires-3
-    returns
-    returns-2)
+    (tie.spec of-requires exponent-requires top-requires add-power power-requires at-most-requires power-from-requires returns returns-2)
