@@ -68,8 +68,9 @@ loop-again c =
     let x : Float = ofBits binary64 p in
     let Q : Stands binary64 (p % top binary64) (magnitude binary64 x) =
     pattern-stands binary64 p (allowed-number doubles p (first-good doubles (a .list .now) .0 (l .before .pre .1) .none _ k)) in
-    let next : largest binary64 (floats doubles (take (l .loop .i + 1) (a .list .now))) ≡ max (largest binary64 (floats doubles (take (l .loop .i) (a .list .now)))) (magnitude binary64 x) =
-    rw (take-next 0 (a .list .now) (l .loop .i) k, map-append) (largest-next binary64 (floats doubles (take (l .loop .i) (a .list .now))) x) in (
+    let before = floats doubles (take (l .loop .i) (a .list .now)) in
+    let next : largest binary64 (floats doubles (take (l .loop .i + 1) (a .list .now))) ≡ max (largest binary64 before) (magnitude binary64 x) =
+    rw (take-next 0 (a .list .now) (l .loop .i) k, map-append) (largest-next binary64 before x) in (
       search needs,
       rw (l .loop .inv .1) (store-map (ofBits (doubles .format)) (a .list .now) (a .work .now) (l .loop .i) 0 nan k h),
       rw next (elim (c .if1 .came) [

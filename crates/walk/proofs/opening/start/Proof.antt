@@ -70,7 +70,8 @@ returns c =
     let g = k .before .before .before .before in
     let ps = g .args .list .now in
     let e = z .zero .ensures ∙ ap (λ (s : Bool). nearestFloat (doubles .format) s (pos 0)) (z .before .zero-sign .ensures) in
-    let q = c .from-mu .ensures ∙ ap (λ (m : ℕ). fresh doubles (z .zero .result) (length ps) m 0) (mu k .units ∙ ap (largest binary64) (sym (k .copy .ensures .0))) in
+    let m = mu k .units ∙ ap (largest binary64) (sym (k .copy .ensures .0)) in
+    let q = c .from-mu .ensures ∙ ap (λ (u : ℕ). fresh doubles (z .zero .result) (length ps) u 0) m in
     opened-good doubles ps (g .args .work .now) _ _ (c .from-mu .result) e (k .copy .ensures .0) q
 
 pub start-spec : {M : Type 1} → statement M
