@@ -1,4 +1,4 @@
-// Which lists are allowed: the fault of one pattern, the first refusal of a list, and the copy of an allowed list as floats.
+// Which lists are allowed: the fault of one pattern, and the first refusal of a list; and the sign of a zero sum.
 use kinds::Doubles;
 use kinds::INFINITY;
 use kinds::SIGN;
@@ -7,9 +7,8 @@ ghost use mathlib.Core.Path.{_≡_};
 ghost use Prim.Native.Nat.{_≤_};
 ghost use lib.ListN.{length};
 ghost use Rattle.kinds.specs.Limits.{doubles};
-ghost use Rattle.kinds.specs.declared.Verdict.the-variants.{Good};
 ghost use Rattle.judge.specs.FaultlessLaws.{faultless};
-ghost use Rattle.judge.specs.Judge.{faultOf, firstFault, judged, floats, zeroSign};
+ghost use Rattle.judge.specs.Judge.{faultOf, firstFault, judged, zeroSign};
 
 // The number of a pattern's fault, 0 for none: rules R2 and R3.
 pub fn fault(p: u64) -> u32
@@ -72,18 +71,6 @@ pub fn judge(list: &[u64], area: bool, parts: bool) -> Verdict
         return Verdict::Good;
     }
     first_fault(list)
-}
-
-// The list as floats. Of an allowed list only, since `from_bits` asks for a pattern that is no NaN's, and to an area of the same length.
-pub fn copy(list: &[u64], work: &mut [f64])
-    requires { ⌜ (length (now work) ≡ length (now list)) × (firstFault doubles (now list) 0 ≡ Good) ⌝ }
-    ensures { λ _. ⌜ now (work .exit) ≡ floats doubles (now (list .entry)) ⌝ }
-{
-    let mut i = 0;
-    while i < list.len() {
-        work[i] = f64::from_bits(list[i]);
-        i += 1;
-    }
 }
 
 // Rule S3: the sign of the zero that a list with exact sum zero answers, the same for the faithful sum, the nearest and the first part.

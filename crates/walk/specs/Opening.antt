@@ -1,14 +1,18 @@
 -- The opening of an allowed list is a round of a run: its numbers are small, and sigma is taken from them. Assumes nothing.
-use mathlib.Core.Path.{_≡_}
+use mathlib.Core.Path.{_≡_, sym}
 use mathlib.Core.Bool.{false}
 use mathlib.Core.List.{List}
-use Prim.Native.Nat.{ℕ, _-_, _^_, _≤_, _<_}
+use Prim.Native.Nat.{ℕ, _-_, _*_, _%_, _^_, _≤_, _<_}
 use native.Mathlib.Nat.{zero-mul}
 use native.Mathlib.Omega.{arith}
+use lib.Dec.{leb, ltb→lt}
 use lib.ListN.{length, length-map}
-use lib.Ieee.{prec, nan, ofBits}
+use lib.Ieee.{Format, prec, nan, hid, ones, top, ofBits}
 use Rattle.units.specs.Rounding.{ceil}
 use Rattle.units.specs.Ceiling.{ceil-least}
+use Rattle.ieee.specs.Units.{Number, magnitude, patternUnits}
+use Rattle.ieee.specs.Finite.{is-units}
+use Rattle.ieee.specs.Pattern.{pattern-is, pattern-finite}
 use Rattle.lists.specs.Each.{Each, each-from, each-weaker}
 use Rattle.kinds.specs.Limits.{Width, exponentOf}
 use Rattle.judge.specs.Judge.{floats}
@@ -16,11 +20,18 @@ use Rattle.judge.specs.Table.{Allowed, sizeOf}
 use Rattle.judge.specs.FirstFaultLaws.{allowed-float, allowed-size}
 use Rattle.extract.specs.Extract.{largest}
 use Rattle.extract.specs.ExtractLaws.{largest-le}
+use Rattle.extract.specs.LargestLaws.{Stands}
 use Rattle.rounds.specs.Round.{allZero, freshRound}
 use Rattle.rounds.specs.Fitting.{Fitting}
 use Rattle.rounds.specs.InUnits.{Small}
 use Rattle.rounds.specs.Begun.{Begun}
 use Rattle.rounds.specs.FreshRound.{begins, largest-small, some-left}
+
+-- a finite pattern without its sign stands for its magnitude
+pub pattern-stands : (f : Format) (p : ℕ) → Number f (ofBits f p) → Stands f (p % top f) (magnitude f (ofBits f p))
+pattern-stands f p X =
+    let h : p % top f < ones f * hid f = ltb→lt (p % top f) (ones f * hid f) (rw (pattern-finite f p) at (X .fini)) in
+    record { below = h; units = sym (is-units f (ofBits f p) (leb (top f) p) (patternUnits f (p % top f)) (pattern-is f p h) .1) }
 
 module _ {W : Width} {ps : List ℕ} (A : Allowed W ps) where
   floats-length : length (floats W ps) ≡ length ps
