@@ -1,5 +1,5 @@
--- What the writer answers, case by case; each answer exactly when its row says (rule O6), and so it is heard, with no place; a refusal leaves the area as it was;
--- and two results that meet the writer's contract are equal. Assumes nothing.
+-- What the writer answers, case by case; each answer exactly when its row says (rule O6), and so it is heard, with no place; a refusal leaves the area as it
+-- was; and two results that meet the writer's contract are equal. Assumes nothing.
 use mathlib.Core.Path.{_≡_, refl, sym, ap, _∙_}
 use mathlib.Core.Logic.{_↔_, inl, inr}
 use mathlib.Core.List.{List, _++_}

@@ -86,7 +86,7 @@ pub fn read(sheet: &[u8], area: &mut [u64]) -> Sheet
     Sheet::Read(n)
 }
 
-// Rule O8. Patterns are written as they are: no double is made of one, so that a NaN keeps its payload.
+// Rule O8. For rule H6 patterns stay whole numbers on the way: of a double made of one a NaN's payload could not be told again.
 pub fn write(list: &[u64], sheet: &mut [u8]) -> Written
     ensures { λ r. ⌜ outcome r (now (sheet .exit)) ≡ writtenOf doubles (now (list .entry)) (now (sheet .entry)) ⌝ }
 {

@@ -32,8 +32,8 @@ returns-2 c =
     let after-write = after-bytes .before .before .before .before in
     let after-if1 = after-write .before .before in
     let a = after-if1 .before .before .before .before .args in
-    heard-returned writtenHeard valuesOf (a .out .now) (Wrote (after-bytes .bytes .given .0 .0)) refl (after-values .write2 .ensures) (after-write .write .ensures)
-    (after-bytes .bytes .given .1)
+    heard-returned writtenHeard valuesOf (a .out .now) (Wrote (after-bytes .bytes .given .0 .0)) refl (after-values .write2 .ensures)
+    (after-write .write .ensures) (after-bytes .bytes .given .1)
     ∙ sym (write-written (a .list .now) (a .sheet .now) (a .out .now) (after-if1 .if1 .left))
 
 returns-3 : tie.Need-returns-3
