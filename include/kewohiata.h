@@ -206,8 +206,8 @@ uint32_t kewohiata_weights_hand_on(const uint64_t *list, size_t list_length, siz
  * out: 1 number, the count. Refusals: 11 for fewer than 5 bytes; 12; 1; 11; 13; 4. */
 uint32_t kewohiata_sheet_read(const uint8_t *sheet, size_t sheet_length, uint64_t *area, size_t area_length, uint64_t *out, size_t out_length);
 
-/* Writes a list as a sheet (rules H4 and H5): 5 + 8n bytes from the start of `sheet`; the rest of it stays. No number is judged, and a NaN's pattern is written to
- * the bit. kewohiata_sheet_read gives back what was written.
+/* Writes a list as a sheet (rules H4 and H5): 5 + 8n bytes from the start of `sheet`; the rest of it stays. No number is judged, and a NaN's pattern is
+ * written to the bit. kewohiata_sheet_read gives back what was written.
  * sheet: 5 + 8n bytes or more. out: 1 number, the bytes that were written. Refusals: 1; 4. */
 uint32_t kewohiata_sheet_write(const uint64_t *list, size_t list_length, uint8_t *sheet, size_t sheet_length, uint64_t *out, size_t out_length);
 

@@ -1,7 +1,7 @@
 -- A sheet's bytes as the writer lays them: the version and the count over the first five, and the patterns behind those make the sheet. Assumes nothing.
 use mathlib.Core.Path.{_≡_, refl, sym, ap, _∙_}
 use mathlib.Core.List.{List, [], _∷_, _++_, append-assoc}
-use Prim.Native.Nat.{ℕ, _+_, _*_, _≤_}
+use Prim.Native.Nat.{ℕ, suc, _+_, _*_, _≤_}
 use native.Mathlib.Omega.{arith}
 use lib.ListN.{length, take, drop, set, length-append, length-drop}
 use lib.Seq.{take-at, drop-at, drop-drop}
@@ -9,11 +9,11 @@ use Rattle.octets.specs.Octets.{bigEndian}
 use Rattle.octets.specs.OctetsLaws.{big-length}
 use Rattle.sheet.specs.Sheet.{body, sheetOf}
 
-pub header-laid : (bs count : List ℕ) → 5 ≤ length bs → take 1 (set bs 0 1) ++ (count ++ drop 5 (set bs 0 1)) ≡ 1 ∷ (count ++ drop 5 bs)
-header-laid [] count h = absurd (omega arith)
-header-laid (b ∷ bs) count h = refl
+pub header-laid : (bs count : List ℕ) (v : ℕ) → 5 ≤ length bs → take 1 (set bs 0 v) ++ (count ++ drop 5 (set bs 0 v)) ≡ v ∷ (count ++ drop 5 bs)
+header-laid [] count v h = absurd (omega arith)
+header-laid (b ∷ bs) count v h = refl
 
-pub header-length : (bs : List ℕ) (n : ℕ) → 5 ≤ length bs → length (1 ∷ (bigEndian 4 n ++ drop 5 bs)) ≡ length bs
+pub header-length : (bs : List ℕ) (n : ℕ) → 5 ≤ length bs → suc (length (bigEndian 4 n ++ drop 5 bs)) ≡ length bs
 header-length bs n h = omega (arith, length-append (bigEndian 4 n) (drop 5 bs), big-length 4 n, length-drop 5 bs)
 
 module _ (ps bs : List ℕ) where

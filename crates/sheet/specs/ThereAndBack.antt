@@ -1,6 +1,6 @@
 -- Rule H6, the writer and the reader together: what was written is read back, whatever the patterns; a sheet that was read, written again, is the same bytes;
 -- and bytes behind a written sheet stay. Wherever the areas suffice neither refuses what the other made. Assumes nothing.
-use mathlib.Core.Path.{_≡_, refl, sym, ap, _∙_}
+use mathlib.Core.Path.{_≡_, sym, ap, _∙_}
 use mathlib.Core.List.{List, _++_}
 use Prim.Native.Nat.{ℕ, _+_, _-_, _*_, _^_, _≤_, _<_}
 use native.Mathlib.Omega.{arith}

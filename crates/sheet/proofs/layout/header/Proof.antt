@@ -18,14 +18,14 @@ same-length : tie.Need-same-length
 same-length c =
     let after-write = c .before .before in
     let a = after-write .before .before .before .args in
-    ap length (after-write .write-big-endian .ensures ∙ header-laid (a .sheet .now) (bigEndian 4 (a .n)) (omega arith))
+    ap length (after-write .write-big-endian .ensures ∙ header-laid (a .sheet .now) (bigEndian 4 (a .n)) _ (omega arith))
     ∙ header-length (a .sheet .now) (a .n) (omega arith)
 
 returns : tie.Need-returns
 returns c =
     let after-write = c .before .before in
     let a = after-write .before .before .before .args in
-    after-write .write-big-endian .ensures ∙ header-laid (a .sheet .now) (bigEndian 4 (a .n)) (omega arith)
+    after-write .write-big-endian .ensures ∙ header-laid (a .sheet .now) (bigEndian 4 (a .n)) _ (omega arith)
 
 pub header-spec : {M : Type 1} → statement M
 header-spec = tie.close (tie.spec slice-write-sheet write-big-endian-requires same-length returns)
