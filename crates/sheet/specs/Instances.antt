@@ -1,10 +1,10 @@
--- The sheet at the scope's width: every list of at most 4,094 patterns is read back; and rule P5's sheet and some of 1, 4, 5 and 6 bytes, computed; and some
--- that are written. Assumes nothing.
+-- The sheet at the scope's width: every list of at most 4,094 patterns is read back; and rule P5's sheet and some of 1, 4, 5 and 6 bytes, computed.
+-- Assumes nothing.
 use mathlib.Core.Path.{_≡_, refl}
 use mathlib.Core.List.{List, [], _∷_, _++_}
 use Prim.Native.Nat.{ℕ, _≤_}
 use lib.Dec.{lit≤}
-use lib.ListN.{length, drop, replicate}
+use lib.ListN.{length, drop}
 use Rattle.lists.specs.Digits.{Digits, number, digits}
 use Rattle.octets.specs.Octets.{joined, eights}
 use Rattle.kinds.specs.Limits.{doubles}
@@ -12,8 +12,6 @@ use Rattle.kinds.specs.Outcome.{outcome}
 use Rattle.kinds.specs.declared.Sheet.the-variants.{Read, Refused}
 use Rattle.sheet.specs.Sheet.{sheetOf, readOf}
 use Rattle.sheet.specs.SheetLaws.{sheet-read}
-use Rattle.sheet.specs.Write.{writtenOf}
-use Rattle.sheet.specs.declared.Written.the-variants as written
 
 pub doubles-read : (ps area : List ℕ) → length ps ≤ doubles .length → Digits 64 ps → length ps ≤ length area
     → readOf doubles (sheetOf ps) area ≡ outcome (Read (length ps)) (ps ++ drop (length ps) area)
@@ -63,21 +61,3 @@ limit-before-length = refl
 pub count-before-area : readOf doubles (1 ∷ 0 ∷ 0 ∷ 0 ∷ 1 ∷ []) [] ≡ outcome (Refused 11 0) []
 unfolding readOf eights number
 count-before-area = refl
-
--- ---- written: rule P5's list with a byte behind it, a NaN with a payload, no number, and a byte too few
-pub example-written : writtenOf doubles three (replicate 30 7) ≡ outcome (written.Wrote 29) (exampleSheet ++ (7 ∷ []))
-unfolding writtenOf sheetOf joined digits
-example-written = refl
-
-pub payload-written : writtenOf doubles (0x7FF0000000000203 ∷ []) (replicate 13 7)
-    ≡ outcome (written.Wrote 13) (1 ∷ 0 ∷ 0 ∷ 0 ∷ 1 ∷ 0x7F ∷ 0xF0 ∷ 0 ∷ 0 ∷ 0 ∷ 0 ∷ 2 ∷ 3 ∷ [])
-unfolding writtenOf sheetOf joined digits
-payload-written = refl
-
-pub none-written : writtenOf doubles [] (replicate 5 7) ≡ outcome (written.Wrote 5) (1 ∷ 0 ∷ 0 ∷ 0 ∷ 0 ∷ [])
-unfolding writtenOf sheetOf joined digits
-none-written = refl
-
-pub a-byte-short : writtenOf doubles (0 ∷ []) (replicate 12 7) ≡ outcome (written.Refused 4 0) (replicate 12 7)
-unfolding writtenOf
-a-byte-short = refl

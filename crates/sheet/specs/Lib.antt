@@ -8,3 +8,4 @@ pub mod TableLaws
 pub mod WriteLaws
 pub mod ThereAndBack
 pub mod Instances
+pub mod WriteInstances
