@@ -33,8 +33,8 @@ extern "C" {
 #endif
 
 /* Below 1.0.0 a call's form may still change, and the second number tells it. */
-#define KEWOHIATA_VERSION "0.2.1"
-enum { KEWOHIATA_VERSION_MAJOR = 0, KEWOHIATA_VERSION_MINOR = 2, KEWOHIATA_VERSION_PATCH = 1 };
+#define KEWOHIATA_VERSION "0.3.0"
+enum { KEWOHIATA_VERSION_MAJOR = 0, KEWOHIATA_VERSION_MINOR = 3, KEWOHIATA_VERSION_PATCH = 0 };
 
 /* The refusals, rules R1 to R17. A code has room for numbers up to 31; 18 and above are kept for later ones. */
 enum kewohiata_refusals {
@@ -205,6 +205,11 @@ uint32_t kewohiata_weights_hand_on(const uint64_t *list, size_t list_length, siz
  * counts, or more.
  * out: 1 number, the count. Refusals: 11 for fewer than 5 bytes; 12; 1; 11; 13; 4. */
 uint32_t kewohiata_sheet_read(const uint8_t *sheet, size_t sheet_length, uint64_t *area, size_t area_length, uint64_t *out, size_t out_length);
+
+/* Writes a list as a sheet (rules H4 and H5): 5 + 8n bytes from the start of `sheet`; the rest of it stays. No number is judged, and a NaN's pattern is
+ * written to the bit. kewohiata_sheet_read gives back what was written.
+ * sheet: 5 + 8n bytes or more. out: 1 number, the bytes that were written. Refusals: 1; 4. */
+uint32_t kewohiata_sheet_write(const uint64_t *list, size_t list_length, uint8_t *sheet, size_t sheet_length, uint64_t *out, size_t out_length);
 
 /* ---- the calls on bytes (rules C1 to C7). Patterns and words lie least significant byte first, 8 bytes each, on every machine, and at any address. */
 

@@ -1,7 +1,7 @@
 """The C calls: each as a request to the driver, with the answer that docs/SCOPE.md asks for.
 
 The answers come from the models of tests/exact.py (sums, parts and registers in whole units), tests/walk.py (the faithful walk) and tests/farewell.py
-(weights); what is said here is how they lie in arrays and which lengths are refused. Sheets are read as by tests/sheets.py. An array is its bytes, of whatever its elements are.
+(weights); what is said here is how they lie in arrays and which lengths are refused. Sheets are read and written as by tests/sheets.py. An array is its bytes, of whatever its elements are.
 """
 import collections
 import functools
@@ -29,6 +29,7 @@ CALLS = {
     "kewohiata_words_round": "QQ",
     "kewohiata_sheet_read": "BQQ",
     "kewohiata_weights_hand_on": "QQ",
+    "kewohiata_sheet_write": "QBQ",
 }
 NUMBERS = {call: number for number, call in enumerate(CALLS)}
 SIZE, SUM, REGISTER = 8, 16, 8 * exact.WORDS  # bytes of a number, of a sum in bytes, and of a register
@@ -302,3 +303,13 @@ def read(sheet, area, out):
         return [sheet, patterns + area[len(patterns) :], packed([len(patterns) // SIZE])], None
 
     return asked("kewohiata_sheet_read", [sheet, area, out], model)
+
+
+def written(data, area, out):
+    """1, and 4 for an area that is shorter than the sheet or for the values. The bytes are those that tests/sheets.py writes."""
+    def model():
+        sheet = sheets.sheet(unpacked(data))
+        array_lengths(data, len(area) >= len(sheet) and len(out) == SIZE)
+        return [data, sheet + area[len(sheet) :], packed([len(sheet)])], None
+
+    return asked("kewohiata_sheet_write", [data, area, out], model)

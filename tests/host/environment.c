@@ -65,6 +65,18 @@ static uint32_t sheet_read(size_t n)
     return code;
 }
 
+/* the list written as a sheet: of its patterns as many as there are values but for the last two, which are the header's five bytes and the bytes told */
+static uint32_t sheet_written(size_t n)
+{
+    static uint8_t sheet[KEWOHIATA_SHEET_BYTES_MOST];
+    uint32_t code = kewohiata_sheet_write(list, n, sheet, sizeof sheet, values + VALUES - 1, KEWOHIATA_VALUE);
+    for (size_t i = 0; i < KEWOHIATA_SHEET_HEADER; i++)
+        values[VALUES - 2] = values[VALUES - 2] << 8 | sheet[i];
+    for (size_t i = 0; i < 8 * n && i < 8 * (VALUES - 2); i++)
+        values[i / 8] = values[i / 8] << 8 | sheet[KEWOHIATA_SHEET_HEADER + i];
+    return code;
+}
+
 /* weights of 3, 0, 1, 1 and 2^30 - 5 times 2^-30; which clock leaves is chosen by the list's length */
 static uint32_t handed_on(size_t n)
 {
@@ -86,6 +98,7 @@ static uint32_t call(uint64_t which, size_t n)
     case 8: return kewohiata_walk_faithful(list, n, area, n, values, KEWOHIATA_FAITHFUL);
     case 9: return sheet_read(n);
     case 10: return handed_on(n);
+    case 11: return sheet_written(n);
     default: return UINT32_MAX;
     }
 }

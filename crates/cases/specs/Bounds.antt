@@ -7,7 +7,7 @@ use Prim.Native.Nat.{ℕ, _+_, _-_, _^_}
 use lib.ListN.{replicate}
 use Rattle.kinds.specs.Outcome.{outcome}
 use Rattle.kinds.specs.Heard.{nowhere, at, refused, more, done, nearest, parts, accepted, count}
-use Rattle.cases.specs.Calls.{Given, Case, beforehand, opening, step, faithfulSum, nearestSum, sumInParts, round, sheet, handOn}
+use Rattle.cases.specs.Calls.{Given, Case, beforehand, byteBeforehand, opening, step, faithfulSum, nearestSum, sumInParts, round, sheet, write, handOn}
 
 -- a state with t = tau = +0; one with a given t and tau, and one with a given sigma, of one number
 abbrev opened : ℕ → ℕ → ℕ → Given
@@ -181,6 +181,13 @@ bounds =
       call = sheet (1 ∷ 0 ∷ 0 ∷ 0 ∷ 2 ∷ (0x3F ∷ 0xF0 ∷ replicate 6 0) ++ (0x40 ∷ replicate 7 0)) 3;
       expected = outcome (count 2) (0x3FF0000000000000 ∷ 0x4000000000000000 ∷ beforehand ∷ []);
     }
+    -- rules H4 and H5: 1 and a NaN with a payload, in an area of a byte more; no number in five bytes; 258 numbers, of which the count has two bytes
+    ∷ record {
+      call = write (0x3FF0000000000000 ∷ 0x7FF0000000000203 ∷ []) 22;
+      expected = outcome (count 21) (1 ∷ 0 ∷ 0 ∷ 0 ∷ 2 ∷ (0x3F ∷ 0xF0 ∷ replicate 6 0) ++ (0x7F ∷ 0xF0 ∷ replicate 4 0) ++ (2 ∷ 3 ∷ byteBeforehand ∷ []));
+    }
+    ∷ record { call = write [] 5; expected = outcome (count 5) (1 ∷ 0 ∷ 0 ∷ 0 ∷ 0 ∷ []) }
+    ∷ record { call = write (replicate 258 0) 2069; expected = outcome (count 2069) (1 ∷ 0 ∷ 0 ∷ 1 ∷ 2 ∷ replicate 2064 0) }
     -- rules L10 and R5
     ∷ record { call = sumInParts [] 0; expected = outcome (refused 5 nowhere) [] }
     ∷ record { call = sumInParts [] 8; expected = outcome (parts true) (replicate 8 0) }

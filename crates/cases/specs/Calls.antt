@@ -12,11 +12,16 @@ use Rattle.kinds.specs.States.{stateOf}
 use Rattle.walk.specs.Walk.{Walked, opened, stepped, faithfulOf}
 use Rattle.sums.specs.Sums.{nearestOf, partsOf}
 use Rattle.sheet.specs.Sheet.{readOf}
+use Rattle.sheet.specs.Write.{writtenOf, writtenHeard}
 use Rattle.weights.specs.Weights.{handedOf, handedHeard}
 
 -- what an area holds before the call, at each place: 1.5, a number that is in no list and no answer of the table
 abbrev pub beforehand : ℕ
 beforehand = 0x3FF8000000000000
+
+-- and an area of bytes
+abbrev pub byteBeforehand : ℕ
+byteBeforehand = 0xF8
 
 -- a state by the patterns of its sigma, t and tau; n, the pending set and the rounds closed
 pub record Given : Type 0 where
@@ -41,8 +46,9 @@ pub data Call : Type 0 where
   add : List ℕ → ℕ → Call
   withdraw : List ℕ → ℕ → Call
   round : List ℕ → Call
-  -- reading a sheet's bytes to an area of a length
+  -- reading a sheet's bytes to an area of a length; writing a list as a sheet to so many bytes
   sheet : List ℕ → ℕ → Call
+  write : List ℕ → ℕ → Call
   -- handing on the weight of a weight list's clock at a place, to an area of a length
   handOn : List ℕ → ℕ → ℕ → Call
 
@@ -70,6 +76,9 @@ resultOf (round ws) = outcome (nearestHeard doubles (rounded ws)) []
 resultOf (sheet bytes m) =
     let r = readOf doubles bytes (replicate m beforehand) in
     outcome (sheetHeard (r .answer)) (r .area)
+resultOf (write ps m) =
+    let r = writtenOf doubles ps (replicate m byteBeforehand) in
+    outcome (writtenHeard (r .answer)) (r .area)
 resultOf (handOn ps place m) =
     let r = handedOf doubles ps place (replicate m beforehand) in
     outcome (handedHeard (r .answer)) (r .area)

@@ -1,12 +1,13 @@
--- Calls with two faults at once, where rules O1 to O5 and O7 say which is told, and some with the later fault alone: a table of the same kind. Definitions
--- only.
+-- Calls with two faults at once, where rules O1 to O5, O7 and O8 say which is told, and some with the later fault alone: a table of the same kind.
+-- Definitions only.
 -- Patterns: 7FF0000000000000 is an infinity, FFF8000000000000 a NaN, and 7E70000000000001 the first double above 2^1000.
 use mathlib.Core.List.{List, [], _∷_, _++_}
 use Prim.Native.Nat.{ℕ, _-_, _^_}
 use lib.ListN.{replicate}
 use Rattle.kinds.specs.Outcome.{outcome}
 use Rattle.kinds.specs.Heard.{nowhere, at, refused}
-use Rattle.cases.specs.Calls.{Given, Case, beforehand, faithfulWithin, step, nearestSum, sumInParts, add, withdraw, round, sheet, handOn}
+use Rattle.cases.specs.Calls.{Given, Case, beforehand, byteBeforehand, faithfulWithin, step, nearestSum, sumInParts, add, withdraw, round}
+use Rattle.cases.specs.Calls.{sheet, write, handOn}
 
 abbrev numbered : ℕ → ℕ → Given
 numbered n pending = record { sigma = 0x4070000000000000; t = 0; tau = 0; n = n; pending = pending; rounds = 0 }
@@ -52,6 +53,9 @@ faults =
     ∷ record { call = sheet (1 ∷ 0 ∷ 0 ∷ 0 ∷ 0 ∷ 0 ∷ []) 1; expected = outcome (refused 13 nowhere) (beforehand ∷ []) }
     ∷ record { call = sheet (1 ∷ 0 ∷ 0 ∷ 0 ∷ 2 ∷ replicate 17 0) 1; expected = outcome (refused 13 nowhere) (beforehand ∷ []) }
     ∷ record { call = sheet (1 ∷ 0 ∷ 0 ∷ 0 ∷ 2 ∷ replicate 16 0) 1; expected = outcome (refused 4 nowhere) (beforehand ∷ []) }
+    -- rule O8: 1 before 4; and 4 alone, one byte short
+    ∷ record { call = write (replicate 4095 0) 4; expected = outcome (refused 1 nowhere) (replicate 4 byteBeforehand) }
+    ∷ record { call = write (0x7FF0000000000000 ∷ []) 12; expected = outcome (refused 4 nowhere) (replicate 12 byteBeforehand) }
     -- rule O7: 1 before 4; 4 before a bad number; that, at any place, before 14; 14 before 15; 15 before 16 and 17, also of no weight at all
     ∷ record { call = handOn (0x7FF0000000000000 ∷ replicate 4094 0) 0 0; expected = outcome (refused 1 nowhere) [] }
     ∷ record { call = handOn (0xFFF8000000000000 ∷ []) 0 0; expected = outcome (refused 4 nowhere) [] }

@@ -19,7 +19,8 @@ use Rattle.sound.specs.Sound as N
 use Rattle.rounds.specs.Round as R
 use Rattle.walk.specs.Walk as W
 use Rattle.sums.specs.Sums as S
-use Rattle.sheet.specs.Sheet.{readOf}
+use Rattle.sheet.specs.Sheet.{sheetOf, readOf}
+use Rattle.sheet.specs.Write.{writtenOf}
 use Rattle.weights.specs.Weights as H
 use Rattle.calls.specs.Calls.{answered, sumCall, faithfulCall, nearestCall, registerCall, addCall, withdrawCall}
 use Rattle.arrays.specs.Arrays.{returned}
@@ -27,7 +28,7 @@ use Rattle.step_calls.specs.StepArrays.{openArrays, stepArrays}
 use Rattle.sum_calls.specs.SumArrays.{faithfulArrays, nearestArrays}
 use Rattle.part_calls.specs.PartArrays.{partsArrays}
 use Rattle.register_calls.specs.RegisterArrays.{addArrays, withdrawArrays, roundArrays}
-use Rattle.sheet_calls.specs.SheetArrays.{readArrays}
+use Rattle.sheet_calls.specs.SheetArrays.{readArrays, writeArrays}
 use Rattle.weight_calls.specs.WeightArrays.{handOnArrays}
 
 abbrev numbers : List ℕ
@@ -100,6 +101,12 @@ pub reads : readArrays (1 ∷ 0 ∷ 0 ∷ 0 ∷ 2 ∷ 0x3F ∷ 0xF0 ∷ replicat
     ≡ returned 0 (0x3FF0000000000000 ∷ 0x4000000000000000 ∷ 7 ∷ []) (2 ∷ [])
 unfolding readArrays readOf eights number
 reads = refl
+
+-- and 1 and a NaN with a payload, to one byte more than they need
+pub writes : writeArrays (0x3FF0000000000000 ∷ 0x7FF0000000000203 ∷ []) (replicate 22 7) (7 ∷ [])
+    ≡ returned 0 (1 ∷ 0 ∷ 0 ∷ 0 ∷ 2 ∷ 0x3F ∷ 0xF0 ∷ replicate 6 0 ++ 0x7F ∷ 0xF0 ∷ replicate 4 0 ++ 2 ∷ 3 ∷ 7 ∷ []) (21 ∷ [])
+unfolding writeArrays writtenOf sheetOf joined digits
+writes = refl
 
 -- ---- weights: 1/2, 1/4 and 1/4, without the first
 pub hands-on : handOnArrays (0x3FE0000000000000 ∷ 0x3FD0000000000000 ∷ 0x3FD0000000000000 ∷ []) 0 (7 ∷ 7 ∷ 7 ∷ [])
@@ -194,6 +201,14 @@ sheet-first = refl
 pub four-last : readArrays (1 ∷ 0 ∷ 0 ∷ 0 ∷ 0 ∷ []) [] [] ≡ returned 4 [] []
 unfolding readArrays readOf eights number
 four-last = refl
+
+pub four-without-values : writeArrays [] (replicate 5 7) [] ≡ returned 4 (replicate 5 7) []
+unfolding writeArrays
+four-without-values = refl
+
+pub too-many-to-write : writeArrays (replicate 4095 0) [] [] ≡ returned 1 [] []
+unfolding writeArrays
+too-many-to-write = refl
 
 -- ---- in bytes: of two numbers the second is at fault, so the first stands first; a register of 264 bytes, the lowest first: 2^50 in word 16 is 4 in byte 134
 pub second-in-bytes : nearestCall (replicate 6 0 ++ 0xF0 ∷ 0x3F ∷ replicate 6 0 ++ 0xF8 ∷ 0x7F ∷ []) (replicate 16 7) ≡ outcome 66 (replicate 16 7)

@@ -22,8 +22,9 @@ use Rattle.sums.specs.Sums as S
 use Rattle.weights.specs.Weights as H
 use Rattle.kinds.specs.Outcome.{outcome}
 use Rattle.kinds.specs.Heard.{nowhere, at, Heard, refused, more, done, nearest, parts, accepted, count}
-use Rattle.octets.specs.Octets.{eights}
-use Rattle.sheet.specs.Sheet.{readOf}
+use Rattle.octets.specs.Octets.{eights, joined}
+use Rattle.sheet.specs.Sheet.{sheetOf, readOf}
+use Rattle.sheet.specs.Write.{writtenOf}
 use Rattle.cases.specs.Calls.{Result, Case, resultOf}
 use Rattle.cases.specs.Table.{table}
 use Rattle.cases.specs.Bounds.{bounds}
@@ -127,7 +128,7 @@ computed-bounds : every bounds ≡ true
 unfolding
     every bounds judged firstFault faultOf W.openedAfter W.steppedAfter W.taken W.rising W.roundsFrom R.turned R.fresh R.scaled R.finished R.closedBy
     N.soundSigma N.atMost N.soundNumbers N.soundPending N.badPlace N.sound N.gated remainders gathered lastSum largest powerOf ceil
-    S.nearestAfter S.partsAfter S.parts rounded number signed residue nearestFloat value readOf eights
+    S.nearestAfter S.partsAfter S.parts rounded number digits signed residue nearestFloat value readOf eights writtenOf sheetOf joined
     H.weightGood H.weightOf H.patternFor H.total H.spread H.badWeight H.weighed H.handedAfter
     ofBits toBits add sub mul le eq
 computed-bounds = refl
@@ -136,7 +137,7 @@ computed-faults : every faults ≡ true
 unfolding
     every faults judged firstFault faultOf W.openedAfter W.steppedAfter W.roundsFrom W.rising
     N.soundSigma N.atMost N.soundNumbers N.soundPending N.badPlace N.sound N.gated ceil
-    S.nearestAfter S.partsAfter enter rounded number digits signed residue nearestFloat value readOf
+    S.nearestAfter S.partsAfter enter rounded number digits signed residue nearestFloat value readOf writtenOf
     H.weightGood H.weightOf H.patternFor H.total H.spread H.badWeight H.weighed H.handedAfter
     ofBits toBits le eq
 computed-faults = refl

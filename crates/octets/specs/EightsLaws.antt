@@ -3,6 +3,7 @@
 use mathlib.Core.Path.{_≡_, refl, sym, ap, _∙_}
 use mathlib.Core.List.{List, [], _∷_, _++_, append-assoc, append-nil}
 use Prim.Native.Nat.{ℕ, zero, suc, _+_, _*_, _^_, _<_}
+use native.Mathlib.Nat.{zero-add}
 use native.Mathlib.Numerals.{add-one}
 use native.Mathlib.Omega.{arith}
 use lib.ListN.{length, getD, take, drop, take-append-drop, length-append, length-drop}
@@ -67,20 +68,29 @@ unfolding joined
 joined-more bytesOf [] v = append-nil (bytesOf v)
 joined-more bytesOf (u ∷ vs) v = rw (joined-more bytesOf vs v, append-assoc (bytesOf u) (joined bytesOf vs) (bytesOf v))
 
--- the first i numbers' bytes with what stood behind them, and the next number written there
+-- k bytes of something else, the first i numbers' bytes and what stood behind them, and the next number written there
+pub joined-behind : (bytesOf : ℕ → List ℕ) → ((v : ℕ) → length (bytesOf v) ≡ 8) → (front : List ℕ) (k : ℕ) → length front ≡ k
+    → (vs bs : List ℕ) (i : ℕ) → i < length vs
+    → let l = front ++ (joined bytesOf (take i vs) ++ drop (k + 8 * i) bs) in
+    take (k + 8 * i) l ++ (bytesOf (getD vs i 0) ++ drop (k + 8 * i + 8) l) ≡ front ++ (joined bytesOf (take (i + 1) vs) ++ drop (k + 8 * (i + 1)) bs)
+joined-behind bytesOf size front k f vs bs i h =
+    let J = joined bytesOf (take i vs) in
+    let v = getD vs i 0 in
+    let m = k + 8 * i in
+    let j : length J ≡ 8 * i = joined-length bytesOf size (take i vs) ∙ ap (λ (n : ℕ). 8 * n) (length-take-le i vs (omega arith)) in
+    let e : length (front ++ J) ≡ m = rw (length-append front J, f, j) in
+    let n : m + 8 ≡ k + 8 * (i + 1) = omega arith in
+    let d : drop (m + 8) ((front ++ J) ++ drop m bs) ≡ drop (k + 8 * (i + 1)) bs =
+    sym (drop-drop 8 m ((front ++ J) ++ drop m bs)) ∙ ap (drop 8) (drop-at (front ++ J) (drop m bs) m e) ∙ drop-drop 8 m bs
+    ∙ ap (λ (q : ℕ). drop q bs) n in
+    let t : joined bytesOf (take (i + 1) vs) ≡ J ++ bytesOf v = ap (joined bytesOf) (take-next 0 vs i h) ∙ joined-more bytesOf (take i vs) v in
+    rw (← append-assoc front J (drop m bs), take-at (front ++ J) (drop m bs) m e, d, t)
+    (append-assoc front J _ ∙ ap (λ (l : List ℕ). front ++ l) (sym (append-assoc J (bytesOf v) (drop (k + 8 * (i + 1)) bs))))
+
 pub joined-next : (bytesOf : ℕ → List ℕ) → ((v : ℕ) → length (bytesOf v) ≡ 8) → (vs bs : List ℕ) (i : ℕ) → i < length vs
     → let l = joined bytesOf (take i vs) ++ drop (8 * i) bs in
     take (8 * i) l ++ (bytesOf (getD vs i 0) ++ drop (8 * i + 8) l) ≡ joined bytesOf (take (i + 1) vs) ++ drop (8 * (i + 1)) bs
-joined-next bytesOf size vs bs i h =
-    let J = joined bytesOf (take i vs) in
-    let v = getD vs i 0 in
-    let e : length J ≡ 8 * i = joined-length bytesOf size (take i vs) ∙ ap (λ (n : ℕ). 8 * n) (length-take-le i vs (omega arith)) in
-    let n : 8 * i + 8 ≡ 8 * (i + 1) = omega arith in
-    let d : drop (8 * i + 8) (J ++ drop (8 * i) bs) ≡ drop (8 * (i + 1)) bs =
-    sym (drop-drop 8 (8 * i) (J ++ drop (8 * i) bs)) ∙ ap (drop 8) (drop-at J (drop (8 * i) bs) (8 * i) e) ∙ drop-drop 8 (8 * i) bs
-    ∙ ap (λ (k : ℕ). drop k bs) n in
-    let t : joined bytesOf (take (i + 1) vs) ≡ J ++ bytesOf v = ap (joined bytesOf) (take-next 0 vs i h) ∙ joined-more bytesOf (take i vs) v in
-    rw (take-at J (drop (8 * i) bs) (8 * i) e, d, t) (sym (append-assoc J (bytesOf v) (drop (8 * (i + 1)) bs)))
+joined-next bytesOf size vs bs i h = simp zero-add at (joined-behind bytesOf size [] 0 refl vs bs i h)
 
 -- ---- bytes, read and written again
 pub joined-eights : (bytesOf : ℕ → List ℕ) (numberOf : List ℕ → ℕ) → ((bs : List ℕ) → Digits 8 bs → length bs ≡ 8 → bytesOf (numberOf bs) ≡ bs)

@@ -2,17 +2,17 @@
 -- Assumes nothing.
 use mathlib.Core.Path.{_≡_, sym, ap, _∙_}
 use mathlib.Core.List.{List, [], _∷_, _++_, append-assoc, append-nil, reverse, reverseAux, reverse-append, reverse-reverse}
-use Prim.Native.Nat.{ℕ, suc, _+_, _*_, _/_, _%_, _^_, _≤_, _<_}
+use Prim.Native.Nat.{ℕ, suc, _+_, _-_, _*_, _/_, _%_, _^_, _≤_, _<_}
 use native.Mathlib.Nat.{add-zero, mod-eq-of-lt, div-div-eq-div-mul}
 use native.Mathlib.Numerals.{add-one}
 use native.Mathlib.Omega.{arith}
 use lib.Pow.{pow-pos, pow-mono}
 use lib.ListN.{length, getD, take, drop, set, take-append-drop, length-append, length-drop, length-reverse}
-use lib.Seq.{take-suc, take-add, drop-cons, drop-drop, getD-drop, length-take-le}
+use lib.Seq.{take-suc, take-add, drop-cons, drop-drop, getD-drop, length-take-le, set-at}
 use Rattle.lists.specs.Digits.{number, digits, Digits}
 use Rattle.lists.specs.DigitLaws.{weight-next, number-nil, number-cons, number-append, digits-number, number-digits}
 use Rattle.lists.specs.DigitLaws.{digits-head, digits-tail, digits-more, digits-length, digits-none, digits-last}
-use Rattle.lists.specs.Front.{store-front}
+use Rattle.lists.specs.Front.{store-front, take-next}
 use Rattle.octets.specs.Octets.{littleEndian, bigEndian, little, big, bytesAt}
 
 -- ---- one byte more
@@ -77,6 +77,32 @@ module _ (bs : List ℕ) (at v : ℕ) where
       rw (length-append (take at bs) (littleEndian i v), length-take-le at bs (omega arith), little-length i v) in
       let e : at + i + 1 ≡ at + (i + 1) = omega arith in
       rw (store-front 0 (take at bs ++ littleEndian i v) bs (at + i) l h x, little-last i v, append-assoc (take at bs) (littleEndian i v) (x ∷ []), e)
+
+-- ---- the same, most significant byte first: its last i bytes so far, in front of what stands behind all of them
+pub big-first : (i v : ℕ) → bigEndian (i + 1) v ≡ v / 2 ^ (8 * i) % 256 ∷ bigEndian i v
+big-first i v = ap reverse (little-last i v) ∙ reverse-append (littleEndian i v) (v / 2 ^ (8 * i) % 256 ∷ [])
+
+store-last : (bs rest : List ℕ) (k x : ℕ) → k < length bs → set (take (k + 1) bs ++ rest) k x ≡ take k bs ++ (x ∷ rest)
+store-last bs rest k x h =
+    rw (take-next 0 bs k h, append-assoc (take k bs) (getD bs k 0 ∷ []) rest)
+    (set-at (take k bs) (getD bs k 0) rest x k (length-take-le k bs (omega arith)))
+
+module _ (bs : List ℕ) (at count v : ℕ) where
+  pub big-written-none : bs ≡ take (at + (count - 0)) bs ++ (bigEndian 0 v ++ drop (at + count) bs)
+  big-written-none = let z : count - 0 ≡ count = omega arith in rw (z, digits-none 8 v) (sym (take-append-drop (at + count) bs))
+
+  pub big-written-next : (i : ℕ) → i < count → at + count ≤ length bs
+      → set (take (at + (count - i)) bs ++ (bigEndian i v ++ drop (at + count) bs)) (at + (count - 1 - i)) (v / 2 ^ (8 * i) % 256)
+      ≡ take (at + (count - (i + 1))) bs ++ (bigEndian (i + 1) v ++ drop (at + count) bs)
+  big-written-next i h fits =
+      let k = at + (count - 1 - i) in
+      let a : at + (count - i) ≡ k + 1 = omega arith in
+      let b : at + (count - (i + 1)) ≡ k = omega arith in
+      rw (a, b, big-first i v) (store-last bs (bigEndian i v ++ drop (at + count) bs) k (v / 2 ^ (8 * i) % 256) (omega arith))
+
+  pub big-written-all : (i : ℕ) → i ≡ count
+      → take (at + (count - i)) bs ++ (bigEndian i v ++ drop (at + count) bs) ≡ take at bs ++ (bigEndian count v ++ drop (at + count) bs)
+  big-written-all i e = let z : at + (count - i) ≡ at = omega arith in rw (z, e)
 
 -- ---- room
 -- a number of i bytes, i below 8, has room for a byte more

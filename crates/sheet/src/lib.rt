@@ -1,7 +1,10 @@
-// The contribution sheet's reader: rule H2.
+// The contribution sheet: its reader, rule H2, and its writer, rule H4.
 use kinds::Doubles;
 use kinds::Sheet;
 use octets::big_endian;
+
+mod layout;
+
 ghost use mathlib.Core.Path.{_≡_};
 ghost use mathlib.Core.List.{_++_};
 ghost use Prim.Native.Nat.{_+_, _*_, _≤_};
@@ -9,6 +12,7 @@ ghost use lib.ListN.{length, drop};
 ghost use Rattle.kinds.specs.Limits.{doubles};
 ghost use Rattle.kinds.specs.Outcome.{outcome};
 ghost use Rattle.sheet.specs.Sheet.{versionOf, countOf, patternsOf, readOf};
+ghost use Rattle.sheet.specs.Write.{writtenOf};
 
 // rule H1: the first byte
 pub const VERSION: u8 = 1;
@@ -18,6 +22,12 @@ pub const HEADER: usize = 5;
 
 // the bytes of a pattern
 pub const PATTERN: usize = 8;
+
+// of the writer: how many bytes it wrote
+pub enum Written {
+    Wrote(usize),
+    Refused(u32, u32),
+}
 
 // What stands before the patterns.
 pub struct Header {
@@ -74,4 +84,20 @@ pub fn read(sheet: &[u8], area: &mut [u64]) -> Sheet
     }
     copy(sheet, area, n);
     Sheet::Read(n)
+}
+
+// Rule O8. For rule H6 patterns stay whole numbers on the way: of a double made of one a NaN's payload could not be told again.
+pub fn write(list: &[u64], sheet: &mut [u8]) -> Written
+    ensures { λ r. ⌜ outcome r (now (sheet .exit)) ≡ writtenOf doubles (now (list .entry)) (now (sheet .entry)) ⌝ }
+{
+    if Doubles::LENGTH < list.len() {
+        return Written::Refused(1, 0);
+    }
+    let bytes = HEADER + PATTERN * list.len();
+    if sheet.len() < bytes {
+        return Written::Refused(4, 0);
+    }
+    layout::header(sheet, list.len());
+    layout::patterns(list, sheet);
+    Written::Wrote(bytes)
 }

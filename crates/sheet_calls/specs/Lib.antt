@@ -2,3 +2,4 @@
 pub mod SheetArrays
 pub mod SheetArraysLaws
 pub mod SheetCodes
+pub mod WriteCodes

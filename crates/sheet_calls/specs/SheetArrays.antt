@@ -1,4 +1,4 @@
--- A sheet as a C call: what a reading returns, and what it leaves in every array that it is lent. Definitions only.
+-- A sheet as C calls: what reading and writing return, and what each leaves in every array that it is lent. Definitions only.
 use mathlib.Core.Path.{_≡_}
 use mathlib.Core.Bool.{cond}
 use mathlib.Core.List.{List}
@@ -9,7 +9,8 @@ use Rattle.kinds.specs.Limits.{doubles}
 use Rattle.kinds.specs.Heard.{sheetHeard}
 use Rattle.kinds.specs.declared.Sheet.the-variants.{Read, Refused}
 use Rattle.sheet.specs.Sheet.{readOf}
-use Rattle.arrays.specs.Arrays.{codeOf, valuesOf, Returned, returned}
+use Rattle.sheet.specs.Write.{writtenOf, writtenHeard}
+use Rattle.arrays.specs.Arrays.{codeOf, valuesOf, Returned, returned, tooManyOr4}
 
 -- 4 for the array of values comes last, after what the reader itself refuses
 abbrev pub unreadCode : List ℕ → List ℕ → ℕ
@@ -25,3 +26,10 @@ readArrays bytes area out =
 pub data SheetOther (bytes area : List ℕ) : ℕ → Type 0 where
   unreadable : (k i : ℕ) → readOf doubles bytes area .answer ≡ Refused k i → SheetOther bytes area k
   readable : (n : ℕ) → readOf doubles bytes area .answer ≡ Read n → SheetOther bytes area 4
+
+-- ---- writing: 4 for the array of values has its place behind 1, where the writer has its own
+unfoldable pub writeArrays : List ℕ → List ℕ → List ℕ → Returned ℕ
+writeArrays ps area out =
+    let w = writtenOf doubles ps area in
+    let h = writtenHeard (w .answer) in
+    cond (eqb (length out) 1) (returned (codeOf h) (w .area) (valuesOf h out)) (returned (tooManyOr4 ps) area out)

@@ -1,8 +1,10 @@
-// A sheet, for C: read to a lent array of patterns.
+// A sheet, for C: read to a lent array of patterns, and written to lent bytes.
+use arrays::lengths::too_many_or_4;
 use kinds::Sheet;
+use sheet::Written;
 ghost use mathlib.Core.Path.{_≡_};
 ghost use Rattle.arrays.specs.Arrays.{returned};
-ghost use Rattle.sheet_calls.specs.SheetArrays.{readArrays, unreadCode};
+ghost use Rattle.sheet_calls.specs.SheetArrays.{readArrays, unreadCode, writeArrays};
 
 // What is refused where the array of values has another length: 4 comes last, so the sheet is looked at first. An empty area has nothing written to it.
 fn unread(sheet: &[u8], area: &mut [u64]) -> u32
@@ -29,5 +31,23 @@ pub extern "C" fn kewohiata_sheet_read(sheet: &[u8], area: &mut [u64], out: &mut
             0
         }
         Sheet::Refused(number, place) => calls::refusal(number, place),
+    }
+}
+
+// Writes a list as a sheet, as `sheet::write` does: how many bytes.
+#[no_mangle]
+pub extern "C" fn kewohiata_sheet_write(list: &[u64], sheet: &mut [u8], out: &mut [u64]) -> u32
+    ensures { λ r. ⌜ returned r (now (sheet .exit)) (now (out .exit)) ≡ writeArrays (now (list .entry)) (now (sheet .entry)) (now (out .entry)) ⌝ }
+{
+    if out.len() != 1 {
+        return too_many_or_4(list);
+    }
+    match sheet::write(list, sheet) {
+        Written::Wrote(bytes) => {
+            let one = [bytes as u64];
+            arrays::values::write(&one, out);
+            0
+        }
+        Written::Refused(number, place) => calls::refusal(number, place),
     }
 }

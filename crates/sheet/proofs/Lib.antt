@@ -1,0 +1,2 @@
+-- What the proofs of the writer's functions cite.
+pub mod LayoutLaws
