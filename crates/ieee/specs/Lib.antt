@@ -14,4 +14,5 @@ pub mod Overflow
 pub mod Nearest
 pub mod FaithfulFloat
 pub mod InRange
+pub mod Zeros
 pub mod Instances
