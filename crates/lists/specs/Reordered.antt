@@ -2,7 +2,7 @@
 use mathlib.Core.Path.{_≡_, refl, sym, ap, _∙_}
 use mathlib.Core.Bool.{Bool, true, false, _&&_, Bool-set}
 use mathlib.Core.List.{List, [], _∷_, foldr, Perm, Perm·foldr-eq}
-use Prim.Native.Nat.{ℕ, suc}
+use Prim.Native.Nat.{suc}
 use native.Mathlib.Nat.{ℕ-set}
 use lib.ListN.{length}
 use Rattle.lists.specs.Every.{every}

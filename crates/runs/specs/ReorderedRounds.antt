@@ -27,7 +27,7 @@ use Rattle.kinds.specs.declared.Verdict.the-variants.{Good}
 use Rattle.judge.specs.Judge.{floats}
 use Rattle.judge.specs.Table.{ListWhen}
 use Rattle.extract.specs.Extract.{plusZero, highPart, remainderOf, remainders, gathered, largest}
-use Rattle.rounds.specs.Round.{allTaken, allLeft, allZero, inRound, fresh, finished, freshRound, closedBy, closed}
+use Rattle.rounds.specs.Round.{allTaken, allLeft, allZero, fresh, finished, freshRound, closedBy, closed}
 use Rattle.rounds.specs.ClosedLaws.{tau1Of, finishes, furtherRound}
 use Rattle.rounds.specs.Exactness.{ExactSums}
 use Rattle.rounds.specs.Fitting.{Fitting}

@@ -1,27 +1,25 @@
 -- A list in another order: it is allowed exactly when the list is, and then it has the same nearest sum and parts, and leaves the same words in a register that
 -- began with zeros. Assumes nothing.
-use mathlib.Core.Path.{_≡_, refl, sym, ap, subst, _∙_}
+use mathlib.Core.Path.{_≡_, refl, sym, _∙_}
 use mathlib.Core.Logic.{inl, inr, _↔_}
-use mathlib.Core.Bool.{Bool, true, false}
+use mathlib.Core.Bool.{Bool, true}
 use mathlib.Core.List.{List, map, Perm, Perm·map, Perm·symm}
 use Prim.Native.Nat.{ℕ, _^_, _≤_, _<_}
 use native.Mathlib.Nat.{lt-of-le-of-lt}
 use lib.Dec.{lit<}
-use lib.IntN.{ℤ}
 use lib.ListN.{length, length-map}
 use lib.Ieee.{Float, ofBits}
 use Rattle.units.specs.ExactSum.{sum-reordered}
 use Rattle.ieee.specs.Units.{value}
-use Rattle.lists.specs.Apart.{apart}
 use Rattle.lists.specs.Reordered.{length-reordered, every-reordered}
 use Rattle.kinds.specs.Limits.{Width, doubles}
 use Rattle.kinds.specs.declared.Verdict.{Verdict}
 use Rattle.kinds.specs.declared.Verdict.the-variants.{Good, Refused}
-use Rattle.judge.specs.Judge.{judged, firstFault, zeroSign}
-use Rattle.judge.specs.Table.{Allowed, First, Passed, ListWhen, too-many, wrong-area, wrong-parts, bad-number, allowed}
+use Rattle.judge.specs.Judge.{judged, zeroSign}
+use Rattle.judge.specs.Table.{Allowed, Passed, ListWhen, too-many, wrong-area, wrong-parts, bad-number, allowed}
 use Rattle.judge.specs.FaultlessLaws.{faultFree, faultless-good}
 use Rattle.judge.specs.FirstFaultLaws.{found, first-good}
-use Rattle.judge.specs.JudgeLaws.{list-when, list-passed, list-allowed, judged-1, judged-4, judged-5, judged-passed}
+use Rattle.judge.specs.JudgeLaws.{list-when, list-passed, list-allowed, judged-1, judged-4, judged-5}
 use Rattle.register.specs.Entries.{Change, add, patternOf, changeOf, run, zeros}
 use Rattle.register.specs.RunLaws.{all-entered, zeros-held, patterns}
 use Rattle.register.specs.Farewell.{run-same}
