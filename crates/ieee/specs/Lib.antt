@@ -15,4 +15,5 @@ pub mod Nearest
 pub mod FaithfulFloat
 pub mod TwoFaithful
 pub mod InRange
+pub mod Zeros
 pub mod Instances

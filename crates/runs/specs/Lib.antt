@@ -6,6 +6,7 @@ pub mod Summing
 pub mod SumRun
 pub mod OpenedSum
 pub mod Faithful
+pub mod ZeroSum
 pub mod AnswerNumbers
 pub mod Taken
 pub mod TakenLaws

@@ -90,8 +90,8 @@ module _ {W : Width} (F : Fitting W) {ps : List ℕ} {x : Float} {k : ℕ} {xs :
     faithful : FaithfulTo (W .format) (sumOf (W .format) ps) x
     faithful = rw same at (P .faithful)
 
-    sign : value (W .format) x ≡ pos 0 → negative x ≡ zeroSign ps
-    sign z = rw (← same) (P .plus (sym (value-mag (W .format) (P .sum)) ∙ ap (λ (y : Float). natAbs (value (W .format) y)) same ∙ ap natAbs z))
+    sign : value (W .format) x ≡ pos 0 → negative x ≡ zeroSign W ps
+    sign z = rw (← same) (P .zero (sym (value-mag (W .format) (P .sum)) ∙ ap (λ (y : Float). natAbs (value (W .format) y)) same ∙ ap natAbs z))
 
     -- rule S9
     pub summed-close : CloseTo (W .format) (sumOf (W .format) ps) x
@@ -104,7 +104,7 @@ module _ {W : Width} (F : Fitting W) {ps qs : List ℕ} (π : Perm ps qs) {x y :
   faithful-y = rw (sum-of-reordered π W) (faithful F t)
 
   signs : value (W .format) x ≡ pos 0 → value (W .format) y ≡ pos 0 → negative x ≡ negative y
-  signs a b = sign F s a ∙ zero-sign-reordered π ∙ sym (sign F t b)
+  signs a b = sign F s a ∙ zero-sign-reordered π W ∙ sym (sign F t b)
 
   pub summed-reordered : EqualOrNeighbouring (W .format) x y
   summed-reordered = two-faithful (faithful F s) faithful-y signs

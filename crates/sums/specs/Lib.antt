@@ -8,6 +8,7 @@ pub mod SumLaws
 pub mod AnswerLaws
 pub mod PartsMeaning
 pub mod Promised
+pub mod ZeroSums
 pub mod AnswerNumbers
 pub mod Farewell
 pub mod Reordered

@@ -6,9 +6,9 @@ use mathlib.Core.Bool.{Bool, true}
 use mathlib.Core.List.{List, map, Perm, Perm·map, Perm·symm}
 use Prim.Native.Nat.{ℕ, _^_, _≤_, _<_}
 use native.Mathlib.Nat.{lt-of-le-of-lt}
-use lib.Dec.{lit<}
+use lib.Dec.{eqb, lit<}
 use lib.ListN.{length, length-map}
-use lib.Ieee.{Float, ofBits}
+use lib.Ieee.{Float, top, ofBits}
 use Rattle.units.specs.ExactSum.{sum-reordered}
 use Rattle.ieee.specs.Units.{value}
 use Rattle.lists.specs.Reordered.{length-reordered, every-reordered}
@@ -73,8 +73,9 @@ module _ {ps qs : List ℕ} (π : Perm ps qs) where
   pub sum-of-reordered : (W : Width) → sumOf (W .format) ps ≡ sumOf (W .format) qs
   sum-of-reordered W = sum-reordered (Perm·map (λ (p : ℕ). value (W .format) (ofBits (W .format) p)) π)
 
-  pub zero-sign-reordered : zeroSign ps ≡ zeroSign qs
-  zero-sign-reordered = refl
+  pub zero-sign-reordered : (W : Width) → zeroSign W ps ≡ zeroSign W qs
+  unfolding zeroSign
+  zero-sign-reordered W = rw (length-reordered π, every-reordered (eqb (top (W .format))) π)
 
   module _ {W : Width} (A : Allowed W ps) where
     pub nearest-reordered : nearestOf W ps ≡ nearestOf W qs
@@ -82,7 +83,7 @@ module _ {ps qs : List ℕ} (π : Perm ps qs) where
     nearest-reordered = rw (judged-same W π true true A) (by (judged W true true qs))
       where
         by : (v : Verdict) → nearestAfter W v ps ≡ nearestAfter W v qs
-        by Good = rw (sum-of-reordered W)
+        by Good = rw (zero-sign-reordered W, sum-of-reordered W)
         by (Refused k p) = refl
 
     pub parts-reordered : (area : List Float) → partsOf W ps area ≡ partsOf W qs area
@@ -90,7 +91,7 @@ module _ {ps qs : List ℕ} (π : Perm ps qs) where
     parts-reordered area = rw (judged-same W π true (fitting W area) A) (by (judged W true (fitting W area) qs))
       where
         by : (v : Verdict) → partsAfter W v ps area ≡ partsAfter W v qs area
-        by Good = rw (sum-of-reordered W)
+        by Good = rw (zero-sign-reordered W, sum-of-reordered W)
         by (Refused k p) = refl
 
 -- every history of additions and withdrawals that begins with zeros and is short enough that none is refused with 9
