@@ -172,13 +172,13 @@ def undivided(patterns):
 
 @functools.lru_cache(maxsize=1)
 def total_of(patterns):
-    return sum(map(exact.units, patterns))
+    return walk.exact_sum(patterns)
 
 
 @functools.lru_cache(maxsize=1)
 def nearest_of(patterns):
     exact.judge(patterns)
-    return exact.nearest(total_of(patterns))
+    return exact.nearest(total_of(patterns)) or exact.zero(patterns)
 
 
 def byte_lengths(data, out):
