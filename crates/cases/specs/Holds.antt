@@ -118,7 +118,8 @@ rows-hold (r ∷ rs) t (suc k) d h = rows-hold rs (and-r (passes r) (every rs) t
 
 computed : every table ≡ true
 unfolding
-    every table judged firstFault faultOf zeroSign L.every W.openedAfter W.steppedAfter W.taken W.rising W.roundsFrom R.turned R.fresh R.scaled R.finished R.closedBy
+    every table judged firstFault faultOf zeroSign L.every
+    W.openedAfter W.steppedAfter W.taken W.rising W.roundsFrom R.turned R.fresh R.scaled R.finished R.closedBy
     N.soundSigma N.atMost N.soundNumbers N.soundPending N.badPlace N.sound N.gated remainders gathered lastSum largest powerOf ceil
     S.nearestAfter S.partsAfter S.parts enter rounded number digits signed residue nearestFloat value
     ofBits toBits add sub mul le eq
@@ -126,7 +127,8 @@ computed = refl
 
 computed-bounds : every bounds ≡ true
 unfolding
-    every bounds judged firstFault faultOf zeroSign L.every W.openedAfter W.steppedAfter W.taken W.rising W.roundsFrom R.turned R.fresh R.scaled R.finished R.closedBy
+    every bounds judged firstFault faultOf zeroSign L.every
+    W.openedAfter W.steppedAfter W.taken W.rising W.roundsFrom R.turned R.fresh R.scaled R.finished R.closedBy
     N.soundSigma N.atMost N.soundNumbers N.soundPending N.badPlace N.sound N.gated remainders gathered lastSum largest powerOf ceil
     S.nearestAfter S.partsAfter S.parts rounded number signed residue nearestFloat value readOf eights
     H.weightGood H.weightOf H.patternFor H.total H.spread H.badWeight H.weighed H.handedAfter

@@ -1,5 +1,5 @@
--- The two zeros: the pattern of each, that -0 has no other one, and that a sum of two floats is -0 exactly where both are; one that cancels is +0. Assumes
--- nothing.
+-- The two zeros: the pattern of each, that -0 has no other one, and that a sum of two floats is -0 exactly where both are; numbers that cancel give +0.
+-- Assumes nothing.
 use mathlib.Core.Path.{_≡_, refl, sym, ap, _∙_}
 use mathlib.Core.Logic.{_↔_}
 use mathlib.Core.Bool.{Bool, true, false, cond, not, _&&_, and-eq-true-iff}
@@ -49,6 +49,11 @@ pub minus-nearest : (f : Format) → nearestFloat f true (pos 0) ≡ minusZero f
 unfolding ofBits nearestFloat
 minus-nearest binary32 = refl
 minus-nearest binary64 = refl
+
+plus-nearest : (f : Format) → nearestFloat f false (pos 0) ≡ ofBits f 0
+unfolding ofBits nearestFloat
+plus-nearest binary32 = refl
+plus-nearest binary64 = refl
 
 pub minus-bits : (f : Format) → toBits f (minusZero f) ≡ top f
 minus-bits f = ap (toBits f) (sym (minus-nearest f)) ∙ zero-bits f true
@@ -158,3 +163,14 @@ add-minus f x y u v = (
       minus-both (record { fit = u; fini = F .0 }) (record { fit = v; fini = F .1 }) e,
   λ h. rw (h .0, h .1) (minus-twice f),
 )
+
+pub add-cancels : (f : Format) (x y : Float) → Number f x → Number f y → value f x +ℤ value f y ≡ pos 0
+    → ((x ≡ minusZero f) × (y ≡ minusZero f) → ⊥) → add f x y ≡ ofBits f 0
+add-cancels f x y X Y s h = by (negative x && negative y) refl
+  where
+    is : add f x y ≡ nearestFloat f (negative x && negative y) (pos 0)
+    is = add-nearest f x y X Y ∙ ap (nearestFloat f (negative x && negative y)) s
+
+    by : (z : Bool) → (negative x && negative y) ≡ z → add f x y ≡ ofBits f 0
+    by true e = absurd (h (add-minus f x y (X .fit) (Y .fit) .0 (is ∙ ap (λ (z : Bool). nearestFloat f z (pos 0)) e ∙ minus-nearest f)))
+    by false e = is ∙ ap (λ (z : Bool). nearestFloat f z (pos 0)) e ∙ plus-nearest f

@@ -121,5 +121,6 @@ module _ (ps : List ℕ) where
 
   -- so it is -0 exactly where IEEE 754's own sum is, from the first number on
   pub nearest-ieee : ListWhen doubles true true ps Good → Patterns doubles ps
-      → (nearestHeard doubles (nearestOf doubles ps) ≡ nearest 0x8000000000000000) ↔ (ieeeSum (doubles .format) (floats doubles ps) ≡ minusZero (doubles .format))
+      → (nearestHeard doubles (nearestOf doubles ps) ≡ nearest 0x8000000000000000)
+      ↔ (ieeeSum (doubles .format) (floats doubles ps) ≡ minusZero (doubles .format))
   nearest-ieee G P = (λ e. ieee-zero doubles ps P .1 (nearest-minus G .0 e), λ e. nearest-minus G .1 (ieee-zero doubles ps P .0 e))
