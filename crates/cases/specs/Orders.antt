@@ -40,42 +40,34 @@ reordered =
 abbrev Sum : List ℕ → ℕ → ℕ → List ℕ → Type 0
 Sum ps x k left = Summed doubles ps (ofBits binary64 x) k (map (ofBits binary64) left)
 
-one-sum : Sum one 0x3FF0000000000000 1 (0 ∷ 0x3CA0000000000000 ∷ 0x3950000000000000 ∷ 0x3950000000000000 ∷ [])
+computed : Sum one 0x3FF0000000000000 1 (0 ∷ 0x3CA0000000000000 ∷ 0x3950000000000000 ∷ 0x3950000000000000 ∷ [])
+    × Sum other 0x3FF0000000000001 1 (0 ∷ 0x3950000000000000 ∷ 0x3950000000000000 ∷ 0x3CA0000000000000 ∷ [])
+    × Sum cancelled 0 1 (0 ∷ 0 ∷ [])
 unfolding
     judged firstFault faultOf W.openedAfter W.steppedAfter W.taken W.rising W.roundsFrom R.turned R.fresh R.scaled R.finished R.closedBy
     N.soundSigma N.atMost N.soundNumbers N.soundPending N.badPlace N.sound N.gated remainders gathered lastSum largest powerOf ceil
     nearestFloat value ofBits toBits add sub mul le eq
-one-sum = undivided (map (ofBits binary64) one) refl
-
-other-sum : Sum other 0x3FF0000000000001 1 (0 ∷ 0x3950000000000000 ∷ 0x3950000000000000 ∷ 0x3CA0000000000000 ∷ [])
-unfolding
-    judged firstFault faultOf W.openedAfter W.steppedAfter W.taken W.rising W.roundsFrom R.turned R.fresh R.scaled R.finished R.closedBy
-    N.soundSigma N.atMost N.soundNumbers N.soundPending N.badPlace N.sound N.gated remainders gathered lastSum largest powerOf ceil
-    nearestFloat value ofBits toBits add sub mul le eq
-other-sum = undivided (map (ofBits binary64) other) refl
-
-cancelled-sum : Sum cancelled 0 1 (0 ∷ 0 ∷ [])
-unfolding
-    judged firstFault faultOf W.openedAfter W.steppedAfter W.taken W.rising W.roundsFrom R.turned R.fresh R.scaled R.finished R.closedBy
-    N.soundSigma N.atMost N.soundNumbers N.soundPending N.badPlace N.sound N.gated remainders gathered lastSum largest powerOf ceil
-    nearestFloat value ofBits toBits add sub mul le eq
-cancelled-sum = undivided (map (ofBits binary64) cancelled) refl
+computed = (
+  undivided (map (ofBits binary64) one) refl,
+  undivided (map (ofBits binary64) other) refl,
+  undivided (map (ofBits binary64) cancelled) refl,
+)
 
 -- rule S8: not equal
 pub not-equal : ((ps qs : List ℕ) → Perm ps qs → (x y : Float) (j k : ℕ) (xs ys : List Float) → Summed doubles ps x j xs → Summed doubles qs y k ys → x ≡ y) → ⊥
 unfolding ofBits toBits
 not-equal h =
-    let e = ap (toBits binary64) (h one other reordered _ _ _ _ _ _ one-sum other-sum) in
+    let e = ap (toBits binary64) (h one other reordered _ _ _ _ _ _ (computed .0) (computed .1)) in
     omega arith
 
 -- rule S9: not 2^53
 pub not-closer : ((ps : List ℕ) (x : Float) (k : ℕ) (xs : List Float) → Summed doubles ps x k xs → 0 < natAbs (sumOf binary64 ps)
     → 2 ^ 53 * natAbs (value binary64 x -ℤ sumOf binary64 ps) < natAbs (sumOf binary64 ps)) → ⊥
 unfolding value magnitude negative ofBits
-not-closer h = not-le-of-lt (h one _ _ _ one-sum (lit≤ tt)) (lit≤ tt)
+not-closer h = not-le-of-lt (h one _ _ _ (computed .0) (lit≤ tt)) (lit≤ tt)
 
 -- rule S9: not where S is zero
 pub not-at-zero : ((ps : List ℕ) (x : Float) (k : ℕ) (xs : List Float) → Summed doubles ps x k xs
     → 2 ^ 52 * natAbs (value binary64 x -ℤ sumOf binary64 ps) < natAbs (sumOf binary64 ps)) → ⊥
 unfolding value magnitude negative ofBits
-not-at-zero h = lt-irrefl _ (h cancelled _ _ _ cancelled-sum)
+not-at-zero h = lt-irrefl _ (h cancelled _ _ _ (computed .2))
