@@ -118,6 +118,8 @@ def sum_wrong(request, parts):
     (pattern,) = unpacked(parts[1 + array][at : at + SIZE])
     if pattern % SIGN >= INFINITY or not walk.is_faithful(pattern, total):
         return f"{pattern:016X} is not faithful to {total} units"
+    if total and abs(exact.units(pattern) - total) << 52 >= abs(total):
+        return f"{pattern:016X} is too far from {total} units"
     return None
 
 

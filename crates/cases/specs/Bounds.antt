@@ -123,6 +123,27 @@ bounds =
       call = faithfulSum (0x3FF0000000000000 ∷ 0x3CA0000000000000 ∷ 0x3950000000000000 ∷ 0x3950000000000000 ∷ []);
       expected = outcome (done 0x3FF0000000000000 1) (0 ∷ 0x3CA0000000000000 ∷ 0x3950000000000000 ∷ 0x3950000000000000 ∷ []);
     }
+    -- rules S7 and S8: with 2^-53 behind the two it takes them in, and the faithful sum is the next double; the nearest sum and the parts are the same
+    ∷ record {
+      call = faithfulSum (0x3FF0000000000000 ∷ 0x3950000000000000 ∷ 0x3950000000000000 ∷ 0x3CA0000000000000 ∷ []);
+      expected = outcome (done 0x3FF0000000000001 1) (0 ∷ 0x3950000000000000 ∷ 0x3950000000000000 ∷ 0x3CA0000000000000 ∷ []);
+    }
+    ∷ record {
+      call = nearestSum (0x3FF0000000000000 ∷ 0x3CA0000000000000 ∷ 0x3950000000000000 ∷ 0x3950000000000000 ∷ []);
+      expected = outcome (nearest 0x3FF0000000000001) [];
+    }
+    ∷ record {
+      call = nearestSum (0x3FF0000000000000 ∷ 0x3950000000000000 ∷ 0x3950000000000000 ∷ 0x3CA0000000000000 ∷ []);
+      expected = outcome (nearest 0x3FF0000000000001) [];
+    }
+    ∷ record {
+      call = sumInParts (0x3FF0000000000000 ∷ 0x3CA0000000000000 ∷ 0x3950000000000000 ∷ 0x3950000000000000 ∷ []) 2;
+      expected = outcome (parts true) (0x3FF0000000000001 ∷ 0xBC9FFFFFFFFFFFFE ∷ []);
+    }
+    ∷ record {
+      call = sumInParts (0x3FF0000000000000 ∷ 0x3950000000000000 ∷ 0x3950000000000000 ∷ 0x3CA0000000000000 ∷ []) 2;
+      expected = outcome (parts true) (0x3FF0000000000001 ∷ 0xBC9FFFFFFFFFFFFE ∷ []);
+    }
     -- tau2 of rule W3: in the second round t is 2^-45 and tau 2^-98, which their sum loses; with 2^-104 left it makes the sum one place more
     ∷ record {
       call = faithfulSum (0x3FF0000000000000 ∷ 0xBFEFFFFFFFFFFF00 ∷ 0x39D0000000000000 ∷ 0x3970000000000000 ∷ []);

@@ -11,8 +11,9 @@ use lib.ListN.{length}
 use lib.Ieee.{Float, Format}
 use Rattle.ieee.specs.Units.{limit, magnitude, negative}
 use Rattle.ieee.specs.Overflow.{power-below, nearest-negative}
-use Rattle.ieee.specs.Accuracy.{FaithfulTo}
+use Rattle.ieee.specs.Accuracy.{FaithfulTo, CloseTo}
 use Rattle.ieee.specs.FaithfulFloat.{faithful-float, nearest-faithful}
+use Rattle.ieee.specs.TwoFaithful.{faithful-close}
 use Rattle.lists.specs.Apart.{apart}
 use Rattle.kinds.specs.Limits.{Width, blocksOf}
 use Rattle.kinds.specs.declared.Step.the-variants.{Done}
@@ -34,6 +35,8 @@ pub record FaithfulSum (W : Width) (ps : List ℕ) (w : Walked) : Type 0 where
   pub rounds : ℕ
   pub answer : w .answer ≡ Done sum rounds
   pub faithful : FaithfulTo (W .format) (sumOf (W .format) ps) sum
+  -- rule S9
+  pub close : CloseTo (W .format) (sumOf (W .format) ps) sum
   pub most : rounds ≤ suc (W .rounds)
   -- rule S3
   pub zero : magnitude (W .format) sum ≡ 0 → negative sum ≡ zeroSign W ps
@@ -45,6 +48,7 @@ module _ {W : Width} (F : Fitting W) (ps : List ℕ) (work : List Float) (G : Li
     rounds = 0;
     answer = ap (λ (w : Walked). w .answer) (sym (faithful-done F ps work (Done (zeroOf W ps) 0) (floats W ps) (sym (opened-zero F ps work G a)) _ 0 refl));
     faithful = rw (zero-sum F ps work G a) (nearest-faithful (W .format) (zeroSign W ps) (pos 0) (positive (W .format)));
+    close = rw (zero-sum F ps work G a) (record { close = λ h. absurd (omega arith) });
     most = omega arith;
     zero = λ m. nearest-negative (W .format) (zeroSign W ps) (pos 0) (positive (W .format));
   }
@@ -60,6 +64,7 @@ module _ {W : Width} (F : Fitting W) (ps : List ℕ) (work : List Float) (G : Li
         rounds = R .rounds;
         answer = R .answer;
         faithful = faithful-float (R .number) (R .faithful);
+        close = faithful-close (R .faithful);
         most = R .most;
         zero = λ m. R .plus m ∙ sym (zero-plus W ps .1 other);
       })

@@ -4,11 +4,13 @@ use mathlib.Core.Path.{_≡_}
 use mathlib.Core.Logic.{_↔_}
 use mathlib.Core.Bool.{true}
 use mathlib.Core.List.{List, _++_, Perm}
-use Prim.Native.Nat.{ℕ, _+_, _-_, _*_, _≤_}
+use Prim.Native.Nat.{ℕ, _+_, _-_, _*_, _^_, _≤_, _<_}
 use lib.Dec.{eqb}
-use lib.IntN.{pos}
+use lib.IntN.{pos, natAbs, _-ℤ_}
 use lib.ListN.{length}
 use lib.Ieee.{Float, binary32, binary64}
+use Rattle.ieee.specs.Units.{value}
+use Rattle.ieee.specs.Accuracy.{EqualOrNeighbouring}
 use Rattle.ieee.specs.Zeros.{minusZero}
 use Rattle.kinds.specs.Limits.{Width, doubles, blocksOf}
 use Rattle.kinds.specs.Outcome.{outcome}
@@ -30,6 +32,8 @@ use Rattle.runs.specs.Runs.{runOf, inTurn, members}
 use Rattle.runs.specs.AnyRun.{any-run}
 use Rattle.runs.specs.Demand3.{Going, Finished}
 use Rattle.runs.specs.Demand3Laws.{run-goes, run-finishes, run-bounded, run-at-once, run-left}
+use Rattle.runs.specs.Reordering.{Summed}
+use Rattle.runs.specs.Reordered.{summed-close, summed-reordered, summed-rounds}
 
 -- an accepted list of either width
 abbrev pub Accepted : Width → List ℕ → List Float → Type 0
@@ -129,3 +133,26 @@ module _ (ps : List ℕ) (work : List Float) (bs : List ℕ) where
       → runOf singles ps work (bs ++ cs) .steps
       ≤ runOf singles ps work bs .steps + ((19 - s .rounds) * blocksOf singles (length ps) + members (s .pending) (blocksOf singles (length ps)))
   left-32 G = run-left singles-fit ps work G bs
+
+-- ---- rule S8, faithful sums in any order; rule S9, how far off they are
+module _ {ps qs : List ℕ} (π : Perm ps qs) {x y : Float} {j k : ℕ} {xs ys : List Float} where
+  pub reordered-64 : Summed doubles ps x j xs → Summed doubles qs y k ys → EqualOrNeighbouring binary64 x y
+  reordered-64 = summed-reordered doubles-fit π
+
+  pub reordered-32 : Summed singles ps x j xs → Summed singles qs y k ys → EqualOrNeighbouring binary32 x y
+  reordered-32 = summed-reordered singles-fit π
+
+  pub rounds-64 : Summed doubles ps x j xs → Summed doubles qs y k ys → (j ≡ k) × Perm xs ys
+  rounds-64 = summed-rounds doubles-fit π
+
+  pub rounds-32 : Summed singles ps x j xs → Summed singles qs y k ys → (j ≡ k) × Perm xs ys
+  rounds-32 = summed-rounds singles-fit π
+
+module _ {ps : List ℕ} {x : Float} {k : ℕ} {xs : List Float} where
+  pub close-64 : Summed doubles ps x k xs → 0 < natAbs (sumOf binary64 ps)
+      → 2 ^ 52 * natAbs (value binary64 x -ℤ sumOf binary64 ps) < natAbs (sumOf binary64 ps)
+  close-64 s = summed-close doubles-fit s .close
+
+  pub close-32 : Summed singles ps x k xs → 0 < natAbs (sumOf binary32 ps)
+      → 2 ^ 23 * natAbs (value binary32 x -ℤ sumOf binary32 ps) < natAbs (sumOf binary32 ps)
+  close-32 s = summed-close singles-fit s .close

@@ -23,5 +23,8 @@ pub mod AnyOrder
 pub mod Demand3
 pub mod GoingLaws
 pub mod Demand3Laws
+pub mod Reordering
+pub mod ReorderedRounds
+pub mod Reordered
 pub mod AnyRun
 pub mod Instances

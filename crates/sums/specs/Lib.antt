@@ -1,5 +1,6 @@
 -- The sums of a list. Definitions first, then laws.
 pub mod Sums
+pub mod Reordering
 pub mod NonOverlapping
 pub mod FirstPlace
 pub mod PartsLaws
@@ -10,3 +11,4 @@ pub mod Promised
 pub mod ZeroSums
 pub mod AnswerNumbers
 pub mod Farewell
+pub mod Reordered
