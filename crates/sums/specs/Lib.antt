@@ -10,3 +10,4 @@ pub mod Promised
 pub mod ZeroSums
 pub mod AnswerNumbers
 pub mod Farewell
+pub mod Merged
