@@ -1,13 +1,14 @@
 -- A call of the library on given input, and what comes of it: what its caller hears, and its lent area afterwards. Definitions only.
 -- The meanings are those that the public contracts cite.
-use mathlib.Core.List.{List, [], map}
-use Prim.Native.Nat.{ℕ}
+use mathlib.Core.List.{List, [], _∷_, _++_, map}
+use Prim.Native.Nat.{ℕ, _-_, _^_}
 use lib.ListN.{length, replicate}
 use lib.Ieee.{binary64, ofBits, toBits}
 use Rattle.kinds.specs.Limits.{doubles}
 use Rattle.kinds.specs.Outcome.{Outcome, outcome}
 use Rattle.kinds.specs.Heard.{Heard, stepHeard, nearestHeard, partedHeard, entryHeard, sheetHeard}
 use Rattle.register.specs.Register.{added, withdrawn, rounded}
+use Rattle.register.specs.Merge.{merged}
 use Rattle.kinds.specs.States.{stateOf}
 use Rattle.walk.specs.Walk.{Walked, opened, stepped, faithfulOf}
 use Rattle.sums.specs.Sums.{nearestOf, partsOf}
@@ -17,6 +18,13 @@ use Rattle.weights.specs.Weights.{handedOf, handedHeard}
 -- what an area holds before the call, at each place: 1.5, a number that is in no list and no answer of the table
 abbrev pub beforehand : ℕ
 beforehand = 0x3FF8000000000000
+
+-- the registers of -2^2111 and of 2^2111 - 1
+abbrev pub least : List ℕ
+least = replicate 32 0 ++ (2 ^ 63 ∷ [])
+
+abbrev pub greatest : List ℕ
+greatest = replicate 32 (2 ^ 64 - 1) ++ ((2 ^ 63 - 1) ∷ [])
 
 -- a state by the patterns of its sigma, t and tau; n, the pending set and the rounds closed
 pub record Given : Type 0 where
@@ -41,6 +49,8 @@ pub data Call : Type 0 where
   add : List ℕ → ℕ → Call
   withdraw : List ℕ → ℕ → Call
   round : List ℕ → Call
+  -- two registers merged to an area of a length
+  merge : List ℕ → List ℕ → ℕ → Call
   -- reading a sheet's bytes to an area of a length
   sheet : List ℕ → ℕ → Call
   -- handing on the weight of a weight list's clock at a place, to an area of a length
@@ -67,6 +77,9 @@ resultOf (sumInParts ps k) =
 resultOf (add ws p) = outcome (entryHeard (added ws p .answer)) (added ws p .area)
 resultOf (withdraw ws p) = outcome (entryHeard (withdrawn ws p .answer)) (withdrawn ws p .area)
 resultOf (round ws) = outcome (nearestHeard doubles (rounded ws)) []
+resultOf (merge us vs m) =
+    let r = merged us vs (replicate m beforehand) in
+    outcome (entryHeard (r .answer)) (r .area)
 resultOf (sheet bytes m) =
     let r = readOf doubles bytes (replicate m beforehand) in
     outcome (sheetHeard (r .answer)) (r .area)
