@@ -34,9 +34,10 @@ import drawn  # noqa: E402
 import farewells  # noqa: E402
 import fixed  # noqa: E402
 import kit  # noqa: E402
+import merges  # noqa: E402
 
 PLACE = os.path.join(ROOT, "target", "host")
-FIXED, DRAWN = fixed.GROUPS + farewells.FIXED, drawn.GROUPS + farewells.DRAWN
+FIXED, DRAWN = fixed.GROUPS + farewells.FIXED + merges.FIXED, drawn.GROUPS + farewells.DRAWN + merges.DRAWN
 LISTS = 20000
 PROGRESS = 8  # seconds between lines
 TOGETHER = 500  # requests that the driver is handed at once: each may have arrays of 32 KB
@@ -59,6 +60,7 @@ REFUSALS = {
     "kewohiata_words_round": {0, 4, 10},
     "kewohiata_sheet_read": {0, 1, 4, 11, 12, 13},
     "kewohiata_weights_hand_on": {0, 1, 2, 3, 4, 14, 15, 16, 17},
+    "kewohiata_words_merge": {0, 4, 9},
 }
 
 
