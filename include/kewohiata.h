@@ -17,7 +17,8 @@
  *
  * Outside the contract (rule C8), and nothing is promised of such a call: a null pointer (also with length 0), a length that isn't the array's, an array
  * that is not readable or not writable as its type says, an array of uint64_t or double that isn't aligned as its type is, two arrays of a call that
- * overlap, an array that something else writes to during the call, and a call of the walk in another floating-point environment than the one above.
+ * overlap (but for the two of a merge that are only read), an array that something else writes to during the call, and a call of the walk in another
+ * floating-point environment than the one above.
  *
  * The calls keep no state between each other, allocate nothing and may run at the same time on different arrays. A call takes a time that grows as n, the
  * list's length, where nothing else stands beside it. */
@@ -33,8 +34,8 @@ extern "C" {
 #endif
 
 /* Below 1.0.0 a call's form and its answers may still change, and the second number tells it. */
-#define KEWOHIATA_VERSION "0.4.0"
-enum { KEWOHIATA_VERSION_MAJOR = 0, KEWOHIATA_VERSION_MINOR = 4, KEWOHIATA_VERSION_PATCH = 0 };
+#define KEWOHIATA_VERSION "0.5.0"
+enum { KEWOHIATA_VERSION_MAJOR = 0, KEWOHIATA_VERSION_MINOR = 5, KEWOHIATA_VERSION_PATCH = 0 };
 
 /* The refusals, rules R1 to R17. A code has room for numbers up to 31; 18 and above are kept for later ones. */
 enum kewohiata_refusals {
@@ -187,6 +188,12 @@ uint32_t kewohiata_list_parts(const uint64_t *list, size_t list_length, double *
  * and is taken out leaves no trace. Refusals: 4; 2 or 3 with place 0; 9. */
 uint32_t kewohiata_words_add(uint64_t *words, size_t words_length, uint64_t pattern);
 uint32_t kewohiata_words_withdraw(uint64_t *words, size_t words_length, uint64_t pattern);
+
+/* Merges two registers into a third (rules G7 and G8): its whole number is the sum of the two. Neither the order nor the grouping of merges matters where
+ * none is refused, a register of zeros changes nothing, and what was added to one of the two and taken out of the other leaves no trace.
+ * a, b: the two, which are only read. They may be the same array; `out` has to be another one, that overlaps neither: a total can't be merged onto itself.
+ * out: 33 words, all of which are written. Refusals: 4 for any of the three; 9. */
+uint32_t kewohiata_words_merge(const uint64_t *a, size_t a_length, const uint64_t *b, size_t b_length, uint64_t *out, size_t out_length);
 
 /* The double nearest to a register (rule G4), at a tie the one with the even significand; zero gives +0. out: 1 number, its pattern. Refusals: 4; 10. */
 uint32_t kewohiata_words_round(const uint64_t *words, size_t words_length, uint64_t *out, size_t out_length);

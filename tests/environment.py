@@ -44,7 +44,7 @@ ENVIRONMENTS = {
     "both, upward": USUAL | UP | FLUSH | ZEROED,
 }
 GOOD = {"as usual", "with flags raised"}
-ENVIRONMENT, NEAREST, ADD, WITHDRAW, FAITHFUL, LIST_NEAREST, WORDS_ROUND, PARTS, WALK, READ, HAND_ON, WRITE = range(12)
+ENVIRONMENT, NEAREST, ADD, WITHDRAW, FAITHFUL, LIST_NEAREST, WORDS_ROUND, PARTS, WALK, READ, HAND_ON, WRITE, MERGE = range(13)
 
 TINY = [exact.ONE, 0x36EB6, exact.ONE | exact.SIGN]
 LISTS = 150
@@ -57,7 +57,7 @@ NAMES = {
     "WRONG_TOTAL": 15, "NO_SUCH_CLOCK": 16, "NO_OTHER_WEIGHT": 17, "LIST_MOST": 4094,
     "LIST_BYTES_MOST": 32752, "BLOCK": 64, "STATE": 10, "FAITHFUL": 2, "VALUE": 1, "SUM_BYTES": 16, "WORDS": 33, "REGISTER_BYTES": 264, "PARTS_MOST": 8,
     "ROUNDS_MOST": 51, "SHEET_HEADER": 5, "SHEET_BYTES_MOST": 32757, "ACCEPTED": 0, "MORE": 1, "DONE": 2, "STATE_KIND": 0, "STATE_SIGMA": 1, "STATE_T": 2,
-    "STATE_TAU": 3, "STATE_N": 4, "STATE_PENDING": 5, "STATE_ROUNDS": 6, "DONE_SUM": 1, "DONE_ROUNDS": 2, "VERSION_MAJOR": 0, "VERSION_MINOR": 4,
+    "STATE_TAU": 3, "STATE_N": 4, "STATE_PENDING": 5, "STATE_ROUNDS": 6, "DONE_SUM": 1, "DONE_ROUNDS": 2, "VERSION_MAJOR": 0, "VERSION_MINOR": 5,
     "VERSION_PATCH": 0,
 }  # fmt: skip
 
@@ -175,12 +175,12 @@ def wanted(call, numbers):
     if call == PARTS:
         parts, all_of_it = exact.sum_in_parts(numbers, exact.PARTS)
         return parts + [int(all_of_it)]
-    return whole(numbers, 1 if call == ADD else -1).words
+    return whole(numbers, -1 if call == WITHDRAW else 1).words
 
 
 def check_calls(name, program, prefix, some):
     """The calls on whole numbers answer the same everywhere; the walk's are counted where they are wrong."""
-    calls = [NEAREST, ADD, WITHDRAW] + [LIST_NEAREST, WORDS_ROUND, PARTS, READ, HAND_ON, WRITE]
+    calls = [NEAREST, ADD, WITHDRAW] + [LIST_NEAREST, WORDS_ROUND, PARTS, READ, HAND_ON, WRITE, MERGE]
     right = {(call, k): wanted(call, numbers) for call in calls for k, numbers in enumerate(some)}
     for what, control in ENVIRONMENTS.items():
         asked = [(call, k) for call in calls for k in range(len(some))]

@@ -84,16 +84,25 @@ class Register:
     def store(self, whole):
         self.words = [whole >> 64 * i & ONES for i in range(WORDS)]
 
+    def become(self, whole):
+        """The same, unless it is outside 2112 bits."""
+        if not -(1 << BITS - 1) <= whole < 1 << BITS - 1:
+            raise Refused(9, 0)
+        self.store(whole)
+
     def enter(self, pattern, sign):
         """Addition (sign 1) and withdrawal (sign -1)."""
         if len(self.words) != WORDS:
             raise Refused(4, 0)
         if fault(pattern):
             raise Refused(fault(pattern), 0)
-        whole = self.whole() + sign * units(pattern)
-        if not -(1 << BITS - 1) <= whole < 1 << BITS - 1:
-            raise Refused(9, 0)
-        self.store(whole)
+        self.become(self.whole() + sign * units(pattern))
+
+    def merge(self, one, other):
+        """The sum of two other registers."""
+        if {len(self.words), len(one.words), len(other.words)} != {WORDS}:
+            raise Refused(4, 0)
+        self.become(one.whole() + other.whole())
 
     def round(self):
         if len(self.words) != WORDS:

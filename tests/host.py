@@ -34,12 +34,14 @@ import drawn  # noqa: E402
 import farewells  # noqa: E402
 import fixed  # noqa: E402
 import kit  # noqa: E402
+import merges  # noqa: E402
 import shuffles  # noqa: E402
 import writings  # noqa: E402
 
 PLACE = os.path.join(ROOT, "target", "host")
-FIXED = fixed.GROUPS + farewells.FIXED + shuffles.FIXED + writings.FIXED
-DRAWN = drawn.GROUPS + farewells.DRAWN + shuffles.DRAWN + writings.DRAWN
+OTHERS = farewells, merges, shuffles, writings
+FIXED = fixed.GROUPS + [group for other in OTHERS for group in other.FIXED]
+DRAWN = drawn.GROUPS + [group for other in OTHERS for group in other.DRAWN]
 LISTS = 20000
 PROGRESS = 8  # seconds between lines
 TOGETHER = 500  # requests that the driver is handed at once: each may have arrays of 32 KB
@@ -63,6 +65,7 @@ REFUSALS = {
     "kewohiata_sheet_read": {0, 1, 4, 11, 12, 13},
     "kewohiata_weights_hand_on": {0, 1, 2, 3, 4, 14, 15, 16, 17},
     "kewohiata_sheet_write": {0, 1, 4},
+    "kewohiata_words_merge": {0, 4, 9},
 }
 
 

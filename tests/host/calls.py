@@ -30,6 +30,7 @@ CALLS = {
     "kewohiata_sheet_read": "BQQ",
     "kewohiata_weights_hand_on": "QQ",
     "kewohiata_sheet_write": "QBQ",
+    "kewohiata_words_merge": "QQQ",
 }
 NUMBERS = {call: number for number, call in enumerate(CALLS)}
 SIZE, SUM, REGISTER = 8, 16, 8 * exact.WORDS  # bytes of a number, of a sum in bytes, and of a register
@@ -285,6 +286,16 @@ def rounded(data, out):
         return [data, packed([exact.Register(unpacked(data)).round()])], None
 
     return asked("kewohiata_words_round", [data, out], model)
+
+
+def merged(one, other, out, twice=False):
+    """Two registers into a third. Where the first is handed in twice, the second stays aside."""
+    def model():
+        register = exact.Register(unpacked(out))
+        register.merge(exact.Register(unpacked(one)), exact.Register(unpacked(one if twice else other)))
+        return [one, other, packed(register.words)], None
+
+    return asked("kewohiata_words_merge", [one, other, out], model, int(twice))
 
 
 # ---- weights

@@ -42,6 +42,16 @@ static uint32_t rounded(size_t n)
     return code ? code : kewohiata_words_round(words, KEWOHIATA_WORDS, values, KEWOHIATA_VALUE);
 }
 
+/* two rooms that have every second number each, merged */
+static uint32_t merged(size_t n)
+{
+    uint64_t rooms[2][KEWOHIATA_WORDS] = {{0}};
+    uint32_t code = 0;
+    for (size_t i = 0; i < n && code == 0; i++)
+        code = kewohiata_words_add(rooms[i % 2], KEWOHIATA_WORDS, list[i]);
+    return code ? code : kewohiata_words_merge(rooms[0], KEWOHIATA_WORDS, rooms[1], KEWOHIATA_WORDS, values, KEWOHIATA_WORDS);
+}
+
 /* eight parts, and whether they add up */
 static uint32_t parted(size_t n)
 {
@@ -99,6 +109,7 @@ static uint32_t call(uint64_t which, size_t n)
     case 9: return sheet_read(n);
     case 10: return handed_on(n);
     case 11: return sheet_written(n);
+    case 12: return merged(n);
     default: return UINT32_MAX;
     }
 }

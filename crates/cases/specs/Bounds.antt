@@ -7,7 +7,8 @@ use Prim.Native.Nat.{ℕ, _+_, _-_, _^_}
 use lib.ListN.{replicate}
 use Rattle.kinds.specs.Outcome.{outcome}
 use Rattle.kinds.specs.Heard.{nowhere, at, refused, more, done, nearest, parts, accepted, count}
-use Rattle.cases.specs.Calls.{Given, Case, beforehand, byteBeforehand, opening, step, faithfulSum, nearestSum, sumInParts, round, sheet, write, handOn}
+use Rattle.cases.specs.Calls.{Given, Case, beforehand, byteBeforehand, least, greatest}
+use Rattle.cases.specs.Calls.{opening, step, faithfulSum, nearestSum, sumInParts, round, merge, sheet, write, handOn}
 
 -- a state with t = tau = +0; one with a given t and tau, and one with a given sigma, of one number
 abbrev opened : ℕ → ℕ → ℕ → Given
@@ -216,6 +217,18 @@ bounds =
     }
     -- rules L11 and G4: -1 unit
     ∷ record { call = round (replicate 33 (2 ^ 64 - 1)); expected = outcome (nearest 0x8000000000000001) [] }
+    -- rules G7 and R9: 2^64 - 1 units and one, -1 unit and one, both ends of the range together, and one unit beyond either
+    ∷ record {
+      call = merge ((2 ^ 64 - 1) ∷ replicate 32 0) (1 ∷ replicate 32 0) 33;
+      expected = outcome accepted (0 ∷ 1 ∷ replicate 31 0);
+    }
+    ∷ record { call = merge (replicate 33 (2 ^ 64 - 1)) (1 ∷ replicate 32 0) 33; expected = outcome accepted (replicate 33 0) }
+    ∷ record { call = merge greatest least 33; expected = outcome accepted (replicate 33 (2 ^ 64 - 1)) }
+    ∷ record { call = merge greatest (1 ∷ replicate 32 0) 33; expected = outcome (refused 9 nowhere) (replicate 33 beforehand) }
+    ∷ record { call = merge (replicate 33 (2 ^ 64 - 1)) least 33; expected = outcome (refused 9 nowhere) (replicate 33 beforehand) }
+    -- rule G8: of the greatest, one unit and -1 unit the first two are refused, as just shown; the last two are zero, and with that the greatest stays
+    ∷ record { call = merge (1 ∷ replicate 32 0) (replicate 33 (2 ^ 64 - 1)) 33; expected = outcome accepted (replicate 33 0) }
+    ∷ record { call = merge greatest (replicate 33 0) 33; expected = outcome accepted greatest }
     -- rules H1 to H3: two numbers, in an area of three places
     ∷ record {
       call = sheet (1 ∷ 0 ∷ 0 ∷ 0 ∷ 2 ∷ (0x3F ∷ 0xF0 ∷ replicate 6 0) ++ (0x40 ∷ replicate 7 0)) 3;

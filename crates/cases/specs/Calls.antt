@@ -1,13 +1,14 @@
 -- A call of the library on given input, and what comes of it: what its caller hears, and its lent area afterwards. Definitions only.
 -- The meanings are those that the public contracts cite.
-use mathlib.Core.List.{List, [], map}
-use Prim.Native.Nat.{ℕ}
+use mathlib.Core.List.{List, [], _∷_, _++_, map}
+use Prim.Native.Nat.{ℕ, _-_, _^_}
 use lib.ListN.{length, replicate}
 use lib.Ieee.{binary64, ofBits, toBits}
 use Rattle.kinds.specs.Limits.{doubles}
 use Rattle.kinds.specs.Outcome.{Outcome, outcome}
 use Rattle.kinds.specs.Heard.{Heard, stepHeard, nearestHeard, partedHeard, entryHeard, sheetHeard}
 use Rattle.register.specs.Register.{added, withdrawn, rounded}
+use Rattle.register.specs.Merge.{merged}
 use Rattle.kinds.specs.States.{stateOf}
 use Rattle.walk.specs.Walk.{Walked, opened, stepped, faithfulOf}
 use Rattle.sums.specs.Sums.{nearestOf, partsOf}
@@ -22,6 +23,13 @@ beforehand = 0x3FF8000000000000
 -- and an area of bytes
 abbrev pub byteBeforehand : ℕ
 byteBeforehand = 0xF8
+
+-- the registers of -2^2111 and of 2^2111 - 1
+abbrev pub least : List ℕ
+least = replicate 32 0 ++ (2 ^ 63 ∷ [])
+
+abbrev pub greatest : List ℕ
+greatest = replicate 32 (2 ^ 64 - 1) ++ ((2 ^ 63 - 1) ∷ [])
 
 -- a state by the patterns of its sigma, t and tau; n, the pending set and the rounds closed
 pub record Given : Type 0 where
@@ -46,6 +54,8 @@ pub data Call : Type 0 where
   add : List ℕ → ℕ → Call
   withdraw : List ℕ → ℕ → Call
   round : List ℕ → Call
+  -- two registers merged to an area of a length
+  merge : List ℕ → List ℕ → ℕ → Call
   -- reading a sheet's bytes to an area of a length; writing a list as a sheet to so many bytes
   sheet : List ℕ → ℕ → Call
   write : List ℕ → ℕ → Call
@@ -73,6 +83,9 @@ resultOf (sumInParts ps k) =
 resultOf (add ws p) = outcome (entryHeard (added ws p .answer)) (added ws p .area)
 resultOf (withdraw ws p) = outcome (entryHeard (withdrawn ws p .answer)) (withdrawn ws p .area)
 resultOf (round ws) = outcome (nearestHeard doubles (rounded ws)) []
+resultOf (merge us vs m) =
+    let r = merged us vs (replicate m beforehand) in
+    outcome (entryHeard (r .answer)) (r .area)
 resultOf (sheet bytes m) =
     let r = readOf doubles bytes (replicate m beforehand) in
     outcome (sheetHeard (r .answer)) (r .area)

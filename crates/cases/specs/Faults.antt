@@ -1,23 +1,16 @@
--- Calls with two faults at once, where rules O1 to O5, O7 and O8 say which is told, and some with the later fault alone: a table of the same kind.
+-- Calls with two faults at once, where rules O1 to O5 and O7 to O9 say which is told, and some with the later fault alone: a table of the same kind.
 -- Definitions only.
 -- Patterns: 7FF0000000000000 is an infinity, FFF8000000000000 a NaN, and 7E70000000000001 the first double above 2^1000.
 use mathlib.Core.List.{List, [], _∷_, _++_}
-use Prim.Native.Nat.{ℕ, _-_, _^_}
+use Prim.Native.Nat.{ℕ}
 use lib.ListN.{replicate}
 use Rattle.kinds.specs.Outcome.{outcome}
 use Rattle.kinds.specs.Heard.{nowhere, at, refused}
-use Rattle.cases.specs.Calls.{Given, Case, beforehand, byteBeforehand, faithfulWithin, step, nearestSum, sumInParts, add, withdraw, round}
-use Rattle.cases.specs.Calls.{sheet, write, handOn}
+use Rattle.cases.specs.Calls.{Given, Case, beforehand, byteBeforehand, least, greatest}
+use Rattle.cases.specs.Calls.{faithfulWithin, step, nearestSum, sumInParts, add, withdraw, round, merge, sheet, write, handOn}
 
 abbrev numbered : ℕ → ℕ → Given
 numbered n pending = record { sigma = 0x4070000000000000; t = 0; tau = 0; n = n; pending = pending; rounds = 0 }
-
--- the registers of -2^2111 and of 2^2111 - 1
-abbrev least : List ℕ
-least = replicate 32 0 ++ (2 ^ 63 ∷ [])
-
-abbrev greatest : List ℕ
-greatest = replicate 32 (2 ^ 64 - 1) ++ ((2 ^ 63 - 1) ∷ [])
 
 unfoldable pub faults : List Case
 faults =
@@ -47,6 +40,11 @@ faults =
     -- rule O4: 4 before 10
     ∷ record { call = round (greatest ++ (0 ∷ [])); expected = outcome (refused 4 nowhere) [] }
     ∷ record { call = round greatest; expected = outcome (refused 10 nowhere) [] }
+    -- rule O9: 4 of either register and of the area before 9
+    ∷ record { call = merge (greatest ++ (0 ∷ [])) greatest 33; expected = outcome (refused 4 nowhere) (replicate 33 beforehand) }
+    ∷ record { call = merge least (0 ∷ least) 33; expected = outcome (refused 4 nowhere) (replicate 33 beforehand) }
+    ∷ record { call = merge greatest greatest 32; expected = outcome (refused 4 nowhere) (replicate 32 beforehand) }
+    ∷ record { call = merge least least 33; expected = outcome (refused 9 nowhere) (replicate 33 beforehand) }
     -- rule O5: 11 of the header before 12; 12 before 1; 1 before the numbers' 11; that and 13 before 4
     ∷ record { call = sheet (2 ∷ 0 ∷ 0 ∷ 0 ∷ []) 1; expected = outcome (refused 11 nowhere) (beforehand ∷ []) }
     ∷ record { call = sheet (2 ∷ 0 ∷ 0 ∷ 15 ∷ 255 ∷ []) 1; expected = outcome (refused 12 nowhere) (beforehand ∷ []) }

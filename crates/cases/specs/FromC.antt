@@ -13,6 +13,7 @@ use Rattle.kinds.specs.Outcome.{outcome}
 use Rattle.lists.specs.Every.{every}
 use Rattle.judge.specs.Judge.{faultOf, firstFault, judged, zeroSign}
 use Rattle.register.specs.Register.{enter, rounded}
+use Rattle.register.specs.Merge as G
 use Rattle.octets.specs.Octets.{eights, joined}
 use Rattle.extract.specs.Extract.{remainders, gathered, lastSum, largest}
 use Rattle.exponent.specs.Power.{powerOf}
@@ -28,7 +29,7 @@ use Rattle.arrays.specs.Arrays.{returned}
 use Rattle.step_calls.specs.StepArrays.{openArrays, stepArrays}
 use Rattle.sum_calls.specs.SumArrays.{faithfulArrays, nearestArrays}
 use Rattle.part_calls.specs.PartArrays.{partsArrays}
-use Rattle.register_calls.specs.RegisterArrays.{addArrays, withdrawArrays, roundArrays}
+use Rattle.register_calls.specs.RegisterArrays.{addArrays, withdrawArrays, mergeArrays, roundArrays}
 use Rattle.sheet_calls.specs.SheetArrays.{readArrays, writeArrays}
 use Rattle.weight_calls.specs.WeightArrays.{handOnArrays}
 
@@ -92,6 +93,11 @@ added = refl
 pub withdrawn : withdrawArrays onlyOne 0x3FF0000000000000 ≡ outcome 0 (replicate 33 0)
 unfolding enter number digits signed residue value faultOf ofBits
 withdrawn = refl
+
+-- 1 in both rooms
+pub merged : mergeArrays onlyOne onlyOne (replicate 33 7) ≡ outcome 0 (replicate 16 0 ++ 0x8000000000000 ∷ replicate 16 0)
+unfolding G.merged number digits signed residue
+merged = refl
 
 pub rounds : roundArrays onlyOne (7 ∷ []) ≡ outcome 0 (0x3FF0000000000000 ∷ [])
 unfolding roundArrays rounded number signed nearestFloat value ofBits toBits

@@ -14,6 +14,7 @@ use Rattle.ieee.specs.Units.{value, nearestFloat}
 use Rattle.lists.specs.Every as L
 use Rattle.judge.specs.Judge.{faultOf, firstFault, judged, zeroSign}
 use Rattle.register.specs.Register.{enter, rounded}
+use Rattle.register.specs.Merge.{merged}
 use Rattle.extract.specs.Extract.{remainders, gathered, lastSum, largest}
 use Rattle.exponent.specs.Power.{powerOf}
 use Rattle.sound.specs.Sound as N
@@ -131,7 +132,7 @@ unfolding
     every bounds judged firstFault faultOf zeroSign L.every
     W.openedAfter W.steppedAfter W.taken W.rising W.roundsFrom R.turned R.fresh R.scaled R.finished R.closedBy
     N.soundSigma N.atMost N.soundNumbers N.soundPending N.badPlace N.sound N.gated remainders gathered lastSum largest powerOf ceil
-    S.nearestAfter S.partsAfter S.parts rounded number digits signed residue nearestFloat value readOf eights writtenOf sheetOf joined
+    S.nearestAfter S.partsAfter S.parts rounded merged number digits signed residue nearestFloat value readOf eights writtenOf sheetOf joined
     H.weightGood H.weightOf H.patternFor H.total H.spread H.badWeight H.weighed H.handedAfter
     ofBits toBits add sub mul le eq
 computed-bounds = refl
@@ -140,7 +141,7 @@ computed-faults : every faults ≡ true
 unfolding
     every faults judged firstFault faultOf W.openedAfter W.steppedAfter W.roundsFrom W.rising
     N.soundSigma N.atMost N.soundNumbers N.soundPending N.badPlace N.sound N.gated ceil
-    S.nearestAfter S.partsAfter enter rounded number digits signed residue nearestFloat value readOf writtenOf
+    S.nearestAfter S.partsAfter enter rounded merged number digits signed residue nearestFloat value readOf writtenOf
     H.weightGood H.weightOf H.patternFor H.total H.spread H.badWeight H.weighed H.handedAfter
     ofBits toBits le eq
 computed-faults = refl

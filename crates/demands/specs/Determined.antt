@@ -14,6 +14,7 @@ use Rattle.kinds.specs.declared.Parted.{Parted}
 use Rattle.kinds.specs.declared.Entry.{Entry}
 use Rattle.sums.specs.Sums.{nearestOf, partsOf}
 use Rattle.register.specs.Register.{added, withdrawn, rounded}
+use Rattle.register.specs.Merge.{merged}
 use Rattle.walk.specs.Walk.{opened, stepped, faithfulOf}
 
 -- ---- sums
@@ -36,6 +37,10 @@ withdraw-determined ws p = determined (withdrawn ws p)
 
 pub round-determined : (ws : List ℕ) {r q : Nearest} → r ≡ rounded ws → q ≡ rounded ws → r ≡ q
 round-determined ws = same
+
+pub merge-determined : (us vs out : List ℕ) {r q : Entry} {xs ys : List ℕ}
+    → outcome r xs ≡ merged us vs out → outcome q ys ≡ merged us vs out → (r ≡ q) × (xs ≡ ys)
+merge-determined us vs out = determined (merged us vs out)
 
 -- ---- walk
 

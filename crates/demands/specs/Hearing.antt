@@ -1,4 +1,4 @@
--- What is heard of the eight calls of walk, sums and register: a refusal with its number is heard exactly when its row says, with the place for 2 and 3 and
+-- What is heard of the nine calls of walk, sums and register: a refusal with its number is heard exactly when its row says, with the place for 2 and 3 and
 -- nothing more for the others. Assumes nothing.
 use mathlib.Core.Path.{_≡_, refl}
 use mathlib.Core.Logic.{inl, _↔_}
@@ -23,11 +23,13 @@ use Rattle.addend.specs.Addend.{unitsOf}
 use Rattle.register.specs.Register.{added, withdrawn, enter, rounded}
 use Rattle.register.specs.Entries.{EntryWhen, wrong-length, bad-number, out-of-range}
 use Rattle.register.specs.RegisterLaws.{entry-when}
+use Rattle.register.specs.Merge as merging
+use Rattle.register.specs.Merge.{merged, MergeWhen}
 use Rattle.sums.specs.Sums.{nearestOf, fitting, partsOf}
 use Rattle.walk.specs.Walk.{opened, stepped, faithfulOf}
 use Rattle.demands.specs.Tables as tables
 use Rattle.demands.specs.Tables.{StepWhen, WalkWhen, RoundWhen}
-use Rattle.demands.specs.Refusals.{nearest-refused, parts-refused, round-refused, open-refused, faithful-refused, step-refused}
+use Rattle.demands.specs.Refusals.{nearest-refused, parts-refused, round-refused, merge-refused, open-refused, faithful-refused, step-refused}
 
 module _ (ps : List ℕ) where
   pub nearest-heard : (k : ℕ) (p : Place) → (nearestHeard doubles (nearestOf doubles ps) ≡ refused k p)
@@ -91,3 +93,12 @@ module _ (ws : List ℕ) (p : ℕ) where
   pub withdraw-heard : (k : ℕ) (q : Place) → (entryHeard (withdrawn ws p .answer) ≡ refused k q)
       ↔ Row (λ k i. EntryWhen ws p (wholeOf ws -ℤ unitsOf doubles p) (entries.Refused k i)) k q
   withdraw-heard = entry-heard ws p (wholeOf ws -ℤ unitsOf doubles p)
+
+pub merge-heard : (us vs out : List ℕ) (k : ℕ) (p : Place) → (entryHeard (merged us vs out .answer) ≡ refused k p)
+    ↔ Row (λ k i. MergeWhen us vs out (entries.Refused k i)) k p
+merge-heard us vs out = hears entryHeard entries.Refused (λ k i. refl) (merged us vs out .answer) (entry-is (merged us vs out .answer))
+    (λ k i. MergeWhen us vs out (entries.Refused k i)) (merge-refused us vs out) (λ k i h. placed k i (inl (zeros h)))
+  where
+    zeros : {k i : ℕ} → MergeWhen us vs out (entries.Refused k i) → i ≡ 0
+    zeros (merging.wrong-length n) = refl
+    zeros (merging.out-of-range T h) = refl

@@ -1,4 +1,4 @@
--- Rules D1 and O6, for the eight calls of walk, sums and register: each is refused with k exactly when the row of k says and no earlier
+-- Rules D1 and O6, for the nine calls of walk, sums and register: each is refused with k exactly when the row of k says and no earlier
 -- one holds, and a refused call leaves every lent area as it was. Assumes nothing.
 use mathlib.Core.Path.{_≡_, ap}
 use mathlib.Core.Logic.{_↔_}
@@ -25,6 +25,8 @@ use Rattle.addend.specs.Addend.{unitsOf}
 use Rattle.register.specs.Register.{added, withdrawn, rounded}
 use Rattle.register.specs.Entries.{EntryWhen}
 use Rattle.register.specs.RegisterLaws.{entry-when, entry-leaves}
+use Rattle.register.specs.Merge.{merged, MergeWhen}
+use Rattle.register.specs.MergeLaws as merging
 use Rattle.sums.specs.Sums.{nearestOf, fitting, partsOf, partsAfter}
 use Rattle.sums.specs.Promised.{nearest-refusals, parts-refusals}
 use Rattle.rounds.specs.Instances.{doubles-fit}
@@ -74,6 +76,15 @@ module _ (ws : List ℕ) (p k i : ℕ) where
 
 pub round-refused : (ws : List ℕ) (k i : ℕ) → (rounded ws ≡ nearests.Refused k i) ↔ RoundWhen ws (nearests.Refused k i)
 round-refused ws k i = round-when ws (nearests.Refused k i)
+
+-- ---- register::merge
+
+module _ (us vs out : List ℕ) (k i : ℕ) where
+  pub merge-refused : (merged us vs out .answer ≡ entries.Refused k i) ↔ MergeWhen us vs out (entries.Refused k i)
+  merge-refused = merging.merge-when us vs out (entries.Refused k i)
+
+  pub merge-leaves : merged us vs out .answer ≡ entries.Refused k i → merged us vs out .area ≡ out
+  merge-leaves = merging.merge-leaves us vs out
 
 -- ---- walk::open, walk::faithful
 

@@ -2,6 +2,7 @@
 use mathlib.Core.Path.{_≡_}
 use mathlib.Core.List.{List}
 use Prim.Native.Nat.{ℕ, _+_, _*_, _^_, _≤_}
+use lib.ListN.{take}
 use Rattle.lists.specs.Digits.{number}
 
 -- lo at place k and hi at the next
@@ -16,4 +17,9 @@ pub record Carries (w a b c d carry : ℕ) : Type 0 where
 -- xs and m are the digits ys, and the carry into place i. Of a difference ys is what is taken from, and xs what is left.
 pub record Carried (w : ℕ) (xs : List ℕ) (m : ℕ) (ys : List ℕ) (i carry : ℕ) : Type 0 where
   pub total : number w ys + carry * 2 ^ (w * i) ≡ number w xs + m
+  pub small : carry ≤ 1
+
+-- the lowest i digits of xs and of ys are those of zs, and the carry into place i
+pub record Added (w : ℕ) (xs ys zs : List ℕ) (i carry : ℕ) : Type 0 where
+  pub total : number w (take i zs) + carry * 2 ^ (w * i) ≡ number w (take i xs) + number w (take i ys)
   pub small : carry ≤ 1

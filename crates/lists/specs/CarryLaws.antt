@@ -1,12 +1,16 @@
--- How one digit's sum or difference carries to the number, and the sum or difference of two adjacent digits. Assumes nothing.
+-- How one digit's sum or difference carries to the number, the sum or difference of two adjacent digits, and a sum digit by digit from the lowest.
+-- Assumes nothing.
 use mathlib.Core.Path.{_≡_, ap}
 use mathlib.Core.List.{List}
-use Prim.Native.Nat.{ℕ, _+_, _*_, _^_, _<_}
+use Prim.Native.Nat.{ℕ, suc, _+_, _*_, _^_, _<_}
 use native.Mathlib.Numerals.{add-one}
 use native.Mathlib.Omega.{arith}
 use lib.ListN.{length, getD, set, length-set}
-use Rattle.lists.specs.DigitLaws.{weight-next, number-set}
-use Rattle.lists.specs.Carry.{two, Carries, Carried}
+use lib.Seq.{take-all, take-length}
+use Rattle.lists.specs.Digits.{number}
+use Rattle.lists.specs.DigitLaws.{weight-next, number-nil, number-set}
+use Rattle.lists.specs.LowestDigits.{number-next, number-next-set}
+use Rattle.lists.specs.Carry.{two, Carries, Carried, Added}
 
 module _ {w : ℕ} {xs ys : List ℕ} {m i c b d carry : ℕ} where
   -- the next digit of a sum, and of a difference
@@ -53,3 +57,25 @@ module _ {w : ℕ} {xs zs : List ℕ} (k lo hi : ℕ) {l c h d n r : ℕ} (K : k
       let first = carried-sub (omega arith) (start w xs k) s in
       let both = carried-sub (simp length-set (omega arith)) first t in
       record { total = omega (arith, rw (next k) at (both .total), C .total); small = C .small }
+
+-- ---- digit by digit from the lowest
+pub added-none : (w : ℕ) (xs ys zs : List ℕ) → Added w xs ys zs 0 0
+added-none w xs ys zs = record { total = rw (number-nil w) (omega arith); small = omega arith }
+
+module _ {w : ℕ} {xs ys zs : List ℕ} {i c : ℕ} where
+  pub added-next : {d carry : ℕ} → i < length xs → length ys ≡ length xs → length zs ≡ length xs → Added w xs ys zs i c
+      → Carries w (getD xs i 0) (getD ys i 0) c d carry → Added w xs ys (set zs i d) (suc i) carry
+  added-next {d} h k l A s = record {
+    total =
+        rw (number-next-set w zs {i = i} d (omega arith), number-next w xs h, number-next w ys {i = i} (omega arith), weight-next w i)
+        (omega (arith, A .total, ap (λ (n : ℕ). n * 2 ^ (w * i)) (s .total)));
+    small = s .small;
+  }
+
+  pub added-all : i ≡ length xs → length ys ≡ length xs → length zs ≡ length xs → Added w xs ys zs i c → Carried w xs (number w ys) zs (length xs) c
+  added-all e k l A = record {
+    total =
+        let t = rw (take-all i zs (omega arith), take-all i ys (omega arith), take-all i xs (omega arith)) at (A .total) in
+        rw (← e) t;
+    small = A .small;
+  }

@@ -16,4 +16,5 @@ pub mod LeadingDigits
 pub mod CarryLaws
 pub mod TwosComplement
 pub mod SignedDigits
+pub mod SignedSums
 pub mod Magnitude

@@ -82,7 +82,7 @@ module _ (w : ℕ) where
   topBit i ds = getD ds i 0 / 2 ^ (w - 1)
 
   module _ (P : 0 < w) (i : ℕ) where
-    top-digit : {ds : List ℕ} → Words w (suc i) ds → top (w * suc i) (number w ds) ≡ topBit i ds
+    pub top-digit : {ds : List ℕ} → Words w (suc i) ds → top (w * suc i) (number w ds) ≡ topBit i ds
     top-digit {ds} D =
         let e : w * suc i - 1 ≡ w * i + (w - 1) = omega arith in
         let none : drop (suc i) ds ≡ [] = drop-of-length-le ds {i = suc i} (omega (arith, D .long)) in

@@ -28,7 +28,7 @@ left-below : (N i j x y : ℕ) → N * i ≡ y + N * j + suc x → y < N → N -
 left-below N zero j x y e h = absurd (omega arith)
 left-below N (suc i) j x y e h = omega (arith, left N j i x (N - suc y) (omega arith) (omega arith))
 
-no-carry : (N c x y : ℕ) → x + c * N ≡ y → y < N → x ≡ y
+pub no-carry : (N c x y : ℕ) → x + c * N ≡ y → y < N → x ≡ y
 no-carry N zero x y e h = omega arith
 no-carry N (suc c) x y e h = absurd (omega arith)
 
@@ -83,13 +83,13 @@ module _ (b : ℕ) where
   inside-small (negsuc n) h = lt-ltb n (2 ^ (b - 1)) (omega arith)
 
   module _ (a : Whole) where
-    inside-yes : a ≺ nat (2 ^ (b - 1)) → neg (nat (2 ^ (b - 1))) ≼ a → inside b (int a) ≡ true
+    pub inside-yes : a ≺ nat (2 ^ (b - 1)) → neg (nat (2 ^ (b - 1))) ≼ a → inside b (int a) ≡ true
     inside-yes h l = inside-when (int a) .1 (omega (arith, int-is a), omega (arith, int-is a))
 
-    inside-above : nat (2 ^ (b - 1)) ≼ a → inside b (int a) ≡ false
+    pub inside-above : nat (2 ^ (b - 1)) ≼ a → inside b (int a) ≡ false
     inside-above h = above (int a) (omega (arith, int-is a))
 
-    inside-below : a ≺ neg (nat (2 ^ (b - 1))) → inside b (int a) ≡ false
+    pub inside-below : a ≺ neg (nat (2 ^ (b - 1))) → inside b (int a) ≡ false
     inside-below h = below (int a) (omega (arith, int-is a))
 
   -- ---- u is itself below 2 ^ (b - 1), and from there on u - 2 ^ b

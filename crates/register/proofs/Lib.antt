@@ -1,2 +1,3 @@
--- What the proof of one function cites.
+-- What the proofs of single functions cite.
 pub mod TopBits
+pub mod ThreeBits

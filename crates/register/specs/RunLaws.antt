@@ -131,6 +131,9 @@ zero-words = refl
 pub zeros-held : Held zeros
 zeros-held = rw zero-words at (cut-words wordBits wordCount (pos 0))
 
+pub run-from-zero : (cs : List Change) → AllEntered zeros cs → wholeOf (run zeros cs) ≡ exactSum (map changeOf cs)
+run-from-zero cs A = run-whole zeros cs A ∙ ap (λ (z : ℤ). z +ℤ exactSum (map changeOf cs)) zero-whole ∙ +ℤ-idl (exactSum (map changeOf cs))
+
 -- n calls from zero come to at most n * 2 ^ 2074 units, and 2 ^ 37 * 2 ^ 2074 is 2 ^ 2111
 few : (n : ℕ) → n < 2 ^ 37 → n * most doubles < 2 ^ (registerBits - 1)
 few n h = rw most-doubles (mul-lt-mul-of-pos-right h (pow-pos 2074))
@@ -158,6 +161,4 @@ changes (p ∷ ps) = ap (λ (zs : List ℤ). unitsOf doubles p ∷ zs) (changes 
 -- it comes to its exact sum
 pub list-whole : (ps : List ℕ) → length ps < 2 ^ 37 → Allowed doubles ps → wholeOf (run zeros (map add ps)) ≡ exactSum (map (unitsOf doubles) ps)
 list-whole ps h A =
-    run-whole zeros (map add ps) (all-entered (map add ps) (rw (length-map ps add) h) (rw (patterns ps) A))
-    ∙ (λ i. zero-whole i +ℤ exactSum (changes ps i))
-    ∙ +ℤ-idl (exactSum (map (unitsOf doubles) ps))
+    run-from-zero (map add ps) (all-entered (map add ps) (rw (length-map ps add) h) (rw (patterns ps) A)) ∙ ap exactSum (changes ps)

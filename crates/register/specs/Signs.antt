@@ -1,8 +1,8 @@
--- The sign of the words, and when an addition leaves their range. Definitions only.
-use mathlib.Core.Bool.{Bool, cond}
+-- The sign of the words, and when an addition or a merge leaves their range. Definitions only.
+use mathlib.Core.Bool.{Bool, cond, not, _&&_}
 use mathlib.Core.List.{List}
 use Prim.Native.Nat.{ℕ, _-_}
-use lib.Dec.{ltb}
+use lib.Dec.{ltb, eqb}
 use lib.Ieee.{top}
 use Rattle.lists.specs.SignedDigits.{topBit}
 use Rattle.kinds.specs.Limits.{doubles}
@@ -16,3 +16,7 @@ signBit ws = topBit wordBits (wordCount - 1) ws
 -- afterwards
 abbrev pub leaves : ℕ → ℕ → ℕ → Bool
 leaves p before after = cond (ltb p (top (doubles .format))) (ltb before after) (ltb after before)
+
+-- two numbers of one sign leave the range where their sum has the other
+abbrev pub crosses : ℕ → ℕ → ℕ → Bool
+crosses a b sum = eqb a b && not (eqb sum a)

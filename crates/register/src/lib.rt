@@ -5,10 +5,12 @@ use kinds::Nearest;
 use words::WORDS;
 
 mod range;
+mod two;
 
 ghost use mathlib.Core.Path.{_≡_};
 ghost use Rattle.kinds.specs.Outcome.{outcome};
 ghost use Rattle.register.specs.Register.{added, withdrawn, rounded};
+ghost use Rattle.register.specs.Merge.{merged};
 
 // Adds one allowed number: rules G1 and O3.
 pub fn add(register: &mut [u64], p: u64) -> Entry
@@ -50,4 +52,16 @@ pub fn round(register: &[u64]) -> Nearest
         return Nearest::Refused(10, 0);
     }
     Nearest::Sum(nearest::bits::double(b))
+}
+
+// The sum of two registers goes to a third: rules G7 and O9.
+pub fn merge(a: &[u64], b: &[u64], out: &mut [u64]) -> Entry
+    ensures { λ r. ⌜ outcome r (now (out .exit)) ≡ merged (now (a .entry)) (now (b .entry)) (now (out .entry)) ⌝ }
+{
+    let right = (a.len() == WORDS) & (b.len() == WORDS) & (out.len() == WORDS);
+    if right {
+        two::merged(a, b, out)
+    } else {
+        Entry::Refused(4, 0)
+    }
 }

@@ -3,7 +3,7 @@ ghost use mathlib.Core.Path.{_≡_};
 ghost use Prim.Native.Nat.{_-_, _<_};
 ghost use lib.ListN.{length};
 ghost use Rattle.words.specs.Words.{wordCount};
-ghost use Rattle.register.specs.Signs.{signBit, leaves};
+ghost use Rattle.register.specs.Signs.{signBit, leaves, crosses};
 use kinds::SIGN;
 use words::WORDS;
 
@@ -25,4 +25,11 @@ pub fn left(p: u64, before: u64, after: u64) -> bool
     } else {
         after < before
     }
+}
+
+// Two numbers of one sign leave the range where their sum has the other. Of different signs none does.
+pub fn crossed(a: u64, b: u64, sum: u64) -> bool
+    ensures { λ r. ⌜ r ≡ crosses a b sum ⌝ }
+{
+    (a == b) & (sum != a)
 }

@@ -8,6 +8,7 @@ use Rattle.kinds.specs.Limits.{doubles}
 use Rattle.kinds.specs.Outcome.{Outcome, outcome}
 use Rattle.kinds.specs.Heard.{nearestHeard, entryHeard}
 use Rattle.register.specs.Register.{Changed, added, withdrawn, rounded}
+use Rattle.register.specs.Merge.{merged}
 use Rattle.arrays.specs.Arrays.{codeOf, valuesOf}
 
 abbrev pub wordsReturned : Changed → Outcome ℕ ℕ
@@ -18,6 +19,9 @@ addArrays ws p = wordsReturned (added ws p)
 
 abbrev pub withdrawArrays : List ℕ → ℕ → Outcome ℕ ℕ
 withdrawArrays ws p = wordsReturned (withdrawn ws p)
+
+abbrev pub mergeArrays : List ℕ → List ℕ → List ℕ → Outcome ℕ ℕ
+mergeArrays us vs out = wordsReturned (merged us vs out)
 
 unfoldable pub roundArrays : List ℕ → List ℕ → Outcome ℕ ℕ
 roundArrays ws out =

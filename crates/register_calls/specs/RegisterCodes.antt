@@ -18,12 +18,14 @@ use Rattle.kinds.specs.declared.Nearest.the-variants as nearests
 use Rattle.register.specs.Register.{added, withdrawn, rounded}
 use Rattle.register.specs.Entries as entry-rows
 use Rattle.register.specs.Entries.{EntryWhen}
+use Rattle.register.specs.Merge as merge-rows
+use Rattle.register.specs.Merge.{merged, MergeWhen}
 use Rattle.demands.specs.Tables.{RoundWhen, wrong-words, beyond}
-use Rattle.demands.specs.Hearing.{add-heard, withdraw-heard, round-heard}
+use Rattle.demands.specs.Hearing.{add-heard, withdraw-heard, merge-heard, round-heard}
 use Rattle.demands.specs.Refusals as refusals
 use Rattle.arrays.specs.Codes.{Accepts, HeardWhen, Coded}
 use Rattle.arrays.specs.CodesLaws.{heard-code, heard-zero, coded, answerIn, area-left, values-call-left}
-use Rattle.register_calls.specs.RegisterArrays.{addArrays, withdrawArrays, roundArrays}
+use Rattle.register_calls.specs.RegisterArrays.{addArrays, withdrawArrays, mergeArrays, roundArrays}
 use Rattle.register_calls.specs.RegisterArraysLaws.{round-other, round-rounded}
 
 -- ---- exactly when
@@ -31,6 +33,10 @@ entry-some : {ws : List ℕ} {p : ℕ} {n : ℤ} {k i : ℕ} → EntryWhen ws p 
 entry-some (entry-rows.wrong-length l) z = omega arith
 entry-some (entry-rows.bad-number l f) z = f z
 entry-some (entry-rows.out-of-range l f s) z = omega arith
+
+merge-some : {us vs out : List ℕ} {k i : ℕ} → MergeWhen us vs out (entries.Refused k i) → k ≡ 0 → ⊥
+merge-some (merge-rows.wrong-length n) z = omega arith
+merge-some (merge-rows.out-of-range T h) z = omega arith
 
 round-some : {ws : List ℕ} {k i : ℕ} → RoundWhen ws (nearests.Refused k i) → k ≡ 0 → ⊥
 round-some (wrong-words l) z = omega arith
@@ -49,6 +55,13 @@ module _ (ws : List ℕ) (p : ℕ) where
   pub withdraw-zero : (withdrawArrays ws p .answer ≡ 0) ↔ Accepts (entryHeard (withdrawn ws p .answer))
   withdraw-zero = heard-zero (entryHeard (withdrawn ws p .answer)) (λ q e. entry-some (withdraw-heard ws p 0 q .0 e .1) refl)
 
+module _ (us vs out : List ℕ) where
+  pub merge-code : (c : ℕ) → (mergeArrays us vs out .answer ≡ c) ↔ HeardWhen (entryHeard (merged us vs out .answer)) c
+  merge-code = heard-code (entryHeard (merged us vs out .answer))
+
+  pub merge-zero : (mergeArrays us vs out .answer ≡ 0) ↔ Accepts (entryHeard (merged us vs out .answer))
+  merge-zero = heard-zero (entryHeard (merged us vs out .answer)) (λ q e. merge-some (merge-heard us vs out 0 q .0 e .1) refl)
+
 module _ (ws out : List ℕ) where
   pub round-coded : Coded 1 (length out) 4 (nearestHeard doubles (rounded ws)) (roundArrays ws out .answer)
   round-coded = coded 1 (length out) 4 (nearestHeard doubles (rounded ws)) (λ l. ap answerIn (round-rounded ws out l)) (λ l. ap answerIn (round-other ws out l))
@@ -62,6 +75,9 @@ module _ {r q : ℕ} {us vs : List ℕ} where
   pub withdraw-determined : (ws : List ℕ) (p : ℕ) → outcome r us ≡ withdrawArrays ws p → outcome q vs ≡ withdrawArrays ws p → (r ≡ q) × (us ≡ vs)
   withdraw-determined ws p = determined (withdrawArrays ws p)
 
+  pub merge-determined : (ws xs out : List ℕ) → outcome r us ≡ mergeArrays ws xs out → outcome q vs ≡ mergeArrays ws xs out → (r ≡ q) × (us ≡ vs)
+  merge-determined ws xs out = determined (mergeArrays ws xs out)
+
   pub round-determined : (ws out : List ℕ) → outcome r us ≡ roundArrays ws out → outcome q vs ≡ roundArrays ws out → (r ≡ q) × (us ≡ vs)
   round-determined ws out = determined (roundArrays ws out)
 
@@ -72,6 +88,9 @@ module _ (ws : List ℕ) (p : ℕ) where
 
   pub withdraw-left : (withdrawArrays ws p .answer ≡ 0 → ⊥) → withdrawArrays ws p .area ≡ ws
   withdraw-left = area-left entryHeard entries.Refused entry-is (withdrawn ws p) ws (refusals.withdraw-leaves ws p)
+
+pub merge-left : (us vs out : List ℕ) → (mergeArrays us vs out .answer ≡ 0 → ⊥) → mergeArrays us vs out .area ≡ out
+merge-left us vs out = area-left entryHeard entries.Refused entry-is (merged us vs out) out (refusals.merge-leaves us vs out)
 
 pub round-left : (ws values : List ℕ) → (roundArrays ws values .answer ≡ 0 → ⊥) → roundArrays ws values .area ≡ values
 unfolding roundArrays

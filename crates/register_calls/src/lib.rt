@@ -1,11 +1,11 @@
-// A register's words, for C: an addition, a withdrawal, and the double nearest to them.
+// A register's words, for C: an addition, a withdrawal, a merge, and the double nearest to them.
 use kinds::Entry;
 ghost use mathlib.Core.Path.{_≡_};
 ghost use Rattle.kinds.specs.Heard.{entryHeard};
 ghost use Rattle.kinds.specs.Outcome.{outcome};
 ghost use Rattle.calls.specs.Inner.{EntryRefusal};
 ghost use Rattle.arrays.specs.Arrays.{codeOf};
-ghost use Rattle.register_calls.specs.RegisterArrays.{addArrays, withdrawArrays, roundArrays};
+ghost use Rattle.register_calls.specs.RegisterArrays.{addArrays, withdrawArrays, mergeArrays, roundArrays};
 
 fn code(entry: Entry) -> u32
     requires { ⌜ EntryRefusal entry ⌝ }
@@ -31,6 +31,14 @@ pub extern "C" fn kewohiata_words_withdraw(words: &mut [u64], pattern: u64) -> u
     ensures { λ r. ⌜ outcome r (now (words .exit)) ≡ withdrawArrays (now (words .entry)) pattern ⌝ }
 {
     code(register::withdraw(words, pattern))
+}
+
+// The sum of two registers goes to a third, as by `register::merge`.
+#[no_mangle]
+pub extern "C" fn kewohiata_words_merge(a: &[u64], b: &[u64], out: &mut [u64]) -> u32
+    ensures { λ r. ⌜ outcome r (now (out .exit)) ≡ mergeArrays (now (a .entry)) (now (b .entry)) (now (out .entry)) ⌝ }
+{
+    code(register::merge(a, b, out))
 }
 
 // The double nearest to the total, as `register::round` has it: its pattern.

@@ -8,7 +8,7 @@ use native.Mathlib.Nat.{lt-of-le-of-lt}
 use native.Mathlib.Omega.{arith}
 use lib.Dec.{lit<}
 use lib.ListN.{length, length-append, length-map}
-use lib.IntN.{ℤ, natAbs, _+ℤ_, +ℤ-idl}
+use lib.IntN.{natAbs}
 use Rattle.units.specs.Whole.{exactSum}
 use Rattle.ieee.specs.Units.{limit, nearestFloat}
 use Rattle.kinds.specs.Limits.{doubles}
@@ -21,7 +21,7 @@ use Rattle.judge.specs.ZeroLaws.{zero-plus}
 use Rattle.words.specs.Words.{wholeOf}
 use Rattle.register.specs.Register.{rounded}
 use Rattle.register.specs.Entries.{Change, add, withdraw, patternOf, changeOf, run, AllEntered, zeros}
-use Rattle.register.specs.RunLaws.{run-whole, zero-whole, zeros-held, all-entered, patterns, changes}
+use Rattle.register.specs.RunLaws.{run-from-zero, zeros-held, all-entered, patterns, changes}
 use Rattle.register.specs.RoundedLaws.{rounded-sum}
 use Rattle.register.specs.Farewell.{history, stayed, gone, run-held}
 use Rattle.sums.specs.Sums.{sumOf, nearestOf}
@@ -35,8 +35,7 @@ pub farewell-rounds : (xs ys zs : List Change) (p : ℕ) (qs : List ℕ) → All
 farewell-rounds xs ys zs p qs A G n e =
     let f = doubles .format in
     let cs = history xs ys zs p in
-    let whole : wholeOf (run zeros cs) ≡ sumOf f qs =
-    run-whole zeros cs A ∙ ap (λ (z : ℤ). z +ℤ exactSum (map changeOf cs)) zero-whole ∙ +ℤ-idl (exactSum (map changeOf cs)) ∙ gone xs ys zs p ∙ e in
+    let whole : wholeOf (run zeros cs) ≡ sumOf f qs = run-from-zero cs A ∙ gone xs ys zs p ∙ e in
     let small : natAbs (wholeOf (run zeros cs)) < limit f = rw whole (sum-below-limit (list-passed G .few) (list-allowed G)) in
     rounded-sum (run zeros cs) (run-held zeros cs zeros-held .long) small
     ∙ (λ i. Sum (nearestFloat f (sym (zero-plus doubles qs .1 n) i) (whole i)))

@@ -12,3 +12,4 @@ pub mod ZeroSums
 pub mod AnswerNumbers
 pub mod Farewell
 pub mod Reordered
+pub mod Merged

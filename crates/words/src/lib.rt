@@ -1,4 +1,5 @@
 // The register's words, and their sums word by word.
+pub mod columns;
 pub mod ripple;
 mod word;
 
