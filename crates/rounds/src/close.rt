@@ -14,23 +14,19 @@ ghost use Rattle.rounds.specs.Round.{scaled, finished, closed};
 ghost use Rattle.rounds.specs.Closable.{PowerFrom, Closable};
 ghost use Rattle.rounds.specs.ClosedLaws.{enough};
 
-// eps is 2^-53 (rule L3), which is 2^1021 units.
+// eps is 2^-53 (rule L3).
 const EPS: u32 = 53;
 
-const EPS_UNITS: u32 = 1021;
-
-// The pattern of 2^-969: from there on sigma times eps is a normal number.
-const NORMAL_PRODUCT: u64 = 54 << DIGITS;
-
-// 2^j eps sigma, of a sigma above the least normal number, which is a field over no digit: (2^j eps) sigma, and never (2^j sigma) eps, which overflows at the
-// largest sigma. Where the product could land among the subnormals, it is made of the exponents (rule F4): both powers of two are exact.
+// 2^j eps sigma, of a sigma above the least normal number, which is a field over no digit (rule F4). The product of two powers of two is exact there: the field
+// goes down by 53 - j, or below the fields one digit is left.
 fn scaled(j: u32, sigma: f64) -> f64
     requires { ⌜ (j ≤ prec (doubles .format)) × PowerFrom (doubles .format) (prec (doubles .format)) sigma ⌝ }
     ensures { λ r. ⌜ r ≡ scaled (doubles .format) j sigma ⌝ }
 {
     let p = f64::to_bits(sigma);
-    if NORMAL_PRODUCT <= p {
-        return exponent::power(EPS_UNITS + j) * sigma;
+    let down = ((EPS - j) as u64) << DIGITS;
+    if down < p {
+        return f64::from_bits(p - down);
     }
     let field = (p / LEAST_NORMAL) as u32;
     exponent::power(field + DIGITS - 1 + j - EPS)
