@@ -1,0 +1,6 @@
+-- The grade of a sum that came from elsewhere. Definitions first, then laws.
+pub mod Grade
+pub mod Table
+pub mod Distances
+pub mod Neighbours
+pub mod Amid
