@@ -4,3 +4,6 @@ pub mod Table
 pub mod Distances
 pub mod Neighbours
 pub mod Amid
+pub mod CaseLaws
+pub mod SideLaws
+pub mod GradeLaws
