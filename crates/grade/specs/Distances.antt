@@ -7,7 +7,7 @@ use lib.IntN.{ℤ, _-ℤ_, natAbs}
 use lib.Signed.{_<ℤ_}
 use lib.Ieee.{Float, Format}
 use Rattle.units.specs.Whole.{Whole, _⊖_, _≈_, _≺_, mag, int, difference}
-use Rattle.units.specs.Integers.{int-same, int-back, int-lt, int-minus, int-mag, int-difference}
+use Rattle.units.specs.Integers.{int-is, int-same, int-back, int-lt, int-minus, int-mag, int-difference}
 use Rattle.ieee.specs.Units.{Number, value, whole}
 use Rattle.ieee.specs.Sum.{value-int}
 use Rattle.ieee.specs.Accuracy.{FaithfulTo, NearestTo}
@@ -19,6 +19,13 @@ module _ (f : Format) where
       (λ i. natAbs (value-int f x i -ℤ sym (int-difference S) i))
       ∙ ap natAbs (sym (int-minus (whole f x) (difference S)))
       ∙ int-mag (whole f x ⊖ difference S)
+
+  -- and S from a float
+  pub what-is-left : (x : Float) (S : ℤ) → difference (S -ℤ value f x) ≈ difference S ⊖ whole f x
+  what-is-left x S = omega (arith, rw left at (int-is (difference S ⊖ whole f x)))
+    where
+      left : int (difference S ⊖ whole f x) ≡ S -ℤ value f x
+      left = int-minus (difference S) (whole f x) ∙ (λ i. int-difference S i -ℤ sym (value-int f x) i)
 
   -- ---- a float and S
   module _ (x : Float) (S : ℤ) where

@@ -2,7 +2,7 @@
 -- wrong; at a tie the even neighbour is nearest and the odd one faithful; both zeros have one grade. Assumes nothing.
 use mathlib.Core.Path.{_≡_, refl, sym, ap, subst, _∙_}
 use mathlib.Core.Logic.{_⊎_, inl, inr, _↔_}
-use mathlib.Core.Bool.{false}
+use mathlib.Core.Bool.{Bool, true, false}
 use Prim.Native.Nat.{ℕ, _+_, _%_, _<_}
 use native.Mathlib.Decide.{ℕ-discrete}
 use native.Mathlib.Nat.{eq-zero-or-pos, le-antisymm}
@@ -10,7 +10,7 @@ use native.Mathlib.Omega.{arith}
 use lib.IntN.{ℤ, pos, _-ℤ_, natAbs}
 use lib.Ieee.{Float, Format, ofBits, toBits}
 use lib.Ieee.Bits.{ofBits-toBits}
-use Rattle.ieee.specs.Units.{Number, magnitude, value}
+use Rattle.ieee.specs.Units.{Number, negative, magnitude, signed, value}
 use Rattle.ieee.specs.Finite.{same-float}
 use Rattle.ieee.specs.Sum.{value-mag}
 use Rattle.ieee.specs.Accuracy.{FaithfulTo, NearestTo}
@@ -24,6 +24,15 @@ use Rattle.grade.specs.CaseLaws.{grade-exact, grade-missed, grade-near, 
 use Rattle.grade.specs.SideLaws.{Inside, far, Sides, near-below, far-below, Beside, beside}
 use Rattle.grade.specs.declared.Graded.{Graded}
 use Rattle.grade.specs.declared.Graded.the-variants.{Exact, Nearest, Faithful, Wrong}
+
+-- a zero of either sign is no units
+pub zero-value : (f : Format) (x : Float) → magnitude f x ≡ 0 → value f x ≡ pos 0
+unfolding value
+zero-value f x z = of (negative x) (magnitude f x) z
+  where
+    of : (s : Bool) (n : ℕ) → n ≡ 0 → signed s n ≡ pos 0
+    of false n e = ap pos e
+    of true n e = rw e
 
 -- ---- the grades exclude each other
 module _ {f : Format} {S : ℤ} {x : Float} (X : Number f x) where
@@ -181,10 +190,13 @@ module _ {f : Format} {S : ℤ} (I : Inside f S) where
       none : (y : Float) → value f x ≡ value f y → magnitude f y ≡ 0
       none y e = sym (value-mag f y) ∙ ap natAbs (sym e) ∙ value-mag f x ∙ z
 
-  pub zeros-alike : {x y : Float} → Number f x → Number f y → magnitude f x ≡ 0 → magnitude f y ≡ 0 → value f x ≡ value f y → gradeAt f S x ≡ gradeAt f S y
-  zeros-alike {x} {y} X Y a b v = elim (whether x) [
+  pub zeros-alike : {x y : Float} → Number f x → Number f y → magnitude f x ≡ 0 → magnitude f y ≡ 0 → gradeAt f S x ≡ gradeAt f S y
+  zeros-alike {x} {y} X Y a b = elim (whether x) [
     | inl e ↦ grade-exact f S x e ∙ sym (grade-exact f S y (sym v ∙ e))
     | inr n ↦
         grade-earned X Wrong .1 (wrong (λ F. n (zero-exact a F)))
         ∙ sym (grade-earned Y Wrong .1 (wrong (λ F. n (v ∙ zero-exact b F))))
   ]
+    where
+      v : value f x ≡ value f y
+      v = zero-value f x a ∙ sym (zero-value f y b)

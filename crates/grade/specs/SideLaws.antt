@@ -48,40 +48,45 @@ pub record Beside (f : Format) (S : ℤ) : Type 0 where
   pub near-some : 0 < magnitude f (near f S)
   pub far-some : 0 < magnitude f (far f S)
 
-module _ {f : Format} {S : ℤ} (I : Inside f S) where
-  N : Number f (near f S)
-  N = nearest-number f false S (I .below)
+-- a float of magnitude 0, and S of magnitude 0
+zero-whole : (f : Format) (x : Float) → magnitude f x ≡ 0 → whole f x ≈ nat 0
+unfolding whole
+zero-whole f x e = of (negative x) (magnitude f x) e
+  where
+    of : (s : Bool) (n : ℕ) → n ≡ 0 → signedWhole s n ≈ nat 0
+    of false n e = omega arith
+    of true n e = omega arith
 
-  -- a float of magnitude 0, and S of magnitude 0
-  zero-whole : (x : Float) → magnitude f x ≡ 0 → whole f x ≈ nat 0
-  unfolding whole
-  zero-whole x e = of (negative x) (magnitude f x) e
-    where
-      of : (s : Bool) (n : ℕ) → n ≡ 0 → signedWhole s n ≈ nat 0
-      of false n e = omega arith
-      of true n e = omega arith
+zero-sum : (S : ℤ) → natAbs S ≡ 0 → difference S ≈ nat 0
+zero-sum S e = omega (arith, mag-difference S)
 
-  zero-sum : natAbs S ≡ 0 → difference S ≈ nat 0
-  zero-sum e = omega (arith, mag-difference S)
-
+module _ (f : Format) (S : ℤ) (l : natAbs S < limit f) where
   -- what zero is nearest to is zero
-  near-zero : magnitude f (near f S) ≡ 0 → value f (near f S) ≡ S
-  near-zero e = is-sum f (near f S) S (omega (arith, zero-only (fl-faithful (prec f) (prec-pos f) (difference S)) none, zero-whole (near f S) e))
+  pub near-zero : magnitude f (near f S) ≡ 0 → value f (near f S) ≡ S
+  near-zero e = is-sum f (near f S) S (omega (arith, zero-only (fl-faithful (prec f) (prec-pos f) (difference S)) none, zero-whole f (near f S) e))
     where
       none : fl (prec f) (difference S) ≈ nat 0
-      none = subst (λ (w : Whole). w ≈ nat 0) (nearest-whole f false S (I .below)) (zero-whole (near f S) e)
+      none = subst (λ (w : Whole). w ≈ nat 0) (nearest-whole f false S l) (zero-whole f (near f S) e)
 
-  near-signed : whole f (near f S) ≡ signedWhole (signOf false S) (magnitude f (near f S))
+  -- where the nearest isn't S, no number is
+  pub no-number : {x : Float} → Number f x → (value f (near f S) ≡ S → ⊥) → value f x ≡ S → ⊥
+  no-number {x} X d e = d (is-sum f (near f S) S (omega (arith, best-distance f (nearest-nearest f false S l) x X, sum-is f x S e)))
+
+  pub near-signed : whole f (near f S) ≡ signedWhole (signOf false S) (magnitude f (near f S))
   unfolding whole
-  near-signed = ap (λ (s : Bool). signedWhole s (magnitude f (near f S))) (nearest-negative f false S (I .below))
+  near-signed = ap (λ (s : Bool). signedWhole s (magnitude f (near f S))) (nearest-negative f false S l)
 
-  near-sum : magnitude f (near f S) ≡ natAbs S → value f (near f S) ≡ S
+  pub near-sum : magnitude f (near f S) ≡ natAbs S → value f (near f S) ≡ S
   near-sum e = is-sum f (near f S) S (rw (near-signed, e) (of S))
     where
       of : (S : ℤ) → signedWhole (signOf false S) (natAbs S) ≈ difference S
       of (pos zero) = omega arith
       of (pos (suc n)) = omega arith
       of (negsuc n) = omega arith
+
+module _ {f : Format} {S : ℤ} (I : Inside f S) where
+  N : Number f (near f S)
+  N = nearest-number f false S (I .below)
 
   -- ---- the other side's pattern, without its sign, is r
   module _ (d : value f (near f S) ≡ S → ⊥) (r : ℕ) (h : r < ones f * hid f) (e : otherSide f S ≡ signedBits f (negative (near f S)) r) where
@@ -98,8 +103,8 @@ module _ {f : Format} {S : ℤ} (I : Inside f S) where
     unfolding whole
     far-signed = ap (λ (s : Bool). signedWhole s (magnitude f (far f S))) (far-sign ∙ nearest-negative f false S (I .below))
 
-    near-some : 0 < magnitude f (near f S)
-    near-some = elim (eq-zero-or-pos (magnitude f (near f S))) [ inl z ↦ absurd (d (near-zero z)) | inr p ↦ p ]
+    near-positive : 0 < magnitude f (near f S)
+    near-positive = elim (eq-zero-or-pos (magnitude f (near f S))) [ inl z ↦ absurd (d (near-zero f S (I .below) z)) | inr p ↦ p ]
 
     -- the other isn't nearer than the nearest, so that S is before it
     amid-up : whole f (near f S) ≺ whole f (far f S) → whole f (near f S) ≺ difference S
@@ -126,12 +131,12 @@ module _ {f : Format} {S : ℤ} (I : Inside f S) where
     beside-away : magnitude f (near f S) < natAbs S → otherSide f S ≡ toBits f (near f S) + 1 → Beside f S
     beside-away l o = record {
       sides = elim (orders S (magnitude f (near f S)) (magnitude f (far f S)) l further) [
-        | inl u ↦ near-below (amid-up (rw (near-signed, far-signed) (u .0)) (rw near-signed (u .1)) (λ y Y. gap-up f N far-number far-sign next Y))
-        | inr u ↦ far-below (amid-down (rw (near-signed, far-signed) (u .0)) (rw near-signed (u .1)) (λ y Y. gap-down f N far-number far-sign next Y))
+        | inl u ↦ near-below (amid-up (rw (near-signed f S (I .below), far-signed) (u .0)) (rw (near-signed f S (I .below)) (u .1)) (λ y Y. gap-up f N far-number far-sign next Y))
+        | inr u ↦ far-below (amid-down (rw (near-signed f S (I .below), far-signed) (u .0)) (rw (near-signed f S (I .below)) (u .1)) (λ y Y. gap-down f N far-number far-sign next Y))
       ];
       bits = far-bits;
       step = inl next;
-      near-some = near-some;
+      near-some = near-positive;
       far-some = omega (arith, further);
     }
       where
@@ -154,7 +159,7 @@ module _ {f : Format} {S : ℤ} (I : Inside f S) where
       sides = sides;
       bits = far-bits;
       step = inr next;
-      near-some = near-some;
+      near-some = near-positive;
       far-some = elim (eq-zero-or-pos (magnitude f (far f S))) [ inl z ↦ absurd (apart z sides) | inr p ↦ p ];
     }
       where
@@ -173,8 +178,8 @@ module _ {f : Format} {S : ℤ} (I : Inside f S) where
 
         sides : Sides f S
         sides = elim (orders S (magnitude f (near f S)) (magnitude f (far f S)) l further) [
-          | inl u ↦ far-below (amid-down (rw (near-signed, far-signed) (u .0)) (rw near-signed (u .1)) (λ y Y. gap-up f far-number N (sym far-sign) next Y))
-          | inr u ↦ near-below (amid-up (rw (near-signed, far-signed) (u .0)) (rw near-signed (u .1)) (λ y Y. gap-down f far-number N (sym far-sign) next Y))
+          | inl u ↦ far-below (amid-down (rw (near-signed f S (I .below), far-signed) (u .0)) (rw (near-signed f S (I .below)) (u .1)) (λ y Y. gap-up f far-number N (sym far-sign) next Y))
+          | inr u ↦ near-below (amid-up (rw (near-signed f S (I .below), far-signed) (u .0)) (rw (near-signed f S (I .below)) (u .1)) (λ y Y. gap-down f far-number N (sym far-sign) next Y))
         ]
 
         -- the pattern next to zero is one unit, and no S lies between
@@ -184,8 +189,8 @@ module _ {f : Format} {S : ℤ} (I : Inside f S) where
             omega (arith, l, bits-units N .1 ∙ ap (patternUnits f) b ∙ one-unit f)
 
         apart : magnitude f (far f S) ≡ 0 → Sides f S → ⊥
-        apart z (near-below A) = omega (arith, A .over, zero-whole (far f S) z, zero-sum (one z))
-        apart z (far-below A) = omega (arith, A .under, zero-whole (far f S) z, zero-sum (one z))
+        apart z (near-below A) = omega (arith, A .over, zero-whole f (far f S) z, zero-sum S (one z))
+        apart z (far-below A) = omega (arith, A .under, zero-whole f (far f S) z, zero-sum S (one z))
 
   -- ---- S is no number
   module _ (d : value f (near f S) ≡ S → ⊥) where
@@ -208,4 +213,4 @@ module _ {f : Format} {S : ℤ} (I : Inside f S) where
     ]
       where
         unequal : natAbs S ≡ magnitude f (near f S) → ⊥
-        unequal e = d (near-sum (sym e))
+        unequal e = d (near-sum f S (I .below) (sym e))
