@@ -7,3 +7,6 @@ pub mod Amid
 pub mod CaseLaws
 pub mod SideLaws
 pub mod GradeLaws
+pub mod AnswerLaws
+pub mod TableLaws
+pub mod Promised
