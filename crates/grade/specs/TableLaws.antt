@@ -7,7 +7,8 @@ use mathlib.Core.List.{List}
 use Prim.Native.Nat.{ℕ, zero, suc, _^_}
 use native.Mathlib.Nat.{le-trans, mul-le-mul-right}
 use lib.Dec.{T, eqb, lit<, lit≤}
-use lib.Ieee.{ofBits}
+use lib.IntN.{ℤ}
+use lib.Ieee.{Float, Format, ofBits}
 use lib.Ieee.Bits.{is-true, is-false, ofBits-fits}
 use lib.Ieee.Scale.{finite}
 use Rattle.ieee.specs.Units.{Number, patternUnits}
@@ -48,12 +49,18 @@ roomy-doubles = record {
 
 -- ---- what is heard
 -- a grade is no refusal
-abbrev IsGrade : Graded → Type 0
+abbrev pub IsGrade : Graded → Type 0
 IsGrade Exact = Unit {0}
 IsGrade Nearest = Unit {0}
 IsGrade Faithful = Unit {0}
 IsGrade Wrong = Unit {0}
 IsGrade (Refused k i) = ⊥
+
+pub is-grade : {f : Format} {S : ℤ} {x : Float} {g : Graded} → Earns f S x g → IsGrade g
+is-grade (table.exact e) = tt
+is-grade (table.nearest N d) = tt
+is-grade (table.faithful F n) = tt
+is-grade (table.wrong w) = tt
 
 -- the answer of which this is heard
 answerIn : Heard → Graded
@@ -122,12 +129,6 @@ module _ (W : Width) (R : Roomy W) (ps : List ℕ) (c : ℕ) where
   graded-refusal (bad-list k i L) = list-refusal L
   graded-refusal (bad-claim L n) = at-place-0 (lit< tt)
   graded-refusal (earned L t g E) = absurd (is-grade E)
-    where
-      is-grade : {g : Graded} → Earns (W .format) (sumOf (W .format) ps) (ofBits (W .format) c) g → IsGrade g
-      is-grade (table.exact e) = tt
-      is-grade (table.nearest N d) = tt
-      is-grade (table.faithful F n) = tt
-      is-grade (table.wrong w) = tt
 
   pub graded-heard : (k : ℕ) (p : Place) → (gradedHeard (gradeOf W ps c) ≡ refused k p) ↔ Row (λ k i. GradedWhen W ps c (Refused k i)) k p
   graded-heard = hears gradedHeard Refused (λ k i. refl) (gradeOf W ps c) (graded-is (gradeOf W ps c))
