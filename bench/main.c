@@ -121,12 +121,6 @@ static const char *walk_differs(walk_in_c *walk, const struct list *l)
     return memcmp(library.work, work, sizeof work) ? "a walk's remainder" : NULL;
 }
 
-/* The pattern of a sum, of +0 where it is zero: MPFR answers -0 where every number is -0. */
-static uint64_t without_sign(double sum)
-{
-    return sum == 0.0 ? 0 : kewohiata_pattern(sum);
-}
-
 static const char *differs(const struct list *l)
 {
     walk_in_c *walks[] = {gcc_plain, clang_plain, gcc_merged, clang_merged};
@@ -147,7 +141,8 @@ static const char *differs(const struct list *l)
         return "a faithful sum";
     if (kewohiata_pattern(nearest(l)) != kewohiata_pattern(nearest_call(l)))
         return "the nearest sum on bytes";
-    if (kewohiata_pattern(nearest(l)) != without_sign(mpfr(l)) || kewohiata_pattern(nearest(l)) != without_sign(mpfr_converted(l)))
+    /* the sign of a zero too: mpfr_sum answers -0 where every number is -0, and +0 for every other zero */
+    if (kewohiata_pattern(nearest(l)) != kewohiata_pattern(mpfr(l)) || kewohiata_pattern(nearest(l)) != kewohiata_pattern(mpfr_converted(l)))
         return "a nearest sum";
     if (additions(l) != 0.0 || additions_call(l) != 0.0 || memcmp(words, bytes, sizeof bytes))
         return "a register";

@@ -75,8 +75,13 @@ static struct answer rounds(double mu, double *work, size_t n)
     struct answer a = {0, 0, 0, 0.0};
     unsigned m = spread(n);
     double sigma, t = 0.0;
-    if (mu == 0.0)
+    if (mu == 0.0) { /* rule S3: the zeros as IEEE 754 adds them, from the first on */
+        if (n)
+            a.sum = work[0];
+        for (size_t i = 1; i < n; i++)
+            a.sum += work[i];
         return a;
+    }
     sigma = power(m + ceiling(to_bits(mu)));
     for (;;) {
         double tau = 0.0, tau1;

@@ -32,9 +32,9 @@
 extern "C" {
 #endif
 
-/* Below 1.0.0 a call's form may still change, and the second number tells it. */
-#define KEWOHIATA_VERSION "0.2.1"
-enum { KEWOHIATA_VERSION_MAJOR = 0, KEWOHIATA_VERSION_MINOR = 2, KEWOHIATA_VERSION_PATCH = 1 };
+/* Below 1.0.0 a call's form and its answers may still change, and the second number tells it. */
+#define KEWOHIATA_VERSION "0.4.0"
+enum { KEWOHIATA_VERSION_MAJOR = 0, KEWOHIATA_VERSION_MINOR = 4, KEWOHIATA_VERSION_PATCH = 0 };
 
 /* The refusals, rules R1 to R17. A code has room for numbers up to 31; 18 and above are kept for later ones. */
 enum kewohiata_refusals {
@@ -151,10 +151,11 @@ static inline int kewohiata_environment(void)
     return good & kewohiata_adds(sign | 1, sign | 1, sign | 2);
 }
 
-/* ---- sums of a list, on the caller's own arrays (rules C9 and C10). list: the numbers' patterns. */
+/* ---- sums of a list, on the caller's own arrays (rules C9 and C10). list: the numbers' patterns. Rule S3, here and on bytes: a sum that is zero is -0 where
+ * the list has numbers and each of them is -0, and +0 otherwise. */
 
 /* Opens a walk by blocks (rules WO1 and C11): the list's numbers go to `work`, and the first state to `state`; or, where every number is zero, the finished
- * sum +0.
+ * sum, which is rule S3's zero.
  * work: n doubles. state: 10 numbers, all of which are written.
  * Refusals: 1; 4; 2 or 3 of the lowest bad place. Needs the environment above. */
 uint32_t kewohiata_walk_open(const uint64_t *list, size_t list_length, double *work, size_t work_length, uint64_t *state, size_t state_length);
@@ -166,18 +167,18 @@ uint32_t kewohiata_walk_open(const uint64_t *list, size_t list_length, double *w
  * Refusals: 4; 8; 6; 7. Needs the environment above. Time: n at each step, since the whole work area is looked at, and as much again where a round closes. */
 uint32_t kewohiata_walk_step(uint64_t *state, size_t state_length, double *work, size_t work_length, size_t block);
 
-/* The faithful sum (rule S1): no double lies strictly between it and the exact sum, and where the exact sum is a double it is that one; a zero sum is +0.
+/* The faithful sum (rule S1): no double lies strictly between it and the exact sum, and where the exact sum is a double it is that one.
  * work: n doubles, which hold remainders afterwards. out: 2 numbers, the sum's pattern and the rounds, 0 to 51.
  * Refusals: 1; 4; 2 or 3 of the lowest bad place. Needs the environment above. Time: n for each round. */
 uint32_t kewohiata_walk_faithful(const uint64_t *list, size_t list_length, double *work, size_t work_length, uint64_t *out, size_t out_length);
 
-/* The nearest sum (rule S2): no double is nearer to the exact sum, at a tie the one with the even significand; a zero sum is +0. out: 1 number, the sum's
- * pattern.
+/* The nearest sum (rule S2): no double is nearer to the exact sum, at a tie the one with the even significand. out: 1 number, the sum's pattern.
  * Refusals: 1; 4; 2 or 3 of the lowest bad place. */
 uint32_t kewohiata_list_nearest(const uint64_t *list, size_t list_length, uint64_t *out, size_t out_length);
 
-/* The sum in parts (rules S4 and S5): the first is nearest to the exact sum, each next one to what is missing. parts: 1 to 8 doubles, all of which are written.
- * out: 1 number, 1 where the parts add up to the exact sum and else 0. Refusals: 1; 4; 5; 2 or 3 of the lowest bad place. */
+/* The sum in parts (rules S4 and S5): the first is nearest to the exact sum, each next one to what is missing, and +0 where nothing is.
+ * parts: 1 to 8 doubles, all of which are written. out: 1 number, 1 where the parts add up to the exact sum and else 0.
+ * Refusals: 1; 4; 5; 2 or 3 of the lowest bad place. */
 uint32_t kewohiata_list_parts(const uint64_t *list, size_t list_length, double *parts, size_t parts_length, uint64_t *out, size_t out_length);
 
 /* ---- a register: 33 words, the lowest first, a whole number of units of 2^-1074 in two's complement; 33 zeros are the empty one. Time: that of 33 words. */

@@ -50,9 +50,14 @@ def judge(patterns, parts=1):
             raise Refused(fault(pattern), place)
 
 
+def zero(patterns):
+    """Rule S3: what a list with the exact sum zero answers."""
+    return SIGN if patterns and all(pattern == SIGN for pattern in patterns) else 0
+
+
 def nearest_sum(patterns):
     judge(patterns)
-    return nearest(sum(map(units, patterns)))
+    return nearest(sum(map(units, patterns))) or zero(patterns)
 
 
 def sum_in_parts(patterns, count):
@@ -62,6 +67,7 @@ def sum_in_parts(patterns, count):
     for _ in range(count):
         parts.append(nearest(rest))
         rest -= units(parts[-1])
+    parts[0] = parts[0] or zero(patterns)
     return parts, rest == 0
 
 

@@ -34,9 +34,11 @@ import drawn  # noqa: E402
 import farewells  # noqa: E402
 import fixed  # noqa: E402
 import kit  # noqa: E402
+import shuffles  # noqa: E402
 
 PLACE = os.path.join(ROOT, "target", "host")
-FIXED, DRAWN = fixed.GROUPS + farewells.FIXED, drawn.GROUPS + farewells.DRAWN
+FIXED = fixed.GROUPS + farewells.FIXED + shuffles.FIXED
+DRAWN = drawn.GROUPS + farewells.DRAWN + shuffles.DRAWN
 LISTS = 20000
 PROGRESS = 8  # seconds between lines
 TOGETHER = 500  # requests that the driver is handed at once: each may have arrays of 32 KB

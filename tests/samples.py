@@ -162,6 +162,15 @@ def few():
     yield [ONE, SIGN | ONE - 512, (0x3CC << 52) + 65]  # a tau2 that decides with T, and neither alone
 
 
+def signed_zeros():
+    """Nothing but -0, and lists at which another look at the signs of zeros would go wrong (rule S3)."""
+    for n in (1, 3, 64, 65, LENGTH):
+        yield [SIGN] * n
+    for place, n in ((0, 2), (1, 2), (1, 3), (0, 65), (63, 65), (64, 65), (0, LENGTH), (LENGTH - 1, LENGTH)):
+        yield [SIGN] * place + [0] + [SIGN] * (n - 1 - place)
+    yield from ([0], [0, 0], [ONE, SIGN | ONE, SIGN], [SIGN, UNIT, SIGN | UNIT], [SIGN, SIGN, SIGN | UNIT])
+
+
 def long_ways():
     """Lists of many blocks or many rounds."""
     r = [seed(6, k) for k in range(16)]
@@ -178,5 +187,5 @@ def long_ways():
 
 def lists():
     """All of them."""
-    for group in (shaped, examples, longest, few, long_ways):
+    for group in (shaped, examples, longest, few, signed_zeros, long_ways):
         yield from group()

@@ -74,6 +74,7 @@ def three(count, faithful, rounds, near):
 
 
 ZEROS = "0" * 16
+MINUS = "8" + "0" * 15
 UNITY = "3FF" + "0" * 13
 RANDOM = samples.filled(4094, 0, samples.seed(7, 1))
 LADDER = samples.ladder(4094, 102, 41)
@@ -109,7 +110,8 @@ SHEETS = [
     ("fault_last", sheet([LIMIT] * 4093 + [SIGN + INFINITY]), "refused 2 at 4093\n"),
     # sums
     ("one", sheet([ONE]), three(1, UNITY, 1, UNITY)),
-    ("minus_zeros", sheet([SIGN, SIGN]), three(2, ZEROS, 0, ZEROS)),
+    ("minus_zeros", sheet([SIGN, SIGN]), three(2, MINUS, 0, MINUS)),
+    ("both_zeros", sheet([SIGN, 0]), three(2, ZEROS, 0, ZEROS)),
     ("cancelled", sheet([ONE, SIGN + ONE]), three(2, ZEROS, 1, ZEROS)),
     ("tie", sheet([ONE, TINY]), three(2, UNITY, 1, UNITY)),
     ("faithful_not_nearest", sheet([ONE, TINY, 1]), three(3, UNITY, 1, "3FF0000000000001")),

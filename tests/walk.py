@@ -7,8 +7,10 @@ Calls take and give patterns: a list, a work area (which they change) and a stat
 and -0 is a zero of its own. An answer is ("more", State), ("done", pattern, rounds) or ("refused", number, place).
 """
 import collections
+import functools
 import itertools
 import math
+import operator
 import random
 import struct
 import sys
@@ -72,6 +74,11 @@ def sub(x, y):
     return add(x, -y if y else 0 if y is MINUS else MINUS)
 
 
+def exact_sum(patterns):
+    """S, which is MINUS where the list is nothing but -0 (rule S3)."""
+    return MINUS if set(patterns) == {SIGN} else sum(map(units, patterns))
+
+
 # ---- the walk's numbers
 def exponent_of(n):
     """M, rule L7."""
@@ -109,6 +116,17 @@ def refusal(patterns, area):
 
 
 def opening(patterns, area):
+    refused = refusal(patterns, area)
+    if refused:
+        return refused
+    area[:] = patterns
+    if not largest(area):
+        return "done", pattern_of(functools.reduce(add, map(units, area)) if area else 0), 0  # rule S3: as IEEE 754 adds zeros, from the first on
+    return "more", round_of(len(area), sigma_of(area), 0, 0)
+
+
+def plus_opening(patterns, area):
+    """The opening as it was before rule S3 knew -0. The two may differ on lists of nothing but -0 and on no others."""
     refused = refusal(patterns, area)
     if refused:
         return refused
@@ -266,7 +284,7 @@ class Doubles:
 def doubles_walk(patterns):
     """The undivided walk of an allowed list: the answer and the remainders."""
     w = Doubles(State(0, 0, 0, len(patterns), 0, 0), patterns)
-    answer = w.open(w.power(), 0.0) if any(w.area) else ("done", 0, 0)
+    answer = w.open(w.power(), 0.0) if any(w.area) else ("done", bits(functools.reduce(operator.add, w.area) if w.area else 0.0), 0)
     while answer[0] == "more":
         answer = w.step((w.pending & -w.pending).bit_length() - 1)
     return answer, w.patterns()
@@ -284,10 +302,10 @@ def expect(name, held, *more):
 
 
 def is_faithful(pattern, total):
-    """No double strictly between them, and equal where the sum is one; a zero is +0."""
+    """No double strictly between them, and equal where the sum is one; -0 where the sum is MINUS, and nowhere else."""
     extra = max(total.bit_length() - 53, 0)
     floor = total >> extra << extra
-    return pattern != SIGN and units(pattern) in ((floor,) if floor == total else (floor, floor + (1 << extra)))
+    return (pattern == SIGN) == (total is MINUS) and units(pattern) in ((floor,) if floor == total else (floor, floor + (1 << extra)))
 
 
 def turns_of(chance):
@@ -312,7 +330,10 @@ def check_list(patterns, chance):
     m = exponent_of(n)
     COUNTS["lists"] += 1
     COUNTS["rounds", rounds] += 1
-    expect("faithful", is_faithful(pattern, sum(map(units, patterns))), patterns, answer)
+    expect("faithful", is_faithful(pattern, exact_sum(patterns)), patterns, answer)
+    opened, before = [0] * n, [0] * n
+    same = opening(patterns, opened) == plus_opening(patterns, before) and opened == before
+    expect("opening", same != (set(patterns) == {SIGN}), patterns)
     expect("doubles", doubles_walk(patterns) == (answer, area), patterns, answer)
     expect("rounds", steps == rounds * blocks_of(n) and rounds <= 1 + -(-(2022 + m) // (53 - m)), patterns, answer)
     for order in (falling, seeded):
@@ -371,12 +392,18 @@ def check_witnesses(chance):
     for k, (patterns, pattern, rounds, area) in enumerate([
         ([], 0, 0, []),
         ([ONE], ONE, 1, [0]),
-        ([SIGN, SIGN], 0, 0, [SIGN, SIGN]),
+        ([SIGN, SIGN], SIGN, 0, [SIGN, SIGN]),
         ([ONE, SIGN | ONE], 0, 1, [0, 0]),
         ([ONE, tiny], ONE, 1, [0, tiny]),
         ([ONE, tiny, 1], ONE, 1, [0, tiny, 1]),
         ([top, ONE, SIGN | top], ONE, 2, [0, 0, 0]),
         ([1, 1], 2, 1, [0, 0]),
+        ([SIGN], SIGN, 0, [SIGN]),
+        ([SIGN, 0], 0, 0, [SIGN, 0]),  # rule S3: +0 beside -0
+        ([0, SIGN], 0, 0, [0, SIGN]),
+        ([ONE, SIGN | ONE, SIGN], 0, 1, [0, 0, SIGN]),  # and -0 beside numbers that cancel
+        ([SIGN] * 65, SIGN, 0, [SIGN] * 65),
+        ([SIGN] * 64 + [0], 0, 0, [SIGN] * 64 + [0]),
         ([SIGN, ONE, SIGN], ONE, 1, [SIGN, 0, SIGN]),  # a remainder of -0 stays
         ([1 << 50, SIGN | (1 << 50) - 1], 1, 1, [0, 0]),  # sigma is 2^-1022 and t' one unit: finished
         ([1 << 51, SIGN | (1 << 51) - 1], 1, 2, [0, 0]),  # sigma is 2^-1021 and t' one unit: another round

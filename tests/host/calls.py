@@ -117,6 +117,8 @@ def sum_wrong(request, parts):
     (pattern,) = unpacked(parts[1 + array][at : at + SIZE])
     if pattern % SIGN >= INFINITY or not walk.is_faithful(pattern, total):
         return f"{pattern:016X} is not faithful to {total} units"
+    if total and abs(exact.units(pattern) - total) << 52 >= abs(total):
+        return f"{pattern:016X} is too far from {total} units"
     return None
 
 
@@ -170,13 +172,13 @@ def undivided(patterns):
 
 @functools.lru_cache(maxsize=1)
 def total_of(patterns):
-    return sum(map(exact.units, patterns))
+    return walk.exact_sum(patterns)
 
 
 @functools.lru_cache(maxsize=1)
 def nearest_of(patterns):
     exact.judge(patterns)
-    return exact.nearest(total_of(patterns))
+    return exact.nearest(total_of(patterns)) or exact.zero(patterns)
 
 
 def byte_lengths(data, out):

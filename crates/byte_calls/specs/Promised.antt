@@ -1,32 +1,36 @@
--- The scope's promises about the C sums, said of the definitions that their contracts cite: what an accepted sum is, with which code a bad number is told,
--- and that 0 is returned exactly when the lengths are right and every number is allowed. Assumes nothing.
+-- The scope's promises about the C sums, said of the definitions that their contracts cite: what an accepted sum is, which zero it is, with which code a bad
+-- number is told, and that 0 is returned exactly when the lengths are right and every number is allowed. Assumes nothing.
 use mathlib.Core.Path.{_≡_, refl, sym, ap, _∙_}
 use mathlib.Core.Logic.{_⊎_, inl, inr, _↔_}
 use mathlib.Core.Bool.{true}
-use mathlib.Core.List.{List, []}
+use mathlib.Core.List.{List, [], _∷_}
 use Prim.Native.Nat.{ℕ, _+_, _*_, _/_, _%_, _≤_}
 use native.Mathlib.Decide.{ℕ-discrete}
 use native.Mathlib.Omega.{arith}
 use borrow.Author.Tests.{eq-eqb}
 use lib.Dec.{eqb}
+use lib.IntN.{pos}
 use lib.ListN.{length, getD, length-replicate}
+use Rattle.ieee.specs.Zeros.{minus-bits}
 use Rattle.kinds.specs.Limits.{doubles}
 use Rattle.kinds.specs.Outcome.{outcome}
-use Rattle.kinds.specs.Heard.{Refusal, Heard, refused, tells, placeOf, stepHeard, nearestHeard}
+use Rattle.kinds.specs.Heard.{Refusal, Heard, refused, done, tells, placeOf, stepHeard, nearestHeard}
 use Rattle.kinds.specs.declared.Verdict.{Verdict}
 use Rattle.kinds.specs.declared.Verdict.the-variants as verdicts
-use Rattle.judge.specs.Judge.{judged}
+use Rattle.judge.specs.Judge.{judged, zeroSign}
 use Rattle.judge.specs.JudgeLaws.{list-when, list-allowed}
-use Rattle.judge.specs.Table.{Allowed, First, ListWhen, too-many, wrong-area, wrong-parts, bad-number, allowed}
+use Rattle.judge.specs.Table.{Allowed, First, ListWhen, MinusZeros, ZeroWhen, too-many, wrong-area, wrong-parts, bad-number, allowed}
 use Rattle.judge.specs.FaultLaws.{fault-number}
-use Rattle.octets.specs.Octets.{little}
+use Rattle.octets.specs.Octets.{little, packed}
 use Rattle.octets.specs.EightsLaws.{eights-length}
 use Rattle.sums.specs.Sums.{sumOf}
 use Rattle.sums.specs.SumLaws.{sum-below-limit}
-use Rattle.sums.specs.PartsMeaning.{nearest-plus}
+use Rattle.sums.specs.PartsMeaning.{nearest-sign}
 use Rattle.sums.specs.Promised.{nearest-promised}
+use Rattle.sums.specs.ZeroSums as zeros
 use Rattle.sums.specs.AnswerNumbers.{nearest-refusal}
-use Rattle.runs.specs.Instances.{faithful-64}
+use Rattle.walk.specs.Walk.{Walked}
+use Rattle.runs.specs.Instances.{Accepted, faithful-64, minus-64, zero-64}
 use Rattle.runs.specs.AnswerNumbers.{faithful-refusal}
 use Rattle.demands.specs.Refusals.{nearest-refused, faithful-refused}
 use Rattle.calls.specs.Calls.{Called, placeCode, answered, lengthFault, patternsIn, sumCall, own, faithfulHeard, sumHeard, faithfulCall, nearestCall}
@@ -64,7 +68,7 @@ module _ (list out : List ℕ) (l : length list ≤ listBytes) (m : length list 
         is = is-summed faithfulHeard ∙ ap (λ h. answered h out []) (ap (stepHeard doubles) (F .answer)) ∙ answered-done out [] _ (F .rounds);
         faithful = F .faithful;
         most = F .most;
-        plus = F .plus;
+        zero = F .zero;
       }
 
   pub nearest-call : Allowed doubles ps → NearestBytes list (nearestCall list out)
@@ -74,8 +78,32 @@ module _ (list out : List ℕ) (l : length list ≤ listBytes) (m : length list 
         sum = _;
         is = is-summed sumHeard ∙ ap (λ h. answered h out []) (P .0) ∙ answered-nearest out [] _;
         nearest = P .1;
-        plus = nearest-plus (doubles .format) (sumOf (doubles .format) ps) (sum-below-limit few A);
+        zero = nearest-sign (doubles .format) (zeroSign doubles ps) (sumOf (doubles .format) ps) (sum-below-limit few A);
       }
+
+  -- rule S3 in bytes
+  module _ (A : Allowed doubles ps) where
+    walked : Accepted doubles ps (own (length ps))
+    walked = allowed (record { few = few; right-area = rw (fits ps) tt; right-parts = tt }) A
+
+    pub faithful-minus : MinusZeros doubles ps → faithfulCall list out ≡ outcome 0 (packed (0x8000000000000000 ∷ 0 ∷ []))
+    faithful-minus M =
+        is-summed faithfulHeard
+        ∙ ap (λ h. answered h out [])
+        (ap (λ (w : Walked). stepHeard doubles (w .answer)) (minus-64 ps (own (length ps)) walked M) ∙ ap (λ (b : ℕ). done b 0) (minus-bits (doubles .format)))
+        ∙ answered-done out [] _ 0
+
+    module _ (s : sumOf (doubles .format) ps ≡ pos 0) {p : ℕ} (Z : ZeroWhen doubles ps p) where
+      pub faithful-zero : (r : ℕ) × (faithfulCall list out ≡ outcome 0 (packed (p ∷ r ∷ [])))
+      faithful-zero =
+          let z = zero-64 ps (own (length ps)) walked s in
+          (z .0, is-summed faithfulHeard ∙ ap (λ h. answered h out []) (z .1 p .1 Z) ∙ answered-done out [] p (z .0))
+
+      pub nearest-zero : nearestCall list out ≡ outcome 0 (packed (p ∷ 0 ∷ []))
+      nearest-zero =
+          is-summed sumHeard
+          ∙ ap (λ h. answered h out []) (zeros.nearest-zero ps s (allowed (record { few = few; right-area = tt; right-parts = tt }) A) p .1 Z)
+          ∙ answered-nearest out [] p
 
   -- a bad number is told with its fault and its place
   module _ (k i : ℕ) (B : First doubles ps k i) where

@@ -1,6 +1,5 @@
 -- What rule C4 says of the bytes of a C sum. Definitions only.
 use mathlib.Core.Path.{_≡_}
-use mathlib.Core.Bool.{false}
 use mathlib.Core.List.{List, [], _∷_}
 use Prim.Native.Nat.{ℕ, suc, _+_, _*_, _%_, _≤_, _<_}
 use lib.Ieee.{Float, toBits}
@@ -9,6 +8,7 @@ use Rattle.ieee.specs.Units.{magnitude, negative}
 use Rattle.ieee.specs.Accuracy.{FaithfulTo, NearestTo}
 use Rattle.kinds.specs.Limits.{doubles}
 use Rattle.kinds.specs.Outcome.{outcome}
+use Rattle.judge.specs.Judge.{zeroSign}
 use Rattle.judge.specs.Table.{Allowed, First}
 use Rattle.octets.specs.Octets.{packed}
 use Rattle.sums.specs.Sums.{sumOf}
@@ -22,14 +22,14 @@ pub record FaithfulBytes (list : List ℕ) (c : Called) : Type 0 where
   pub faithful : FaithfulTo (doubles .format) (sumOf (doubles .format) (patternsIn list)) sum
   pub most : rounds ≤ suc (doubles .rounds)
   -- rule S3
-  pub plus : magnitude (doubles .format) sum ≡ 0 → negative sum ≡ false
+  pub zero : magnitude (doubles .format) sum ≡ 0 → negative sum ≡ zeroSign doubles (patternsIn list)
 
 -- and of the nearest sum, whose rounds are 0
 pub record NearestBytes (list : List ℕ) (c : Called) : Type 0 where
   pub sum : Float
   pub is : c ≡ outcome 0 (packed (toBits (doubles .format) sum ∷ 0 ∷ []))
   pub nearest : NearestTo (doubles .format) (sumOf (doubles .format) (patternsIn list)) sum
-  pub plus : magnitude (doubles .format) sum ≡ 0 → negative sum ≡ false
+  pub zero : magnitude (doubles .format) sum ≡ 0 → negative sum ≡ zeroSign doubles (patternsIn list)
 
 -- what is accepted: no length is refused, and every number is allowed
 pub record RightBytes (list out : List ℕ) : Type 0 where

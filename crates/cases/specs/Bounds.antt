@@ -1,6 +1,6 @@
 -- Calls at the scope's bounds, beyond its twelve cases: a table of the same kind. Definitions only. The limits are written once, in the definition of a
 -- width; these rows hold it to the scope's numbers. Patterns: 2^8 is 4070000000000000, 64 4050000000000000, 1 3FF0000000000000, 2^-60 3C30000000000000,
--- 2 4000000000000000, 2^100 4630000000000000.
+-- 2 4000000000000000, 2^100 4630000000000000, -1 BFF0000000000000, -0 8000000000000000.
 use mathlib.Core.Bool.{true, false}
 use mathlib.Core.List.{List, [], _∷_, _++_}
 use Prim.Native.Nat.{ℕ, _+_, _-_, _^_}
@@ -123,6 +123,27 @@ bounds =
       call = faithfulSum (0x3FF0000000000000 ∷ 0x3CA0000000000000 ∷ 0x3950000000000000 ∷ 0x3950000000000000 ∷ []);
       expected = outcome (done 0x3FF0000000000000 1) (0 ∷ 0x3CA0000000000000 ∷ 0x3950000000000000 ∷ 0x3950000000000000 ∷ []);
     }
+    -- rules S7 and S8: with 2^-53 behind the two it takes them in, and the faithful sum is the next double; the nearest sum and the parts are the same
+    ∷ record {
+      call = faithfulSum (0x3FF0000000000000 ∷ 0x3950000000000000 ∷ 0x3950000000000000 ∷ 0x3CA0000000000000 ∷ []);
+      expected = outcome (done 0x3FF0000000000001 1) (0 ∷ 0x3950000000000000 ∷ 0x3950000000000000 ∷ 0x3CA0000000000000 ∷ []);
+    }
+    ∷ record {
+      call = nearestSum (0x3FF0000000000000 ∷ 0x3CA0000000000000 ∷ 0x3950000000000000 ∷ 0x3950000000000000 ∷ []);
+      expected = outcome (nearest 0x3FF0000000000001) [];
+    }
+    ∷ record {
+      call = nearestSum (0x3FF0000000000000 ∷ 0x3950000000000000 ∷ 0x3950000000000000 ∷ 0x3CA0000000000000 ∷ []);
+      expected = outcome (nearest 0x3FF0000000000001) [];
+    }
+    ∷ record {
+      call = sumInParts (0x3FF0000000000000 ∷ 0x3CA0000000000000 ∷ 0x3950000000000000 ∷ 0x3950000000000000 ∷ []) 2;
+      expected = outcome (parts true) (0x3FF0000000000001 ∷ 0xBC9FFFFFFFFFFFFE ∷ []);
+    }
+    ∷ record {
+      call = sumInParts (0x3FF0000000000000 ∷ 0x3950000000000000 ∷ 0x3950000000000000 ∷ 0x3CA0000000000000 ∷ []) 2;
+      expected = outcome (parts true) (0x3FF0000000000001 ∷ 0xBC9FFFFFFFFFFFFE ∷ []);
+    }
     -- tau2 of rule W3: in the second round t is 2^-45 and tau 2^-98, which their sum loses; with 2^-104 left it makes the sum one place more
     ∷ record {
       call = faithfulSum (0x3FF0000000000000 ∷ 0xBFEFFFFFFFFFFF00 ∷ 0x39D0000000000000 ∷ 0x3970000000000000 ∷ []);
@@ -167,13 +188,32 @@ bounds =
     ∷ record { call = sumInParts (0x3FF0000000000000 ∷ 0x3CA0000000000000 ∷ []) 1; expected = outcome (parts false) (0x3FF0000000000000 ∷ []) }
     -- rule S5: one unit that is left over is enough for the flag
     ∷ record { call = sumInParts (0x3FF0000000000000 ∷ 1 ∷ []) 1; expected = outcome (parts false) (0x3FF0000000000000 ∷ []) }
-    -- rules L2 and S3: numbers of both signs; a zero that is negative; a register of zeros
+    -- rules L2 and G4: numbers of both signs; a register of zeros
     ∷ record {
       call = nearestSum (0x4630000000000000 ∷ 0x3FF0000000000000 ∷ 0xC630000000000000 ∷ []);
       expected = outcome (nearest 0x3FF0000000000000) [];
     }
-    ∷ record { call = nearestSum (0x8000000000000000 ∷ []); expected = outcome (nearest 0) [] }
     ∷ record { call = round (replicate 33 0); expected = outcome (nearest 0) [] }
+    -- rule S3: -0 alone; beside +0, on either side; no number; and beside numbers that cancel
+    ∷ record { call = nearestSum (0x8000000000000000 ∷ []); expected = outcome (nearest 0x8000000000000000) [] }
+    ∷ record { call = faithfulSum (0x8000000000000000 ∷ []); expected = outcome (done 0x8000000000000000 0) (0x8000000000000000 ∷ []) }
+    ∷ record { call = opening (0x8000000000000000 ∷ []); expected = outcome (done 0x8000000000000000 0) (0x8000000000000000 ∷ []) }
+    ∷ record { call = sumInParts (0x8000000000000000 ∷ []) 3; expected = outcome (parts true) (0x8000000000000000 ∷ 0 ∷ 0 ∷ []) }
+    ∷ record { call = nearestSum (0x8000000000000000 ∷ 0 ∷ []); expected = outcome (nearest 0) [] }
+    ∷ record { call = faithfulSum (0x8000000000000000 ∷ 0 ∷ []); expected = outcome (done 0 0) (0x8000000000000000 ∷ 0 ∷ []) }
+    ∷ record { call = sumInParts (0x8000000000000000 ∷ 0 ∷ []) 2; expected = outcome (parts true) (0 ∷ 0 ∷ []) }
+    ∷ record { call = nearestSum (0 ∷ 0x8000000000000000 ∷ []); expected = outcome (nearest 0) [] }
+    ∷ record { call = faithfulSum (0 ∷ 0x8000000000000000 ∷ []); expected = outcome (done 0 0) (0 ∷ 0x8000000000000000 ∷ []) }
+    ∷ record { call = nearestSum []; expected = outcome (nearest 0) [] }
+    ∷ record { call = nearestSum (0x3FF0000000000000 ∷ 0xBFF0000000000000 ∷ 0x8000000000000000 ∷ []); expected = outcome (nearest 0) [] }
+    ∷ record {
+      call = faithfulSum (0x3FF0000000000000 ∷ 0xBFF0000000000000 ∷ 0x8000000000000000 ∷ []);
+      expected = outcome (done 0 1) (0 ∷ 0 ∷ 0x8000000000000000 ∷ []);
+    }
+    ∷ record {
+      call = sumInParts (0x3FF0000000000000 ∷ 0xBFF0000000000000 ∷ 0x8000000000000000 ∷ []) 2;
+      expected = outcome (parts true) (0 ∷ 0 ∷ []);
+    }
     -- rules L11 and G4: -1 unit
     ∷ record { call = round (replicate 33 (2 ^ 64 - 1)); expected = outcome (nearest 0x8000000000000001) [] }
     -- rules H1 to H3: two numbers, in an area of three places

@@ -1,5 +1,5 @@
 -- Rule P5's sheet through the program's lines, computed: whatever its areas held, they are the rule's three lines. And rule T6's list, whose two sums
--- differ: each stands in its own line; and a refused list, with the place of its fault. Assumes nothing.
+-- differ: each stands in its own line; rule T3's, whose sums are -0; and a refused list, with the place of its fault. Assumes nothing.
 use mathlib.Core.Path.{_≡_, refl, ap, _∙_}
 use mathlib.Core.Bool.{Bool, true}
 use mathlib.Core.List.{List, [], _∷_, _++_}
@@ -21,7 +21,8 @@ use Rattle.kinds.specs.declared.Nearest.the-variants.{Sum}
 use Rattle.kinds.specs.declared.Sheet.the-variants.{Read}
 use Rattle.kinds.specs.declared.Verdict.{Verdict}
 use Rattle.kinds.specs.declared.Verdict.the-variants.{Good, Refused}
-use Rattle.judge.specs.Judge.{faultOf, firstFault, judged}
+use Rattle.lists.specs.Every.{every}
+use Rattle.judge.specs.Judge.{faultOf, firstFault, judged, zeroSign}
 use Rattle.extract.specs.Extract.{remainders, gathered, lastSum, largest}
 use Rattle.exponent.specs.Power.{powerOf}
 use Rattle.sound.specs.Sound as N
@@ -35,7 +36,7 @@ use Rattle.sheet.specs.SheetLaws.{read-all}
 use Rattle.sheet.specs.Instances.{three, exampleSheet}
 use Rattle.lines.specs.Lines.{countLine, faithfulLine, nearestLine, listLines, printed, linesAfter, linesOf}
 use Rattle.lines.specs.SumLaws.{lines-refused, lines-three}
-use Rattle.lines.specs.Instances.{exampleLines, three-lines, unequalLines, unequal-lines, refused-3-at-1}
+use Rattle.lines.specs.Instances.{exampleLines, three-lines, unequalLines, unequal-lines, minusLines, minus-lines, refused-3-at-1}
 
 abbrev one : Float
 one = ofBits binary64 0x3FF0000000000000
@@ -113,6 +114,35 @@ unequal-printed xs h =
     lines-three unequal xs one 1 (ap (λ (w : W.Walked). w .answer) (walked unequal Good unequal-allowed xs h) ∙ unequal-run xs) above nearest-unequal
     ∙ (λ i. countLine 3 ++ faithfulLine (one-pattern i) 1 ++ nearestLine (above-pattern i))
     ∙ unequal-lines
+
+-- ---- rule T3's list
+abbrev pub minusZeros : List ℕ
+minusZeros = 0x8000000000000000 ∷ 0x8000000000000000 ∷ []
+
+abbrev minus : Float
+minus = ofBits binary64 0x8000000000000000
+
+minus-allowed : judged doubles true true minusZeros ≡ Good
+unfolding judged firstFault faultOf magnitude ofBits
+minus-allowed = refl
+
+minus-run : (xs : List Float) → W.roundsFrom doubles 1 51 (W.openedAfter doubles Good minusZeros xs) .answer ≡ Done minus 0
+unfolding zeroSign every W.openedAfter W.roundsFrom W.rising R.fresh largest magnitude nearestFloat ofBits
+minus-run xs = refl
+
+nearest-minus : S.nearestOf doubles minusZeros ≡ Sum minus
+unfolding zeroSign every S.nearestAfter nearestFloat value ofBits
+nearest-minus = nearest-good doubles minusZeros minus-allowed
+
+minus-pattern : toBits binary64 minus ≡ 0x8000000000000000
+unfolding ofBits toBits
+minus-pattern = refl
+
+pub minus-printed : (xs : List Float) → length xs ≡ 2 → listLines minusZeros xs ≡ minusLines
+minus-printed xs h =
+    lines-three minusZeros xs minus 0 (ap (λ (w : W.Walked). w .answer) (walked minusZeros Good minus-allowed xs h) ∙ minus-run xs) minus nearest-minus
+    ∙ (λ i. countLine 2 ++ faithfulLine (minus-pattern i) 0 ++ nearestLine (minus-pattern i))
+    ∙ minus-lines
 
 -- ---- a list that is refused: 1, and the first double above 2^1000
 abbrev pub faulty : List ℕ

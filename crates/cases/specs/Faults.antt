@@ -29,6 +29,8 @@ faults =
     ∷ record { call = sumInParts (0x7E70000000000001 ∷ []) 9; expected = outcome (refused 5 nowhere) (replicate 9 beforehand) }
     -- and among numbers the first place, whichever of 2 and 3 it has
     ∷ record { call = nearestSum (0x7E70000000000001 ∷ 0x7FF0000000000000 ∷ []); expected = outcome (refused 3 (at 0)) [] }
+    -- rule S10: in the other order the other fault is told
+    ∷ record { call = nearestSum (0x7FF0000000000000 ∷ 0x7E70000000000001 ∷ []); expected = outcome (refused 2 (at 0)) [] }
     ∷ record { call = nearestSum (0 ∷ 0xFFF8000000000000 ∷ 0x7E70000000000001 ∷ []); expected = outcome (refused 2 (at 1)) [] }
     ∷ record { call = nearestSum (0xFFF0000000000000 ∷ 0x7E70000000000001 ∷ []); expected = outcome (refused 2 (at 0)) [] }
     -- rule O2: 4 before 8, and 8 before 6 and 7

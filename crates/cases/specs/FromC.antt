@@ -10,7 +10,8 @@ use Rattle.units.specs.Rounding.{ceil}
 use Rattle.lists.specs.Digits.{number, digits, signed, residue}
 use Rattle.ieee.specs.Units.{value, magnitude, negative, nearestFloat}
 use Rattle.kinds.specs.Outcome.{outcome}
-use Rattle.judge.specs.Judge.{faultOf, firstFault, judged}
+use Rattle.lists.specs.Every.{every}
+use Rattle.judge.specs.Judge.{faultOf, firstFault, judged, zeroSign}
 use Rattle.register.specs.Register.{enter, rounded}
 use Rattle.octets.specs.Octets.{eights, joined}
 use Rattle.extract.specs.Extract.{remainders, gathered, lastSum, largest}
@@ -174,6 +175,26 @@ pub bad-on-arrays : nearestArrays (0x3FF0000000000000 ∷ 0x7FF8000000000000 ∷
 unfolding nearestArrays judged firstFault faultOf magnitude S.nearestAfter ofBits
 bad-on-arrays = refl
 
+-- ---- rule S3: -0 alone, by blocks, undivided, nearest and in two parts
+pub opens-minus : openArrays (0x8000000000000000 ∷ []) (one ∷ []) (replicate 10 7)
+    ≡ returned 0 (ofBits binary64 0x8000000000000000 ∷ []) (2 ∷ 0x8000000000000000 ∷ 0 ∷ replicate 7 0)
+unfolding openArrays judged firstFault faultOf zeroSign every W.openedAfter R.fresh largest magnitude nearestFloat ofBits toBits
+opens-minus = refl
+
+pub undivided-minus : faithfulArrays (0x8000000000000000 ∷ []) (one ∷ []) (7 ∷ 7 ∷ [])
+    ≡ returned 0 (ofBits binary64 0x8000000000000000 ∷ []) (0x8000000000000000 ∷ 0 ∷ [])
+unfolding faithfulArrays judged firstFault faultOf zeroSign every W.openedAfter W.rising W.roundsFrom R.fresh largest magnitude nearestFloat ofBits toBits
+undivided-minus = refl
+
+pub nearest-minus : nearestArrays (0x8000000000000000 ∷ []) (7 ∷ []) ≡ outcome 0 (0x8000000000000000 ∷ [])
+unfolding nearestArrays judged firstFault faultOf zeroSign every S.nearestAfter nearestFloat value ofBits toBits
+nearest-minus = refl
+
+pub in-parts-minus : partsArrays (0x8000000000000000 ∷ []) (one ∷ one ∷ []) (7 ∷ [])
+    ≡ returned 0 (ofBits binary64 0x8000000000000000 ∷ ofBits binary64 0 ∷ []) (1 ∷ [])
+unfolding partsArrays judged firstFault faultOf zeroSign every S.partsAfter S.parts nearestFloat value ofBits toBits
+in-parts-minus = refl
+
 -- ---- rule C10, another length of the array of values: 1 before it, 5 behind it, on a sheet all else before it
 pub too-many-first : nearestArrays (replicate 4095 0) [] ≡ outcome 1 []
 unfolding nearestArrays
@@ -199,6 +220,16 @@ four-last = refl
 pub second-in-bytes : nearestCall (replicate 6 0 ++ 0xF0 ∷ 0x3F ∷ replicate 6 0 ++ 0xF8 ∷ 0x7F ∷ []) (replicate 16 7) ≡ outcome 66 (replicate 16 7)
 unfolding sumCall answered eights number judged firstFault faultOf magnitude S.nearestAfter ofBits
 second-in-bytes = refl
+
+-- -0 twice, and its sum: 0x80 in byte 7
+pub minus-in-bytes : faithfulCall (replicate 7 0 ++ 0x80 ∷ replicate 7 0 ++ 0x80 ∷ []) (replicate 16 7) ≡ outcome 0 (replicate 7 0 ++ 0x80 ∷ replicate 8 0)
+unfolding sumCall answered eights joined number digits judged firstFault faultOf zeroSign every W.openedAfter W.rising W.roundsFrom R.fresh largest
+    magnitude nearestFloat ofBits toBits
+minus-in-bytes = refl
+
+pub nearest-minus-in-bytes : nearestCall (replicate 7 0 ++ 0x80 ∷ []) (replicate 16 7) ≡ outcome 0 (replicate 7 0 ++ 0x80 ∷ replicate 8 0)
+unfolding sumCall answered eights joined number digits judged firstFault faultOf zeroSign every S.nearestAfter nearestFloat value ofBits toBits
+nearest-minus-in-bytes = refl
 
 abbrev oneInBytes : List ℕ
 oneInBytes = replicate 134 0 ++ 4 ∷ replicate 129 0

@@ -11,7 +11,8 @@ use lib.Ieee.{ofBits, toBits, add, sub, mul, le, eq}
 use Rattle.units.specs.Rounding.{ceil}
 use Rattle.lists.specs.Digits.{number, digits, signed, residue}
 use Rattle.ieee.specs.Units.{value, nearestFloat}
-use Rattle.judge.specs.Judge.{faultOf, firstFault, judged}
+use Rattle.lists.specs.Every as L
+use Rattle.judge.specs.Judge.{faultOf, firstFault, judged, zeroSign}
 use Rattle.register.specs.Register.{enter, rounded}
 use Rattle.extract.specs.Extract.{remainders, gathered, lastSum, largest}
 use Rattle.exponent.specs.Power.{powerOf}
@@ -117,7 +118,8 @@ rows-hold (r ∷ rs) t (suc k) d h = rows-hold rs (and-r (passes r) (every rs) t
 
 computed : every table ≡ true
 unfolding
-    every table judged firstFault faultOf W.openedAfter W.steppedAfter W.taken W.rising W.roundsFrom R.turned R.fresh R.scaled R.finished R.closedBy
+    every table judged firstFault faultOf zeroSign L.every
+    W.openedAfter W.steppedAfter W.taken W.rising W.roundsFrom R.turned R.fresh R.scaled R.finished R.closedBy
     N.soundSigma N.atMost N.soundNumbers N.soundPending N.badPlace N.sound N.gated remainders gathered lastSum largest powerOf ceil
     S.nearestAfter S.partsAfter S.parts enter rounded number digits signed residue nearestFloat value
     ofBits toBits add sub mul le eq
@@ -125,7 +127,8 @@ computed = refl
 
 computed-bounds : every bounds ≡ true
 unfolding
-    every bounds judged firstFault faultOf W.openedAfter W.steppedAfter W.taken W.rising W.roundsFrom R.turned R.fresh R.scaled R.finished R.closedBy
+    every bounds judged firstFault faultOf zeroSign L.every
+    W.openedAfter W.steppedAfter W.taken W.rising W.roundsFrom R.turned R.fresh R.scaled R.finished R.closedBy
     N.soundSigma N.atMost N.soundNumbers N.soundPending N.badPlace N.sound N.gated remainders gathered lastSum largest powerOf ceil
     S.nearestAfter S.partsAfter S.parts rounded number signed residue nearestFloat value readOf eights
     H.weightGood H.weightOf H.patternFor H.total H.spread H.badWeight H.weighed H.handedAfter

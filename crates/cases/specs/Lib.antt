@@ -6,3 +6,4 @@ pub mod Faults
 pub mod FromC
 pub mod Holds
 pub mod Example
+pub mod Orders

@@ -33,7 +33,7 @@ table =
     -- rule T3
     ∷ record {
       call = faithfulSum (0x8000000000000000 ∷ 0x8000000000000000 ∷ []);
-      expected = outcome (done 0 0) (0x8000000000000000 ∷ 0x8000000000000000 ∷ []);
+      expected = outcome (done 0x8000000000000000 0) (0x8000000000000000 ∷ 0x8000000000000000 ∷ []);
     }
     -- rule T4
     ∷ record { call = faithfulSum (0x3FF0000000000000 ∷ 0xBFF0000000000000 ∷ []); expected = outcome (done 0 1) (0 ∷ 0 ∷ []) }

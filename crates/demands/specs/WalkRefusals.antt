@@ -94,7 +94,7 @@ module _ (W : Width) (ps : List ℕ) (work : List Float) where
   open-after : (v : Verdict) → After v work (openedAfter W v ps work)
   unfolding openedAfter
   open-after verdicts.Good = record {
-    from = fresh-accepted W (nearestFloat (W .format) (zeroSign ps) (pos 0)) (length ps) _ 0 .good;
+    from = fresh-accepted W (nearestFloat (W .format) (zeroSign W ps) (pos 0)) (length ps) _ 0 .good;
     kept = λ k i e. apart (cc);
   }
   open-after (verdicts.Refused l j) = record { from = refl; kept = λ k i e. refl }

@@ -56,4 +56,4 @@ module _ (ps : List ℕ) (at : ℕ) (area : List ℕ) (A : Accepted doubles ps a
       ∙ nearest-positive f z false (grains * grain f) (rw (one-is doubles fine-doubles) (pow-pos (low f))))
 
   pub weights-nearest : nearestHeard doubles (nearestOf doubles (handedOf doubles ps at area .area)) ≡ nearest 0x3FF0000000000000
-  weights-nearest = nearest-promised new listed .0 ∙ ap nearest (one-pattern (zeroSign new) (sumOf (doubles .format) new) (P .whole) ∙ one-64)
+  weights-nearest = nearest-promised new listed .0 ∙ ap nearest (one-pattern (zeroSign doubles new) (sumOf (doubles .format) new) (P .whole) ∙ one-64)

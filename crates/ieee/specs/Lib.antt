@@ -13,5 +13,7 @@ pub mod Write
 pub mod Overflow
 pub mod Nearest
 pub mod FaithfulFloat
+pub mod TwoFaithful
 pub mod InRange
+pub mod Zeros
 pub mod Instances

@@ -1,12 +1,13 @@
--- The fault of one pattern, and what a list is refused for, in rule O1's order. Definitions only.
-use mathlib.Core.Bool.{Bool, false, cond, not}
+-- The fault of one pattern, what a list is refused for, in rule O1's order, and which zero it sums to. Definitions only.
+use mathlib.Core.Bool.{Bool, cond, not, _&&_}
 use mathlib.Core.List.{List, [], _∷_, map}
 use Prim.Native.Nat.{ℕ, _+_}
 use lib.Dec.{leb, ltb, eqb}
 use lib.ListN.{length}
-use lib.Ieee.{Float, ofBits}
+use lib.Ieee.{Float, top, ofBits}
 use lib.Ieee.Scale.{finite}
 use Rattle.ieee.specs.Units.{magnitude}
+use Rattle.lists.specs.Every.{every}
 use Rattle.kinds.specs.Limits.{Width}
 use Rattle.kinds.specs.declared.Verdict.{Verdict}
 use Rattle.kinds.specs.declared.Verdict.the-variants.{Good, Refused}
@@ -35,6 +36,11 @@ judged W area parts ps =
 abbrev pub floats : Width → List ℕ → List Float
 floats W ps = map (ofBits (W .format)) ps
 
--- rule S3: what a list with exact sum zero answers. The sign of that zero, negative where it is true.
-abbrev pub zeroSign : List ℕ → Bool
-zeroSign ps = false
+-- ---- rule S3
+-- the pattern of -0: the sign alone
+abbrev pub minusPattern : Width → ℕ
+minusPattern W = top (W .format)
+
+-- the sign of the zero that a list with exact sum zero answers: negative where the list isn't empty and nothing but -0
+unfoldable pub zeroSign : Width → List ℕ → Bool
+zeroSign W ps = ltb 0 (length ps) && every (eqb (minusPattern W)) ps

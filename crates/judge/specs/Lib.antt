@@ -1,4 +1,4 @@
--- The fault of one pattern, and the first refusal of a list. Definitions first, then laws.
+-- The fault of one pattern, the first refusal of a list, and the sign of a zero sum. Definitions first, then laws.
 pub mod Judge
 pub mod Table
 pub mod FaultLaws
@@ -6,3 +6,5 @@ pub mod FaultlessLaws
 pub mod FirstFaultLaws
 pub mod AllowedLaws
 pub mod JudgeLaws
+pub mod ZeroLaws
+pub mod IeeeZero

@@ -1,4 +1,4 @@
--- Rule O6 for a list: what a verdict is given exactly for. Definitions only.
+-- Rules O6 and S3 for a list: what a verdict, and which zero, is given exactly for. Definitions only.
 use mathlib.Core.Path.{_≡_}
 use mathlib.Core.Bool.{Bool, not}
 use mathlib.Core.List.{List}
@@ -7,10 +7,11 @@ use lib.Dec.{T}
 use lib.ListN.{length, getD}
 use lib.Ieee.{Float, ofBits}
 use Rattle.ieee.specs.Units.{magnitude}
+use Rattle.lists.specs.Each.{Each}
 use Rattle.kinds.specs.Limits.{Width}
 use Rattle.kinds.specs.declared.Verdict.{Verdict}
 use Rattle.kinds.specs.declared.Verdict.the-variants.{Good, Refused}
-use Rattle.judge.specs.Judge.{faultOf}
+use Rattle.judge.specs.Judge.{faultOf, minusPattern}
 
 -- the number that a pattern stands for, its magnitude in units, and the limit's
 abbrev pub floatOf : Width → ℕ → Float
@@ -56,3 +57,14 @@ pub data ListWhen (W : Width) (area parts : Bool) (ps : List ℕ) : Verdict → 
   -- rules R2 and R3, at the first bad place
   bad-number : Passed W area parts ps → (k i : ℕ) → First W ps k i → ListWhen W area parts ps (Refused k i)
   allowed : Passed W area parts ps → Allowed W ps → ListWhen W area parts ps Good
+
+-- ---- rule S3, where the exact sum is zero
+-- nothing but -0, and not nothing
+pub record MinusZeros (W : Width) (ps : List ℕ) : Type 0 where
+  pub some : 0 < length ps
+  pub each : Each (λ p. p ≡ minusPattern W) ps
+
+-- the pattern of the zero that is answered
+pub data ZeroWhen (W : Width) (ps : List ℕ) : ℕ → Type 0 where
+  minus : MinusZeros W ps → ZeroWhen W ps (minusPattern W)
+  plus : (MinusZeros W ps → ⊥) → ZeroWhen W ps 0

@@ -86,9 +86,17 @@ pub fn copy(list: &[u64], work: &mut [f64])
     }
 }
 
-// Rule S3: the sign of the zero that a list with exact sum zero answers, the same for the faithful sum, the nearest and the first part.
+// Rule S3: the sign of the zero that a list with exact sum zero answers, the same for the faithful sum, the nearest and the first part. The loop is left at
+// the first number that isn't -0, so that a list which doesn't begin with one costs a comparison.
 pub fn zero_sign(list: &[u64]) -> bool
-    ensures { λ r. ⌜ r ≡ zeroSign (now (list .entry)) ⌝ }
+    ensures { λ r. ⌜ r ≡ zeroSign doubles (now (list .entry)) ⌝ }
 {
-    false
+    let mut at = 0;
+    while at < list.len() {
+        if list[at] != SIGN {
+            return false;
+        }
+        at += 1;
+    }
+    0 < list.len()
 }

@@ -1,4 +1,5 @@
--- Lines of rules P4 and P5, computed: `refused 11`, `refused 3 at 1`, the three lines of the example, and those of two sums that differ. Assumes nothing.
+-- Lines of rules P4 and P5, computed: `refused 11`, `refused 3 at 1`, the three lines of the example, those of two sums that differ, and of two
+-- that are -0. Assumes nothing.
 use mathlib.Core.Path.{_≡_, refl}
 use mathlib.Core.List.{List, [], _∷_, _++_}
 use Prim.Native.Nat.{ℕ}
@@ -51,3 +52,15 @@ unequalLines =
 pub unequal-lines : countLine 3 ++ faithfulLine 0x3FF0000000000000 1 ++ nearestLine 0x3FF0000000000001 ≡ unequalLines
 unfolding countLine faithfulLine nearestLine decimalIn capitalsOf
 unequal-lines = refl
+
+-- ---- two sums of -0: `count 2`, `faithful 8000000000000000 rounds 0`, `nearest 8000000000000000`
+abbrev pub minusLines : List ℕ
+minusLines =
+    99 ∷ 111 ∷ 117 ∷ 110 ∷ 116 ∷ 32 ∷ 50 ∷ 10
+    ∷ 102 ∷ 97 ∷ 105 ∷ 116 ∷ 104 ∷ 102 ∷ 117 ∷ 108 ∷ 32 ∷ 56 ∷ 48 ∷ 48 ∷ 48 ∷ 48 ∷ 48 ∷ 48 ∷ 48 ∷ 48 ∷ 48 ∷ 48 ∷ 48 ∷ 48 ∷ 48 ∷ 48 ∷ 48
+    ∷ 32 ∷ 114 ∷ 111 ∷ 117 ∷ 110 ∷ 100 ∷ 115 ∷ 32 ∷ 48 ∷ 10
+    ∷ 110 ∷ 101 ∷ 97 ∷ 114 ∷ 101 ∷ 115 ∷ 116 ∷ 32 ∷ 56 ∷ 48 ∷ 48 ∷ 48 ∷ 48 ∷ 48 ∷ 48 ∷ 48 ∷ 48 ∷ 48 ∷ 48 ∷ 48 ∷ 48 ∷ 48 ∷ 48 ∷ 48 ∷ 10 ∷ []
+
+pub minus-lines : countLine 2 ++ faithfulLine 0x8000000000000000 0 ++ nearestLine 0x8000000000000000 ≡ minusLines
+unfolding countLine faithfulLine nearestLine decimalIn capitalsOf
+minus-lines = refl

@@ -2,3 +2,4 @@
 pub mod PartArrays
 pub mod PartArraysLaws
 pub mod PartCodes
+pub mod PartZeros

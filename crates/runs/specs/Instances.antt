@@ -1,27 +1,39 @@
 -- The theorems about runs and about a step over any sound state, at the scope's width and at the numbers for binary32 (2,046 numbers, 2^100, 2^111, 20
 -- rounds), a line each. Assumes nothing.
 use mathlib.Core.Path.{_≡_}
+use mathlib.Core.Logic.{_↔_}
 use mathlib.Core.Bool.{true}
 use mathlib.Core.List.{List, _++_, Perm}
-use Prim.Native.Nat.{ℕ, _+_, _-_, _*_, _≤_}
+use Prim.Native.Nat.{ℕ, _+_, _-_, _*_, _^_, _≤_, _<_}
 use lib.Dec.{eqb}
+use lib.IntN.{pos, natAbs, _-ℤ_}
 use lib.ListN.{length}
-use lib.Ieee.{Float}
+use lib.Ieee.{Float, binary32, binary64}
+use Rattle.ieee.specs.Units.{value}
+use Rattle.ieee.specs.Accuracy.{EqualOrNeighbouring}
+use Rattle.ieee.specs.Zeros.{minusZero}
 use Rattle.kinds.specs.Limits.{Width, doubles, blocksOf}
+use Rattle.kinds.specs.Outcome.{outcome}
+use Rattle.kinds.specs.Heard.{stepHeard, done}
 use Rattle.kinds.specs.declared.State.{State}
 use Rattle.kinds.specs.declared.Step.the-variants.{More, Done}
 use Rattle.kinds.specs.declared.Verdict.the-variants.{Good}
-use Rattle.judge.specs.Table.{ListWhen}
+use Rattle.judge.specs.Judge.{floats}
+use Rattle.judge.specs.Table.{ListWhen, MinusZeros, ZeroWhen}
+use Rattle.sums.specs.Sums.{sumOf}
 use Rattle.rounds.specs.Instances.{doubles-fit, singles, singles-fit}
 use Rattle.sound.specs.Sound.{gated}
 use Rattle.walk.specs.Walk.{opened, rising, stepped, faithfulOf}
 use Rattle.runs.specs.AnyState.{Floats, Stepped}
 use Rattle.runs.specs.AnyStateLaws.{any-state}
 use Rattle.runs.specs.Faithful.{FaithfulSum, faithful-promised}
+use Rattle.runs.specs.ZeroSum.{opened-minus, faithful-minus, faithful-only, faithful-zero}
 use Rattle.runs.specs.Runs.{runOf, inTurn, members}
 use Rattle.runs.specs.AnyRun.{any-run}
 use Rattle.runs.specs.Demand3.{Going, Finished}
 use Rattle.runs.specs.Demand3Laws.{run-goes, run-finishes, run-bounded, run-at-once, run-left}
+use Rattle.runs.specs.Reordering.{Summed}
+use Rattle.runs.specs.Reordered.{summed-close, summed-reordered, summed-rounds}
 
 -- an accepted list of either width
 abbrev pub Accepted : Width → List ℕ → List Float → Type 0
@@ -40,6 +52,39 @@ faithful-64 = faithful-promised doubles-fit
 
 pub faithful-32 : (ps : List ℕ) (work : List Float) → Accepted singles ps work → FaithfulSum singles ps (faithfulOf singles ps work)
 faithful-32 = faithful-promised singles-fit
+
+-- ---- rule S3: the opening and the faithful sum of nothing but -0; which zero a faithful sum is where the exact sum is zero; and no other sum is -0
+pub opened-minus-64 : (ps : List ℕ) (work : List Float) → Accepted doubles ps work → MinusZeros doubles ps
+    → opened doubles ps work ≡ outcome (Done (minusZero binary64) 0) (floats doubles ps)
+opened-minus-64 = opened-minus doubles-fit
+
+pub opened-minus-32 : (ps : List ℕ) (work : List Float) → Accepted singles ps work → MinusZeros singles ps
+    → opened singles ps work ≡ outcome (Done (minusZero binary32) 0) (floats singles ps)
+opened-minus-32 = opened-minus singles-fit
+
+pub minus-64 : (ps : List ℕ) (work : List Float) → Accepted doubles ps work → MinusZeros doubles ps
+    → faithfulOf doubles ps work ≡ outcome (Done (minusZero binary64) 0) (floats doubles ps)
+minus-64 = faithful-minus doubles-fit
+
+pub minus-32 : (ps : List ℕ) (work : List Float) → Accepted singles ps work → MinusZeros singles ps
+    → faithfulOf singles ps work ≡ outcome (Done (minusZero binary32) 0) (floats singles ps)
+minus-32 = faithful-minus singles-fit
+
+pub zero-64 : (ps : List ℕ) (work : List Float) → Accepted doubles ps work → sumOf binary64 ps ≡ pos 0
+    → (r : ℕ) × ((p : ℕ) → (stepHeard doubles (faithfulOf doubles ps work .answer) ≡ done p r) ↔ ZeroWhen doubles ps p)
+zero-64 = faithful-zero doubles-fit
+
+pub zero-32 : (ps : List ℕ) (work : List Float) → Accepted singles ps work → sumOf binary32 ps ≡ pos 0
+    → (r : ℕ) × ((p : ℕ) → (stepHeard singles (faithfulOf singles ps work .answer) ≡ done p r) ↔ ZeroWhen singles ps p)
+zero-32 = faithful-zero singles-fit
+
+pub only-64 : (ps : List ℕ) (work : List Float) → Accepted doubles ps work
+    → (r : ℕ) → stepHeard doubles (faithfulOf doubles ps work .answer) ≡ done 0x8000000000000000 r → MinusZeros doubles ps
+only-64 = faithful-only doubles-fit
+
+pub only-32 : (ps : List ℕ) (work : List Float) → Accepted singles ps work
+    → (r : ℕ) → stepHeard singles (faithfulOf singles ps work .answer) ≡ done 0x80000000 r → MinusZeros singles ps
+only-32 = faithful-only singles-fit
 
 -- ---- rule D3
 pub any-run-64 : (ps : List ℕ) (work : List Float) → Accepted doubles ps work → (π : ℕ → List ℕ)
@@ -88,3 +133,26 @@ module _ (ps : List ℕ) (work : List Float) (bs : List ℕ) where
       → runOf singles ps work (bs ++ cs) .steps
       ≤ runOf singles ps work bs .steps + ((19 - s .rounds) * blocksOf singles (length ps) + members (s .pending) (blocksOf singles (length ps)))
   left-32 G = run-left singles-fit ps work G bs
+
+-- ---- rule S8, faithful sums in any order; rule S9, how far off they are
+module _ {ps qs : List ℕ} (π : Perm ps qs) {x y : Float} {j k : ℕ} {xs ys : List Float} where
+  pub reordered-64 : Summed doubles ps x j xs → Summed doubles qs y k ys → EqualOrNeighbouring binary64 x y
+  reordered-64 = summed-reordered doubles-fit π
+
+  pub reordered-32 : Summed singles ps x j xs → Summed singles qs y k ys → EqualOrNeighbouring binary32 x y
+  reordered-32 = summed-reordered singles-fit π
+
+  pub rounds-64 : Summed doubles ps x j xs → Summed doubles qs y k ys → (j ≡ k) × Perm xs ys
+  rounds-64 = summed-rounds doubles-fit π
+
+  pub rounds-32 : Summed singles ps x j xs → Summed singles qs y k ys → (j ≡ k) × Perm xs ys
+  rounds-32 = summed-rounds singles-fit π
+
+module _ {ps : List ℕ} {x : Float} {k : ℕ} {xs : List Float} where
+  pub close-64 : Summed doubles ps x k xs → 0 < natAbs (sumOf binary64 ps)
+      → 2 ^ 52 * natAbs (value binary64 x -ℤ sumOf binary64 ps) < natAbs (sumOf binary64 ps)
+  close-64 s = summed-close doubles-fit s .close
+
+  pub close-32 : Summed singles ps x k xs → 0 < natAbs (sumOf binary32 ps)
+      → 2 ^ 23 * natAbs (value binary32 x -ℤ sumOf binary32 ps) < natAbs (sumOf binary32 ps)
+  close-32 s = summed-close singles-fit s .close

@@ -6,6 +6,7 @@ pub mod Summing
 pub mod SumRun
 pub mod OpenedSum
 pub mod Faithful
+pub mod ZeroSum
 pub mod AnswerNumbers
 pub mod Taken
 pub mod TakenLaws
@@ -22,5 +23,8 @@ pub mod AnyOrder
 pub mod Demand3
 pub mod GoingLaws
 pub mod Demand3Laws
+pub mod Reordering
+pub mod ReorderedRounds
+pub mod Reordered
 pub mod AnyRun
 pub mod Instances

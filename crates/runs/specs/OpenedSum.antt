@@ -4,10 +4,11 @@ use mathlib.Core.Bool.{true, false}
 use mathlib.Core.List.{List, [], _∷_, map}
 use Prim.Native.Nat.{ℕ}
 use native.Mathlib.Omega.{arith}
+use borrow.Author.Tests.{eq-eqb}
 use lib.Dec.{eqb}
 use lib.IntN.{pos, _+ℤ_}
 use lib.ListN.{length, length-map}
-use lib.Ieee.{Float, Format, prec, ofBits}
+use lib.Ieee.{Float, Format, prec, top, ofBits}
 use Rattle.units.specs.Whole.{nat, _≈_, int, difference, exactSum, total}
 use Rattle.units.specs.Integers.{int-only, int-back, int-same, int-difference}
 use Rattle.units.specs.ExactSum.{sum-total}
@@ -17,6 +18,8 @@ use Rattle.units.specs.Walk as units
 use Rattle.units.specs.Turns as turns
 use Rattle.ieee.specs.Units.{whole, nearestFloat}
 use Rattle.ieee.specs.Sum.{value-int}
+use Rattle.ieee.specs.Zeros.{minus-magnitude}
+use Rattle.lists.specs.Each.{Each}
 use Rattle.kinds.specs.Limits.{Width, exponentOf}
 use Rattle.kinds.specs.Outcome.{outcome}
 use Rattle.kinds.specs.declared.Step.{Step}
@@ -24,7 +27,7 @@ use Rattle.kinds.specs.declared.Step.the-variants.{More, Done}
 use Rattle.kinds.specs.declared.Verdict.{Verdict}
 use Rattle.kinds.specs.declared.Verdict.the-variants.{Good}
 use Rattle.judge.specs.Judge.{floats, zeroSign}
-use Rattle.judge.specs.Table.{ListWhen}
+use Rattle.judge.specs.Table.{ListWhen, MinusZeros}
 use Rattle.judge.specs.JudgeLaws.{list-when, list-passed, list-allowed}
 use Rattle.sums.specs.Sums.{sumOf}
 use Rattle.extract.specs.Extract.{largest}
@@ -50,9 +53,19 @@ sum-wholes W ps = int-back _ _ (sym (sum-total (wholes f (floats W ps))) ∙ sam
     same [] = refl
     same (p ∷ ps) = λ i. sym (value-int f (ofBits f p)) i +ℤ same ps i
 
+-- ---- zeros
+none : (f : Format) (ps : List ℕ) → Each (λ p. p ≡ top f) ps → largest f (map (ofBits f) ps) ≡ 0
+unfolding largest
+none f [] h = refl
+none f (p ∷ ps) h = rw (h .0, minus-magnitude f, none f ps (h .1))
+
+-- nothing but -0 is nothing but zeros
+pub minus-all-zero : {W : Width} {ps : List ℕ} → MinusZeros W ps → allZero (W .format) (floats W ps) ≡ true
+minus-all-zero {W} {ps} M = eq-eqb (largest (W .format) (floats W ps)) 0 (none (W .format) ps (M .each))
+
 -- the zero that a list with exact sum zero answers
 abbrev pub zeroOf : Width → List ℕ → Float
-zeroOf W ps = nearestFloat (W .format) (zeroSign ps) (pos 0)
+zeroOf W ps = nearestFloat (W .format) (zeroSign W ps) (pos 0)
 
 module _ {W : Width} (F : Fitting W) (ps : List ℕ) (work : List Float) (G : ListWhen W (eqb (length work) (length ps)) true ps Good) where
   opened-is : opened W ps work ≡ outcome (fresh W (zeroOf W ps) (length ps) (largest (W .format) (floats W ps)) 0) (floats W ps)

@@ -4,3 +4,4 @@ pub mod Inner
 pub mod Readable
 pub mod StepArraysLaws
 pub mod StepCodes
+pub mod OpenZeros

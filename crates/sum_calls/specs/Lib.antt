@@ -2,3 +2,4 @@
 pub mod SumArrays
 pub mod SumArraysLaws
 pub mod SumCodes
+pub mod SumZeros

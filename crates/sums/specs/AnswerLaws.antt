@@ -29,7 +29,7 @@ use Rattle.sums.specs.PartsLaws.{remaining, parts-left}
 
 module _ (W : Width) (ps : List ℕ) where
   pub nearest-good : {v : Verdict} → v ≡ verdicts.Good
-      → nearestAfter W v ps ≡ nearests.Sum (nearestFloat (W .format) (zeroSign ps) (sumOf (W .format) ps))
+      → nearestAfter W v ps ≡ nearests.Sum (nearestFloat (W .format) (zeroSign W ps) (sumOf (W .format) ps))
   unfolding nearestAfter
   nearest-good e = rw e
 
@@ -55,7 +55,7 @@ whole-zero ws = elim (le-or-lt (2 ^ (registerBits - 1)) u) [
     some h = ne-eqb u 0 (λ (e : u ≡ 0). not-le-of-lt (pow-pos (registerBits - 1)) (rw e at h))
 
 -- ---- the parts of an allowed list, from the words and the area that are left
-pub parts-answer : (W : Width) {v : Verdict} (ps ws : List ℕ) (area xs : List Float) (z b : Bool) → v ≡ verdicts.Good → z ≡ zeroSign ps
+pub parts-answer : (W : Width) {v : Verdict} (ps ws : List ℕ) (area xs : List Float) (z b : Bool) → v ≡ verdicts.Good → z ≡ zeroSign W ps
     → xs ≡ parts (W .format) (length area) z (sumOf (W .format) ps)
     → wholeOf ws ≡ remaining (W .format) (length area) z (sumOf (W .format) ps) → b ≡ eqb (number wordBits ws) 0
     → outcome (parteds.Parts b) xs ≡ partsAfter W v ps area

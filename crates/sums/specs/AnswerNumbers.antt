@@ -28,8 +28,8 @@ module _ (ps : List ℕ) {x : Float} (e : nearestOf doubles ps ≡ Sum x) where
     where
       by : (v : Verdict) → judged doubles true true ps ≡ v → Number (doubles .format) x
       by verdicts.Good g =
-          let s : Sum (nearestFloat (doubles .format) (zeroSign ps) (sumOf (doubles .format) ps)) ≡ Sum x = sym (nearest-good doubles ps g) ∙ e in
-          let y : nearestFloat (doubles .format) (zeroSign ps) (sumOf (doubles .format) ps) ≡ x = cc in
+          let s : Sum (nearestFloat (doubles .format) (zeroSign doubles ps) (sumOf (doubles .format) ps)) ≡ Sum x = sym (nearest-good doubles ps g) ∙ e in
+          let y : nearestFloat (doubles .format) (zeroSign doubles ps) (sumOf (doubles .format) ps) ≡ x = cc in
           subst (Number (doubles .format)) y (nearest-promised ps (list-when doubles true true ps verdicts.Good .0 g) .1 .number)
       by (verdicts.Refused k p) g =
           let s : Refused k p ≡ Sum x = sym (nearest-refused doubles ps k p g) ∙ e in

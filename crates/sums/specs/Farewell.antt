@@ -1,4 +1,5 @@
--- The farewell and the sum: rounding a register from which a number was withdrawn gives the nearest sum of what stayed. Assumes nothing.
+-- The farewell and the sum: rounding a register from which a number was withdrawn gives the nearest sum of what stayed, where that isn't nothing but -0: a
+-- register knows no -0. Assumes nothing.
 use mathlib.Core.Path.{_≡_, sym, ap, _∙_}
 use mathlib.Core.List.{List, [], _∷_, _++_, map, map-append, append-nil}
 use mathlib.Core.Bool.{true, false}
@@ -13,9 +14,10 @@ use Rattle.ieee.specs.Units.{limit, nearestFloat}
 use Rattle.kinds.specs.Limits.{doubles}
 use Rattle.kinds.specs.declared.Nearest.the-variants.{Sum}
 use Rattle.kinds.specs.declared.Verdict.the-variants.{Good}
-use Rattle.judge.specs.Table.{Allowed, ListWhen, allowed}
+use Rattle.judge.specs.Table.{Allowed, ListWhen, MinusZeros, allowed}
 use Rattle.judge.specs.AllowedLaws.{allowed-none, allowed-first, allowed-rest, allowed-more, allowed-join, allowed-left, allowed-right}
 use Rattle.judge.specs.JudgeLaws.{list-when, list-passed, list-allowed}
+use Rattle.judge.specs.ZeroLaws.{zero-plus}
 use Rattle.words.specs.Words.{wholeOf}
 use Rattle.register.specs.Register.{rounded}
 use Rattle.register.specs.Entries.{Change, add, withdraw, patternOf, changeOf, run, AllEntered, zeros}
@@ -28,15 +30,16 @@ use Rattle.sums.specs.AnswerLaws.{nearest-good}
 
 -- qs is a list of what stayed: an accepted list with the exact sum of the history without p
 pub farewell-rounds : (xs ys zs : List Change) (p : ℕ) (qs : List ℕ) → AllEntered zeros (history xs ys zs p) → ListWhen doubles true true qs Good
-    → exactSum (map changeOf (stayed xs ys zs)) ≡ sumOf (doubles .format) qs → rounded (run zeros (history xs ys zs p)) ≡ nearestOf doubles qs
-farewell-rounds xs ys zs p qs A G e =
+    → (MinusZeros doubles qs → ⊥) → exactSum (map changeOf (stayed xs ys zs)) ≡ sumOf (doubles .format) qs
+    → rounded (run zeros (history xs ys zs p)) ≡ nearestOf doubles qs
+farewell-rounds xs ys zs p qs A G n e =
     let f = doubles .format in
     let cs = history xs ys zs p in
     let whole : wholeOf (run zeros cs) ≡ sumOf f qs =
     run-whole zeros cs A ∙ ap (λ (z : ℤ). z +ℤ exactSum (map changeOf cs)) zero-whole ∙ +ℤ-idl (exactSum (map changeOf cs)) ∙ gone xs ys zs p ∙ e in
     let small : natAbs (wholeOf (run zeros cs)) < limit f = rw whole (sum-below-limit (list-passed G .few) (list-allowed G)) in
     rounded-sum (run zeros cs) (run-held zeros cs zeros-held .long) small
-    ∙ ap (λ (z : ℤ). Sum (nearestFloat f false z)) whole
+    ∙ (λ i. Sum (nearestFloat f (sym (zero-plus doubles qs .1 n) i) (whole i)))
     ∙ sym (nearest-good doubles qs (list-when doubles true true qs Good .1 G))
 
 -- ---- an accepted list split at the leaver: all of it joins, then p leaves. Nothing else has to be asked: what stayed is accepted too.
@@ -76,8 +79,8 @@ module _ (ps qs : List ℕ) (p : ℕ) (G : ListWhen doubles true true (ps ++ (p 
       (record { few = omega (arith, list-passed G .few, length-append ps (p ∷ qs), length-append ps qs); right-area = tt; right-parts = tt })
       (allowed-join ps (allowed-left ps (p ∷ qs) allowed-all) (allowed-rest (allowed-right ps (p ∷ qs) allowed-all)))
 
-  pub farewell-list : rounded (run zeros joined-and-left) ≡ nearestOf doubles (ps ++ qs)
-  farewell-list =
+  pub farewell-list : (MinusZeros doubles (ps ++ qs) → ⊥) → rounded (run zeros joined-and-left) ≡ nearestOf doubles (ps ++ qs)
+  farewell-list n =
       farewell-rounds (map add ps) (map add qs) [] p (ps ++ qs)
       (all-entered joined-and-left (lt-of-le-of-lt short (lit< tt)) calls-patterns)
-      stayed-good stayed-sum
+      stayed-good n stayed-sum

@@ -1,5 +1,6 @@
 -- The sums of a list. Definitions first, then laws.
 pub mod Sums
+pub mod Reordering
 pub mod NonOverlapping
 pub mod FirstPlace
 pub mod PartsLaws
@@ -7,5 +8,7 @@ pub mod SumLaws
 pub mod AnswerLaws
 pub mod PartsMeaning
 pub mod Promised
+pub mod ZeroSums
 pub mod AnswerNumbers
 pub mod Farewell
+pub mod Reordered

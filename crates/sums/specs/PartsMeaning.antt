@@ -1,8 +1,9 @@
--- The parts in the scope's words: how many there may be, when the answer says that they add up, and that a part which is zero is +0. Assumes nothing.
+-- The parts in the scope's words: how many there may be, when the answer says that they add up, and which sign a part that is zero has.
+-- Assumes nothing.
 use mathlib.Core.Path.{_≡_, refl, sym, ap, _∙_}
 use mathlib.Core.Logic.{_↔_}
 use mathlib.Core.Bool.{Bool, true, false, _&&_}
-use mathlib.Core.List.{List, map}
+use mathlib.Core.List.{List, [], _∷_, map}
 use Prim.Native.Nat.{ℕ, zero, suc, _≤_, _<_}
 use native.Mathlib.Nat.{lt-of-le-of-lt}
 use native.Mathlib.Omega.{arith}
@@ -14,7 +15,7 @@ use lib.Ieee.{Float, Format, prec}
 use Rattle.units.specs.Whole.{nat, _≈_, exactSum}
 use Rattle.units.specs.Rounding.{rnd, fl}
 use Rattle.units.specs.SignedRounding.{fl-nat, fl-zero}
-use Rattle.ieee.specs.Units.{negative, magnitude, value, nearestFloat, limit}
+use Rattle.ieee.specs.Units.{negative, magnitude, value, signOf, nearestFloat, limit}
 use Rattle.ieee.specs.Finite.{is-units}
 use Rattle.ieee.specs.Overflow.{nearest-is, nearest-negative}
 use Rattle.ieee.specs.Rounded.{prec-pos}
@@ -49,18 +50,34 @@ add-up-when f xs S = (
   λ e. rw e (eq-eqb (natAbs (S -ℤ S)) 0 (ap natAbs (sym (ap (λ (z : ℤ). z -ℤ S) (+ℤ-idl S)) ∙ +ℤ-negℤ-cancel (pos 0) S))),
 )
 
--- ---- rule S4: a part that is zero is +0, where a zero sum is
-module _ (f : Format) where
-  pub nearest-plus : (S : ℤ) → natAbs S < limit f → magnitude f (nearestFloat f false S) ≡ 0 → negative (nearestFloat f false S) ≡ false
-  nearest-plus (pos zero) l z = nearest-negative f false (pos 0) l
-  nearest-plus (pos (suc n)) l z = nearest-negative f false (pos (suc n)) l
-  nearest-plus (negsuc n) l z =
-      let x = nearestFloat f false (negsuc n) in
-      let m : magnitude f x ≡ rnd (prec f) (suc n) = is-units f x true (rnd (prec f) (suc n)) (nearest-is f false (negsuc n) l) .1 in
-      let w : fl (prec f) (nat (suc n)) ≈ nat 0 = rw (fl-nat (prec f) (prec-pos f) (suc n)) (omega (arith, m)) in
-      absurd (omega (arith, fl-zero (prec f) (prec-pos f) (nat (suc n)) w))
+-- ---- rules S3 and S4: a part that is zero is +0, but the first may have the sign of a zero sum
+abbrev pub ZeroSigns : Format → Bool → List Float → Type 0
+ZeroSigns f z [] = Unit {0}
+ZeroSigns f z (x ∷ xs) = (magnitude f x ≡ 0 → negative x ≡ z) × Each (λ y. magnitude f y ≡ 0 → negative y ≡ false) xs
 
-  pub parts-plus : (k : ℕ) (S : ℤ) → natAbs S < limit f → Each (λ x. magnitude f x ≡ 0 → negative x ≡ false) (parts f k false S)
+module _ (f : Format) where
+  -- nothing but zero is rounded to zero
+  rounded-none : (z : Bool) (S : ℤ) → natAbs S < limit f → magnitude f (nearestFloat f z S) ≡ 0 → natAbs S ≡ 0
+  rounded-none z S l e =
+      let x = nearestFloat f z S in
+      let m : magnitude f x ≡ rnd (prec f) (natAbs S) = is-units f x (signOf z S) (rnd (prec f) (natAbs S)) (nearest-is f z S l) .1 in
+      let w : fl (prec f) (nat (natAbs S)) ≈ nat 0 = rw (fl-nat (prec f) (prec-pos f) (natAbs S)) (omega (arith, m)) in
+      omega (arith, fl-zero (prec f) (prec-pos f) (nat (natAbs S)) w)
+
+  pub nearest-sign : (z : Bool) (S : ℤ) → natAbs S < limit f → magnitude f (nearestFloat f z S) ≡ 0 → negative (nearestFloat f z S) ≡ z
+  nearest-sign z (pos zero) l e = nearest-negative f z (pos 0) l
+  nearest-sign z (pos (suc n)) l e = absurd (omega (arith, rounded-none z (pos (suc n)) l e))
+  nearest-sign z (negsuc n) l e = absurd (omega (arith, rounded-none z (negsuc n) l e))
+
+  later-parts : (k : ℕ) (S : ℤ) → natAbs S < limit f → Each (λ x. magnitude f x ≡ 0 → negative x ≡ false) (parts f k false S)
   unfolding parts
-  parts-plus zero S l = tt
-  parts-plus (suc k) S l = (nearest-plus S l, parts-plus k (S -ℤ value f (nearestFloat f false S)) (lt-of-le-of-lt (left-smaller f false S l) l))
+  later-parts zero S l = tt
+  later-parts (suc k) S l = (
+    nearest-sign false S l,
+    later-parts k (S -ℤ value f (nearestFloat f false S)) (lt-of-le-of-lt (left-smaller f false S l) l),
+  )
+
+  pub parts-signs : (k : ℕ) (z : Bool) (S : ℤ) → natAbs S < limit f → ZeroSigns f z (parts f k z S)
+  unfolding parts
+  parts-signs zero z S l = tt
+  parts-signs (suc k) z S l = (nearest-sign z S l, later-parts k (S -ℤ value f (nearestFloat f z S)) (lt-of-le-of-lt (left-smaller f z S l) l))

@@ -1,12 +1,12 @@
--- Rules S2 to S6, said of the definitions that the contracts of the nearest sum and the parts cite. Assumes nothing.
+-- Rules S2 and S4 to S6, said of the definitions that the contracts of the nearest sum and the parts cite. Assumes nothing.
 use mathlib.Core.Logic.{_↔_}
 use mathlib.Core.Path.{_≡_, refl, sym, ap, _∙_}
 use mathlib.Core.Bool.{Bool, true, false}
-use mathlib.Core.List.{List, [], _∷_, map}
+use mathlib.Core.List.{List, [], _∷_}
 use Prim.Native.Nat.{ℕ, zero, suc, _<_}
 use native.Mathlib.Nat.{lt-of-le-of-lt}
-use lib.IntN.{ℤ, pos, natAbs, _-ℤ_}
-use lib.ListN.{length, replicate}
+use lib.IntN.{ℤ, natAbs, _-ℤ_}
+use lib.ListN.{length}
 use lib.Ieee.{Float, Format, toBits}
 use Rattle.ieee.specs.Units.{value, nearestFloat, limit}
 use Rattle.ieee.specs.Accuracy.{NearestTo}
@@ -51,17 +51,6 @@ abbrev parts-verdict : Parted → Verdict
 parts-verdict (parteds.Parts b) = verdicts.Good
 parts-verdict (parteds.Refused k i) = verdicts.Refused k i
 
--- a zero with a positive sign is +0
-zero-pattern : (z : Bool) (S : ℤ) → z ≡ false → S ≡ pos 0 → toBits (doubles .format) (nearestFloat (doubles .format) z S) ≡ 0
-unfolding nearestFloat toBits
-zero-pattern z S e s = rw (e, s)
-
--- rule S4's +0: every part of zero
-pub parts-zero : (k : ℕ) (z : Bool) (S : ℤ) → z ≡ false → S ≡ pos 0 → map (toBits (doubles .format)) (parts (doubles .format) k z S) ≡ replicate k 0
-unfolding parts nearestFloat toBits value
-parts-zero zero z S e s = refl
-parts-zero (suc k) z S e s = rw (e, s) (ap (λ (xs : List ℕ). 0 ∷ xs) (parts-zero k false (pos 0) refl refl))
-
 -- a refusal is given exactly when its row of the table says
 module _ (W : Width) (ps : List ℕ) where
   nearest-from : (v : Verdict) → nearest-verdict (nearestAfter W v ps) ≡ v
@@ -97,21 +86,17 @@ module _ (ps : List ℕ) where
 
   module _ (G : ListWhen doubles true true ps verdicts.Good) where
     -- rule S2, for every list that isn't refused
-    pub nearest-promised : let x = nearestFloat (doubles .format) (zeroSign ps) S in
+    pub nearest-promised : let x = nearestFloat (doubles .format) (zeroSign doubles ps) S in
         (nearestHeard doubles (nearestOf doubles ps) ≡ nearest (toBits (doubles .format) x)) × NearestTo (doubles .format) S x
     nearest-promised = (
       ap (nearestHeard doubles) (nearest-good doubles ps (list-when doubles true true ps verdicts.Good .1 G)),
-      nearest-nearest (doubles .format) (zeroSign ps) S (sum-below-limit (list-passed G .few) (list-allowed G)),
+      nearest-nearest (doubles .format) (zeroSign doubles ps) S (sum-below-limit (list-passed G .few) (list-allowed G)),
     )
-
-    -- rule S3
-    pub nearest-zero : S ≡ pos 0 → nearestHeard doubles (nearestOf doubles ps) ≡ nearest 0
-    nearest-zero s = nearest-promised .0 ∙ ap nearest (zero-pattern (zeroSign ps) S refl s)
 
   module _ (area : List Float) where
     -- what an accepted call leaves
     abbrev left : List Float
-    left = parts (doubles .format) (length area) (zeroSign ps) S
+    left = parts (doubles .format) (length area) (zeroSign doubles ps) S
 
     pub parts-promised : ListWhen doubles true (fitting doubles area) ps verdicts.Good
         → (partsOf doubles ps area ≡ outcome (parteds.Parts (addUp (doubles .format) left S)) left)
@@ -120,6 +105,6 @@ module _ (ps : List ℕ) where
     parts-promised G =
         let l = sum-below-limit (list-passed G .few) (list-allowed G) in (
           rw (list-when doubles true (fitting doubles area) ps verdicts.Good .1 G),
-          parts-nearest (doubles .format) (length area) (zeroSign ps) S l,
-          parts-apart (doubles .format) (length area) (zeroSign ps) S l,
+          parts-nearest (doubles .format) (length area) (zeroSign doubles ps) S l,
+          parts-apart (doubles .format) (length area) (zeroSign doubles ps) S l,
         )

@@ -24,7 +24,7 @@ sumOf f ps = exactSum (map (λ (p : ℕ). value f (ofBits f p)) ps)
 
 -- ---- rules S2 and S3
 unfoldable pub nearestAfter : Width → Verdict → List ℕ → Nearest
-nearestAfter W verdicts.Good ps = nearests.Sum (nearestFloat (W .format) (zeroSign ps) (sumOf (W .format) ps))
+nearestAfter W verdicts.Good ps = nearests.Sum (nearestFloat (W .format) (zeroSign W ps) (sumOf (W .format) ps))
 nearestAfter W (verdicts.Refused k p) ps = nearests.Refused k p
 
 abbrev pub nearestOf : Width → List ℕ → Nearest
@@ -43,7 +43,7 @@ addUp f xs S = eqb (natAbs (S -ℤ exactSum (map (value f) xs))) 0
 unfoldable pub partsAfter : Width → Verdict → List ℕ → List Float → Outcome Parted Float
 partsAfter W verdicts.Good ps area =
     let S = sumOf (W .format) ps in
-    let xs = parts (W .format) (length area) (zeroSign ps) S in
+    let xs = parts (W .format) (length area) (zeroSign W ps) S in
     outcome (parteds.Parts (addUp (W .format) xs S)) xs
 partsAfter W (verdicts.Refused k p) ps area = outcome (parteds.Refused k p) area
 

@@ -22,7 +22,7 @@ pub opened-refused : (W : Width) (v : Verdict) (k p : ℕ) (ps : List ℕ) (work
 unfolding openedAfter
 opened-refused W v k p ps work e = rw e
 
-pub opened-good : (W : Width) (ps : List ℕ) (work xs : List Float) (zero : Float) (q : Step) → zero ≡ nearestFloat (W .format) (zeroSign ps) (pos 0)
+pub opened-good : (W : Width) (ps : List ℕ) (work xs : List Float) (zero : Float) (q : Step) → zero ≡ nearestFloat (W .format) (zeroSign W ps) (pos 0)
     → xs ≡ floats W ps → q ≡ fresh W zero (length ps) (largest (W .format) xs) 0 → outcome q xs ≡ openedAfter W verdicts.Good ps work
 unfolding openedAfter
 opened-good W ps work xs zero q z x e = rw (e, z, x)

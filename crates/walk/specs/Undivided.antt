@@ -49,7 +49,7 @@ module _ {W : Width} (F : Fitting W) (ps : List ℕ) (work : List Float) where
           record { running = record { e = _; count = refl; begun = opens (list-allowed v) F (list-passed v .few) z }; rounds = refl }
 
       zero : Float
-      zero = nearestFloat (W .format) (zeroSign ps) (pos 0)
+      zero = nearestFloat (W .format) (zeroSign W ps) (pos 0)
 
       starts : (b : Bool) → allZero (W .format) (floats W ps) ≡ b → judged W (eqb (length work) n) true ps ≡ verdicts.Good
           → outcome (cond b (Done zero 0) (More first)) (floats W ps) ≡ outcome (More s) xs → FirstRound W F n s xs

@@ -26,7 +26,7 @@ Walked = Outcome Step Float
 -- ---- rules WO1 to WO3: the opening
 unfoldable pub openedAfter : Width → Verdict → List ℕ → List Float → Walked
 openedAfter W verdicts.Good ps work =
-    let zero = nearestFloat (W .format) (zeroSign ps) (pos 0) in
+    let zero = nearestFloat (W .format) (zeroSign W ps) (pos 0) in
     let xs = floats W ps in
     outcome (fresh W zero (length ps) (largest (W .format) xs) 0) xs
 openedAfter W (verdicts.Refused k p) ps work = outcome (Refused k p) work
