@@ -10,3 +10,4 @@ pub mod GradeLaws
 pub mod AnswerLaws
 pub mod TableLaws
 pub mod Promised
+pub mod Reordered

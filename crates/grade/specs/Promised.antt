@@ -71,8 +71,8 @@ nearest-graded ps c h = by (judged doubles true true ps) refl
     by verdicts.Good e =
         let G = list-when doubles true true ps verdicts.Good .0 e in
         let P = nearest-promised ps G in
-        let s : nearest (toBits (doubles .format) (nearestFloat (doubles .format) (zeroSign ps) (sumOf (doubles .format) ps))) ≡ nearest c = sym (P .0) ∙ h in
-        let b : toBits (doubles .format) (nearestFloat (doubles .format) (zeroSign ps) (sumOf (doubles .format) ps)) ≡ c = cc in
+        let s : nearest (toBits (doubles .format) (nearestFloat (doubles .format) (zeroSign doubles ps) (sumOf (doubles .format) ps))) ≡ nearest c = sym (P .0) ∙ h in
+        let b : toBits (doubles .format) (nearestFloat (doubles .format) (zeroSign doubles ps) (sumOf (doubles .format) ps)) ≡ c = cc in
         rw b at (nearest-claim ps G (P .1))
     by (verdicts.Refused k i) e =
         let s = sym (ap (nearestHeard doubles) (nearest-refused doubles ps k i e)) ∙ h in
