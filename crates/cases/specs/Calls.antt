@@ -13,6 +13,7 @@ use Rattle.walk.specs.Walk.{Walked, opened, stepped, faithfulOf}
 use Rattle.sums.specs.Sums.{nearestOf, partsOf}
 use Rattle.sheet.specs.Sheet.{readOf}
 use Rattle.weights.specs.Weights.{handedOf, handedHeard}
+use Rattle.grade.specs.Grade.{gradeOf, gradedHeard}
 
 -- what an area holds before the call, at each place: 1.5, a number that is in no list and no answer of the table
 abbrev pub beforehand : ℕ
@@ -45,6 +46,8 @@ pub data Call : Type 0 where
   sheet : List ℕ → ℕ → Call
   -- handing on the weight of a weight list's clock at a place, to an area of a length
   handOn : List ℕ → ℕ → ℕ → Call
+  -- the grade of a claim, by its pattern, of a list's sum
+  grading : List ℕ → ℕ → Call
 
 -- what its caller hears, beside the patterns or words of the lent area afterwards
 abbrev pub Result : Type 0
@@ -73,6 +76,7 @@ resultOf (sheet bytes m) =
 resultOf (handOn ps place m) =
     let r = handedOf doubles ps place (replicate m beforehand) in
     outcome (handedHeard (r .answer)) (r .area)
+resultOf (grading ps c) = outcome (gradedHeard (gradeOf doubles ps c)) []
 
 -- one row of the table
 pub record Case : Type 0 where
