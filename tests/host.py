@@ -30,6 +30,7 @@ sys.path[:0] = [HERE, os.path.join(HERE, "host")]
 import archive  # noqa: E402
 import built  # noqa: E402
 import calls  # noqa: E402
+import claims  # noqa: E402
 import drawn  # noqa: E402
 import farewells  # noqa: E402
 import fixed  # noqa: E402
@@ -37,8 +38,8 @@ import kit  # noqa: E402
 import shuffles  # noqa: E402
 
 PLACE = os.path.join(ROOT, "target", "host")
-FIXED = fixed.GROUPS + farewells.FIXED + shuffles.FIXED
-DRAWN = drawn.GROUPS + farewells.DRAWN + shuffles.DRAWN
+FIXED = fixed.GROUPS + farewells.FIXED + shuffles.FIXED + claims.FIXED
+DRAWN = drawn.GROUPS + farewells.DRAWN + shuffles.DRAWN + claims.DRAWN
 LISTS = 20000
 PROGRESS = 8  # seconds between lines
 TOGETHER = 500  # requests that the driver is handed at once: each may have arrays of 32 KB
@@ -61,6 +62,7 @@ REFUSALS = {
     "kewohiata_words_round": {0, 4, 10},
     "kewohiata_sheet_read": {0, 1, 4, 11, 12, 13},
     "kewohiata_weights_hand_on": {0, 1, 2, 3, 4, 14, 15, 16, 17},
+    "kewohiata_list_grade": SUMS | {20},
 }
 
 

@@ -1,7 +1,7 @@
 """The C calls: each as a request to the driver, with the answer that docs/SCOPE.md asks for.
 
-The answers come from the models of tests/exact.py (sums, parts and registers in whole units), tests/walk.py (the faithful walk) and tests/farewell.py
-(weights); what is said here is how they lie in arrays and which lengths are refused. Sheets are read as by tests/sheets.py. An array is its bytes, of whatever its elements are.
+The answers come from the models of tests/exact.py (sums, parts and registers in whole units), tests/walk.py (the faithful walk), tests/grades.py (grades) and
+tests/farewell.py (weights); what is said here is how they lie in arrays and which lengths are refused. Sheets are read as by tests/sheets.py. An array is its bytes, of whatever its elements are.
 """
 import collections
 import functools
@@ -9,6 +9,7 @@ import struct
 
 import exact
 import farewell
+import grades
 import sheets
 import walk
 from exact import INFINITY, NAN, SIGN, Refused
@@ -29,6 +30,7 @@ CALLS = {
     "kewohiata_words_round": "QQ",
     "kewohiata_sheet_read": "BQQ",
     "kewohiata_weights_hand_on": "QQ",
+    "kewohiata_list_grade": "QQ",
 }
 NUMBERS = {call: number for number, call in enumerate(CALLS)}
 SIZE, SUM, REGISTER = 8, 16, 8 * exact.WORDS  # bytes of a number, of a sum in bytes, and of a register
@@ -284,6 +286,16 @@ def rounded(data, out):
         return [data, packed([exact.Register(unpacked(data)).round()])], None
 
     return asked("kewohiata_words_round", [data, out], model)
+
+
+# ---- grades
+def graded(data, claim, out):
+    """1, 4, 2 or 3, 20."""
+    def model():
+        array_lengths(data, len(out) == SIZE)
+        return [data, packed([grades.grade(unpacked(data), claim)])], None
+
+    return asked("kewohiata_list_grade", [data, out], model, claim)
 
 
 # ---- weights

@@ -39,6 +39,7 @@ static uint64_t call(const struct request *r)
     case 11: return kewohiata_words_round(LENT(0, numbers), LENT(1, numbers));
     case 12: return kewohiata_sheet_read(LENT(0, bytes), LENT(1, numbers), LENT(2, numbers));
     case 13: return kewohiata_weights_hand_on(LENT(0, numbers), r->number, LENT(1, numbers));
+    case 14: return kewohiata_list_grade(LENT(0, numbers), r->number, LENT(1, numbers));
     default: return UINT64_MAX;
     }
 }

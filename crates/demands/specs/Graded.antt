@@ -21,7 +21,7 @@ use Rattle.runs.specs.Runs.{runOf}
 use Rattle.runs.specs.Demand3Laws.{run-finishes}
 use Rattle.grade.specs.Grade.{gradeOf}
 use Rattle.grade.specs.Promised.{faithful-claim}
-use Rattle.grade.specs.declared.Graded.the-variants.{Wrong}
+use Rattle.grade.specs.declared.Graded.the-variants.{Faithful, Wrong}
 
 -- an answer of which a sum is heard is that sum
 done-is : (a : Step) (c k : ℕ) → stepHeard doubles a ≡ done c k → (x : Float) × (a ≡ Done x k) × (toBits (doubles .format) x ≡ c)
