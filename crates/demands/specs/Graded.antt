@@ -20,8 +20,8 @@ use Rattle.runs.specs.Faithful.{faithful-promised}
 use Rattle.runs.specs.Runs.{runOf}
 use Rattle.runs.specs.Demand3Laws.{run-finishes}
 use Rattle.grade.specs.Grade.{gradeOf}
+use Rattle.grade.specs.Table.{NotWrong}
 use Rattle.grade.specs.Promised.{faithful-claim}
-use Rattle.grade.specs.declared.Graded.the-variants.{Faithful, Wrong}
 
 -- an answer of which a sum is heard is that sum
 done-is : (a : Step) (c k : ℕ) → stepHeard doubles a ≡ done c k → (x : Float) × (a ≡ Done x k) × (toBits (doubles .format) x ≡ c)
@@ -36,7 +36,7 @@ module _ (ps : List ℕ) (work : List Float) (G : ListWhen doubles (eqb (length 
 
   -- the pattern that is heard of the sum, as a claim
   module _ (c k : ℕ) where
-    pub faithful-graded : stepHeard doubles (faithfulOf doubles ps work .answer) ≡ done c k → gradeOf doubles ps c ≡ Wrong → ⊥
+    pub faithful-graded : stepHeard doubles (faithfulOf doubles ps work .answer) ≡ done c k → NotWrong (gradeOf doubles ps c)
     faithful-graded h =
         let d = done-is (faithfulOf doubles ps work .answer) c k h in
         let P = faithful-promised doubles-fit ps work G in
@@ -44,7 +44,7 @@ module _ (ps : List ℕ) (work : List Float) (G : ListWhen doubles (eqb (length 
         let x : P .sum ≡ d .0 = cc in
         rw (x, d .2) at (faithful-claim ps alone (P .faithful))
 
-    pub run-graded : (bs : List ℕ) → stepHeard doubles (runOf doubles ps work bs .walk .answer) ≡ done c k → gradeOf doubles ps c ≡ Wrong → ⊥
+    pub run-graded : (bs : List ℕ) → stepHeard doubles (runOf doubles ps work bs .walk .answer) ≡ done c k → NotWrong (gradeOf doubles ps c)
     run-graded bs h =
         let d = done-is (runOf doubles ps work bs .walk .answer) c k h in
         rw (d .2) at (faithful-claim ps alone (run-finishes doubles-fit ps work G bs (d .0) k (d .1) .faithful))

@@ -111,7 +111,7 @@ module _ {f : Format} {S : ℤ} (I : Inside f S) where
     told : {x : Float} → Number f x → (b : ℕ) → toBits f x ≡ b → x ≡ ofBits f b
     told {x} X b e = sym (ofBits-toBits f x (X .fit)) ∙ ap (ofBits f) e
 
-    beside-earned : {x : Float} → Number f x → (value f x ≡ S → ⊥) → Earns f S x (gradeAt f S x)
+    pub beside-earned : {x : Float} → Number f x → (value f x ≡ S → ⊥) → Earns f S x (gradeAt f S x)
     beside-earned {x} X n = elim (ℕ-discrete (toBits f x) (toBits f (near f S))) [
       | yes e ↦
           let is : near f S ≡ x = sym (told X (toBits f (near f S)) e ∙ ofBits-toBits f (near f S) (N .number .fit)) in

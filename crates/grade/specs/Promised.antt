@@ -26,7 +26,7 @@ use Rattle.sums.specs.AnswerLaws.{nearest-refused}
 use Rattle.sums.specs.Promised.{nearest-promised}
 use Rattle.grade.specs.Grade.{gradeAt, gradeOf}
 use Rattle.grade.specs.Table as table
-use Rattle.grade.specs.Table.{Earns}
+use Rattle.grade.specs.Table.{Earns, AtLeastNearest, NotWrong}
 use Rattle.grade.specs.Distances.{nearest-faithful}
 use Rattle.grade.specs.GradeLaws.{some-grade, grade-earned, zeros-alike}
 use Rattle.grade.specs.Neighbours.{no-units}
@@ -46,33 +46,33 @@ module _ (ps : List ℕ) (G : ListWhen doubles true true ps verdicts.Good) where
       back = ofBits-toBits (doubles .format) x (X .fit)
 
   nearest-claim : {x : Float} → NearestTo (doubles .format) (sumOf (doubles .format) ps) x
-      → (gradeOf doubles ps (toBits (doubles .format) x) ≡ Exact) ⊎ (gradeOf doubles ps (toBits (doubles .format) x) ≡ Nearest)
+      → AtLeastNearest (gradeOf doubles ps (toBits (doubles .format) x))
   nearest-claim {x} N = by (some-grade (roomy-doubles .inside ps G) (N .number)) (graded (N .number))
     where
       by : {g : Graded} → Earns (doubles .format) (sumOf (doubles .format) ps) x g → gradeOf doubles ps (toBits (doubles .format) x) ≡ g
-          → (gradeOf doubles ps (toBits (doubles .format) x) ≡ Exact) ⊎ (gradeOf doubles ps (toBits (doubles .format) x) ≡ Nearest)
+          → AtLeastNearest (gradeOf doubles ps (toBits (doubles .format) x))
       by (table.exact e) i = inl i
       by (table.nearest M d) i = inr i
       by (table.faithful F n) i = absurd (n N)
       by (table.wrong w) i = absurd (w (nearest-faithful (doubles .format) N))
 
-  pub faithful-claim : {x : Float} → FaithfulTo (doubles .format) (sumOf (doubles .format) ps) x → gradeOf doubles ps (toBits (doubles .format) x) ≡ Wrong → ⊥
+  pub faithful-claim : {x : Float} → FaithfulTo (doubles .format) (sumOf (doubles .format) ps) x → NotWrong (gradeOf doubles ps (toBits (doubles .format) x))
   faithful-claim {x} F e = by (grade-earned (roomy-doubles .inside ps G) (F .number) Wrong .0 (sym (graded (F .number)) ∙ e))
     where
       by : Earns (doubles .format) (sumOf (doubles .format) ps) x Wrong → ⊥
       by (table.wrong w) = w F
 
 -- ---- the nearest sum that is heard of a list, as a claim of that list's sum
-pub nearest-graded : (ps : List ℕ) (c : ℕ) → nearestHeard doubles (nearestOf doubles ps) ≡ nearest c
-    → (gradeOf doubles ps c ≡ Exact) ⊎ (gradeOf doubles ps c ≡ Nearest)
+pub nearest-graded : (ps : List ℕ) (c : ℕ) → nearestHeard doubles (nearestOf doubles ps) ≡ nearest c → AtLeastNearest (gradeOf doubles ps c)
 nearest-graded ps c h = by (judged doubles true true ps) refl
   where
-    by : (v : Verdict) → judged doubles true true ps ≡ v → (gradeOf doubles ps c ≡ Exact) ⊎ (gradeOf doubles ps c ≡ Nearest)
+    by : (v : Verdict) → judged doubles true true ps ≡ v → AtLeastNearest (gradeOf doubles ps c)
     by verdicts.Good e =
         let G = list-when doubles true true ps verdicts.Good .0 e in
         let P = nearest-promised ps G in
-        let s : nearest (toBits (doubles .format) (nearestFloat (doubles .format) (zeroSign doubles ps) (sumOf (doubles .format) ps))) ≡ nearest c = sym (P .0) ∙ h in
-        let b : toBits (doubles .format) (nearestFloat (doubles .format) (zeroSign doubles ps) (sumOf (doubles .format) ps)) ≡ c = cc in
+        let x = nearestFloat (doubles .format) (zeroSign doubles ps) (sumOf (doubles .format) ps) in
+        let s : nearest (toBits (doubles .format) x) ≡ nearest c = sym (P .0) ∙ h in
+        let b : toBits (doubles .format) x ≡ c = cc in
         rw b at (nearest-claim ps G (P .1))
     by (verdicts.Refused k i) e =
         let s = sym (ap (nearestHeard doubles) (nearest-refused doubles ps k i e)) ∙ h in
@@ -82,7 +82,8 @@ nearest-graded ps c h = by (judged doubles true true ps) refl
 pub zeros-graded : (ps : List ℕ) → gradeOf doubles ps (top (doubles .format)) ≡ gradeOf doubles ps 0
 zeros-graded ps = by (judged doubles true true ps) refl
   where
-    none : (b : ℕ) → b % top (doubles .format) ≡ 0 → Number (doubles .format) (ofBits (doubles .format) b) × (magnitude (doubles .format) (ofBits (doubles .format) b) ≡ 0)
+    none : (b : ℕ) → b % top (doubles .format) ≡ 0
+        → Number (doubles .format) (ofBits (doubles .format) b) × (magnitude (doubles .format) (ofBits (doubles .format) b) ≡ 0)
     none b z =
         let f = doubles .format in
         let h : b % top f < ones f * hid f = rw z (lit< tt) in

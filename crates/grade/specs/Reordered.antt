@@ -1,4 +1,4 @@
--- Rule Q8: a claim has one grade for a list in every order, where its numbers are allowed. Assumes nothing.
+-- Rule Q7: a claim has one grade for a list in every order, where its numbers are allowed. Assumes nothing.
 use mathlib.Core.Path.{_≡_, refl}
 use mathlib.Core.Bool.{true}
 use mathlib.Core.List.{List, Perm}
@@ -9,9 +9,10 @@ use Rattle.kinds.specs.declared.Verdict.the-variants.{Good, Refused}
 use Rattle.judge.specs.Judge.{judged}
 use Rattle.judge.specs.Table.{Allowed}
 use Rattle.sums.specs.Reordered.{judged-same, sum-of-reordered}
-use Rattle.grade.specs.Grade.{gradedAfter, gradeOf}
+use Rattle.grade.specs.Grade.{gradedAfter}
+use Rattle.grade.specs.Table.{OneGrade}
 
-pub grade-reordered : {W : Width} {ps qs : List ℕ} → Perm ps qs → Allowed W ps → (c : ℕ) → gradeOf W ps c ≡ gradeOf W qs c
+pub grade-reordered : {W : Width} {ps qs : List ℕ} → Perm ps qs → Allowed W ps → OneGrade W ps qs
 unfolding gradedAfter
 grade-reordered {W} {ps} {qs} π A c = rw (judged-same W π true true A) (by (judged W true true qs))
   where

@@ -131,8 +131,12 @@ module _ {f : Format} {S : ℤ} (I : Inside f S) where
     beside-away : magnitude f (near f S) < natAbs S → otherSide f S ≡ toBits f (near f S) + 1 → Beside f S
     beside-away l o = record {
       sides = elim (orders S (magnitude f (near f S)) (magnitude f (far f S)) l further) [
-        | inl u ↦ near-below (amid-up (rw (near-signed f S (I .below), far-signed) (u .0)) (rw (near-signed f S (I .below)) (u .1)) (λ y Y. gap-up f N far-number far-sign next Y))
-        | inr u ↦ far-below (amid-down (rw (near-signed f S (I .below), far-signed) (u .0)) (rw (near-signed f S (I .below)) (u .1)) (λ y Y. gap-down f N far-number far-sign next Y))
+        | inl u ↦
+            near-below (amid-up (rw (near-signed f S (I .below), far-signed) (u .0)) (rw (near-signed f S (I .below)) (u .1))
+            (λ y Y. gap-up f N far-number far-sign next Y))
+        | inr u ↦
+            far-below (amid-down (rw (near-signed f S (I .below), far-signed) (u .0)) (rw (near-signed f S (I .below)) (u .1))
+            (λ y Y. gap-down f N far-number far-sign next Y))
       ];
       bits = far-bits;
       step = inl next;
@@ -178,8 +182,12 @@ module _ {f : Format} {S : ℤ} (I : Inside f S) where
 
         sides : Sides f S
         sides = elim (orders S (magnitude f (near f S)) (magnitude f (far f S)) l further) [
-          | inl u ↦ far-below (amid-down (rw (near-signed f S (I .below), far-signed) (u .0)) (rw (near-signed f S (I .below)) (u .1)) (λ y Y. gap-up f far-number N (sym far-sign) next Y))
-          | inr u ↦ near-below (amid-up (rw (near-signed f S (I .below), far-signed) (u .0)) (rw (near-signed f S (I .below)) (u .1)) (λ y Y. gap-down f far-number N (sym far-sign) next Y))
+          | inl u ↦
+              far-below (amid-down (rw (near-signed f S (I .below), far-signed) (u .0)) (rw (near-signed f S (I .below)) (u .1))
+              (λ y Y. gap-up f far-number N (sym far-sign) next Y))
+          | inr u ↦
+              near-below (amid-up (rw (near-signed f S (I .below), far-signed) (u .0)) (rw (near-signed f S (I .below)) (u .1))
+              (λ y Y. gap-down f far-number N (sym far-sign) next Y))
         ]
 
         -- the pattern next to zero is one unit, and no S lies between

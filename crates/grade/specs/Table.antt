@@ -1,18 +1,20 @@
--- What a claim's grade is given exactly for, in the words of rules S1 and S2; and rule O6 for the call. Definitions only.
+-- What a claim's grade is given exactly for, in the words of rules S1 and S2; rule O6 for the call; and what is promised of grades. Definitions only.
 use mathlib.Core.Path.{_≡_}
-use mathlib.Core.Bool.{true, not}
+use mathlib.Core.Logic.{_⊎_}
+use mathlib.Core.Bool.{not}
 use mathlib.Core.List.{List}
-use Prim.Native.Nat.{ℕ}
+use Prim.Native.Nat.{ℕ, _≤_, _<_}
 use lib.Dec.{T}
 use lib.IntN.{ℤ}
-use lib.Ieee.{Float, Format, ofBits}
+use lib.ListN.{length}
+use lib.Ieee.{Float, Format}
 use lib.Ieee.Scale.{finite}
 use Rattle.ieee.specs.Units.{value}
 use Rattle.ieee.specs.Accuracy.{FaithfulTo, NearestTo}
 use Rattle.kinds.specs.Limits.{Width}
-use Rattle.kinds.specs.declared.Verdict.the-variants as verdicts
-use Rattle.judge.specs.Table.{ListWhen}
+use Rattle.judge.specs.Table.{floatOf, Allowed, First}
 use Rattle.sums.specs.Sums.{sumOf}
+use Rattle.grade.specs.Grade.{gradeOf}
 use Rattle.grade.specs.declared.Graded.{Graded}
 use Rattle.grade.specs.declared.Graded.the-variants.{Exact, Nearest, Faithful, Wrong, Refused}
 
@@ -29,10 +31,24 @@ pub data Earns (f : Format) (S : ℤ) (x : Float) : Graded → Type 0 where
 
 -- the call's answers: c is the claim's pattern
 pub data GradedWhen (W : Width) (ps : List ℕ) (c : ℕ) : Graded → Type 0 where
-  -- rules R1, R2 and R3, as for the nearest sum
-  bad-list : (k i : ℕ) → ListWhen W true true ps (verdicts.Refused k i) → GradedWhen W ps c (Refused k i)
+  -- rule R1
+  too-many : W .length < length ps → GradedWhen W ps c (Refused 1 0)
+  -- rules R2 and R3, at the first bad place
+  bad-number : length ps ≤ W .length → (k i : ℕ) → First W ps k i → GradedWhen W ps c (Refused k i)
   -- rule R20
-  bad-claim : ListWhen W true true ps verdicts.Good → T (not (finite (ofBits (W .format) c))) → GradedWhen W ps c (Refused 20 0)
+  bad-claim : length ps ≤ W .length → Allowed W ps → T (not (finite (floatOf W c))) → GradedWhen W ps c (Refused 20 0)
   -- rules Q2 to Q5
-  earned : ListWhen W true true ps verdicts.Good → T (finite (ofBits (W .format) c)) → (g : Graded) → Earns (W .format) (sumOf (W .format) ps) (ofBits (W .format) c) g
+  earned : length ps ≤ W .length → Allowed W ps → T (finite (floatOf W c)) → (g : Graded) → Earns (W .format) (sumOf (W .format) ps) (floatOf W c) g
       → GradedWhen W ps c g
+
+-- ---- what is promised of grades
+-- rule Q6, of the nearest sum and of a faithful one
+abbrev pub AtLeastNearest : Graded → Type 0
+AtLeastNearest g = (g ≡ Exact) ⊎ (g ≡ Nearest)
+
+abbrev pub NotWrong : Graded → Type 0
+NotWrong g = g ≡ Wrong → ⊥
+
+-- rule Q7
+abbrev pub OneGrade : Width → List ℕ → List ℕ → Type 0
+OneGrade W ps qs = (c : ℕ) → gradeOf W ps c ≡ gradeOf W qs c

@@ -4,10 +4,11 @@ use mathlib.Core.Path.{_≡_, refl, sym, ap, _∙_}
 use mathlib.Core.Logic.{_↔_}
 use mathlib.Core.Bool.{Bool, true, false, cond, not}
 use mathlib.Core.List.{List}
-use Prim.Native.Nat.{ℕ, zero, suc, _^_}
+use Prim.Native.Nat.{ℕ, zero, suc, _^_, _≤_}
 use native.Mathlib.Nat.{le-trans, mul-le-mul-right}
 use lib.Dec.{T, eqb, lit<, lit≤}
 use lib.IntN.{ℤ}
+use lib.ListN.{length}
 use lib.Ieee.{Float, Format, ofBits}
 use lib.Ieee.Bits.{is-true, is-false, ofBits-fits}
 use lib.Ieee.Scale.{finite}
@@ -20,14 +21,15 @@ use Rattle.kinds.specs.OutcomeLaws.{same}
 use Rattle.kinds.specs.declared.Verdict.{Verdict}
 use Rattle.kinds.specs.declared.Verdict.the-variants as verdicts
 use Rattle.judge.specs.Judge.{judged}
-use Rattle.judge.specs.Table.{ListWhen}
+use Rattle.judge.specs.Table as lists
+use Rattle.judge.specs.Table.{Allowed, Passed, ListWhen}
 use Rattle.judge.specs.FaultLaws.{most-doubles}
 use Rattle.judge.specs.JudgeLaws.{list-when, list-passed, list-allowed, list-refusal}
 use Rattle.sums.specs.Sums.{sumOf}
 use Rattle.sums.specs.SumLaws.{sum-at-most, sum-below-limit}
 use Rattle.grade.specs.Grade.{gradeAt, gradeOf, gradedHeard}
 use Rattle.grade.specs.Table as table
-use Rattle.grade.specs.Table.{Earns, GradedWhen, bad-list, bad-claim, earned}
+use Rattle.grade.specs.Table.{Earns, GradedWhen, too-many, bad-number, bad-claim, earned}
 use Rattle.grade.specs.SideLaws.{Inside}
 use Rattle.grade.specs.GradeLaws.{some-grade, grade-earned}
 use Rattle.grade.specs.AnswerLaws.{list-refused, claim-refused, claim-graded}
@@ -43,7 +45,9 @@ unfolding patternUnits
 roomy-doubles = record {
   inside = λ ps G. record {
     below = sum-below-limit (list-passed G .few) (list-allowed G);
-    largest = le-trans (le-trans (rw most-doubles at (sum-at-most doubles ps (list-allowed G))) (mul-le-mul-right (2 ^ 2074) (list-passed G .few))) (lit≤ tt);
+    largest =
+        le-trans (rw most-doubles at (sum-at-most doubles ps (list-allowed G)))
+        (le-trans (mul-le-mul-right (2 ^ 2074) (list-passed G .few)) (lit≤ tt));
   };
 }
 
@@ -100,23 +104,39 @@ module _ (W : Width) (R : Roomy W) (ps : List ℕ) (c : ℕ) where
   claim-number : T (finite (ofBits (W .format) c)) → Number (W .format) (ofBits (W .format) c)
   claim-number t = record { fit = ofBits-fits (W .format) c; fini = t }
 
+  -- a list that isn't too long, as the judge has it
+  few : length ps ≤ W .length → Passed W true true ps
+  few h = record { few = h; right-area = tt; right-parts = tt }
+
+  listed : {k i : ℕ} → ListWhen W true true ps (verdicts.Refused k i) → gradeOf W ps c ≡ Refused k i
+  listed {k} {i} L = list-refused W ps c k i (list-when W true true ps (verdicts.Refused k i) .1 L)
+
+  good : length ps ≤ W .length → Allowed W ps → judged W true true ps ≡ verdicts.Good
+  good h A = list-when W true true ps verdicts.Good .1 (lists.allowed (few h) A)
+
   row : {r : Graded} → GradedWhen W ps c r → gradeOf W ps c ≡ r
-  row (bad-list k i L) = list-refused W ps c k i (list-when W true true ps (verdicts.Refused k i) .1 L)
-  row (bad-claim L n) = claim-refused W ps c (list-when W true true ps verdicts.Good .1 L) (is-false (finite (ofBits (W .format) c)) n)
-  row (earned L t g E) =
-      claim-graded W ps c (list-when W true true ps verdicts.Good .1 L) (is-true (finite (ofBits (W .format) c)) t)
-      ∙ grade-earned (R .inside ps L) (claim-number t) g .1 E
+  row (too-many h) = listed (lists.too-many h)
+  row (bad-number h k i F) = listed (lists.bad-number (few h) k i F)
+  row (bad-claim h A n) = claim-refused W ps c (good h A) (is-false (finite (ofBits (W .format) c)) n)
+  row (earned h A t g E) =
+      claim-graded W ps c (good h A) (is-true (finite (ofBits (W .format) c)) t)
+      ∙ grade-earned (R .inside ps (lists.allowed (few h) A)) (claim-number t) g .1 E
 
   some-row : (r : Graded) × GradedWhen W ps c r
-  some-row = by (judged W true true ps) refl
+  some-row = by (list-when W true true ps (judged W true true ps) .0 refl)
     where
-      claimed : ListWhen W true true ps verdicts.Good → (b : Bool) → finite (ofBits (W .format) c) ≡ b → (r : Graded) × GradedWhen W ps c r
-      claimed L true e = let t : T (finite (ofBits (W .format) c)) = rw e tt in (_, earned L t _ (some-grade (R .inside ps L) (claim-number t)))
-      claimed L false e = (_, bad-claim L (rw e tt))
+      claimed : length ps ≤ W .length → Allowed W ps → (b : Bool) → finite (ofBits (W .format) c) ≡ b → (r : Graded) × GradedWhen W ps c r
+      claimed h A true e =
+          let t : T (finite (ofBits (W .format) c)) = rw e tt in
+          (_, earned h A t _ (some-grade (R .inside ps (lists.allowed (few h) A)) (claim-number t)))
+      claimed h A false e = (_, bad-claim h A (rw e tt))
 
-      by : (v : Verdict) → judged W true true ps ≡ v → (r : Graded) × GradedWhen W ps c r
-      by verdicts.Good e = claimed (list-when W true true ps verdicts.Good .0 e) (finite (ofBits (W .format) c)) refl
-      by (verdicts.Refused k i) e = (_, bad-list k i (list-when W true true ps (verdicts.Refused k i) .0 e))
+      by : {v : Verdict} → ListWhen W true true ps v → (r : Graded) × GradedWhen W ps c r
+      by (lists.too-many h) = (_, too-many h)
+      by (lists.wrong-area h a) = absurd a
+      by (lists.wrong-parts h a b) = absurd b
+      by (lists.bad-number P k i F) = (_, bad-number (P .few) k i F)
+      by (lists.allowed P A) = claimed (P .few) A (finite (ofBits (W .format) c)) refl
 
   pub graded-when : (r : Graded) → (gradeOf W ps c ≡ r) ↔ GradedWhen W ps c r
   graded-when = exactly (gradeOf W ps c) (GradedWhen W ps c) (λ r. row) some-row
@@ -126,9 +146,10 @@ module _ (W : Width) (R : Roomy W) (ps : List ℕ) (c : ℕ) where
 
   -- a refusal's number is of the table, its place is one of a list, and is told as the table says
   pub graded-refusal : {k i : ℕ} → GradedWhen W ps c (Refused k i) → Refusal (W .length) k i
-  graded-refusal (bad-list k i L) = list-refusal L
-  graded-refusal (bad-claim L n) = at-place-0 (lit< tt)
-  graded-refusal (earned L t g E) = absurd (is-grade E)
+  graded-refusal (too-many h) = at-place-0 (lit< tt)
+  graded-refusal (bad-number h k i F) = list-refusal (lists.bad-number (few h) k i F)
+  graded-refusal (bad-claim h A n) = at-place-0 (lit< tt)
+  graded-refusal (earned h A t g E) = absurd (is-grade E)
 
   pub graded-heard : (k : ℕ) (p : Place) → (gradedHeard (gradeOf W ps c) ≡ refused k p) ↔ Row (λ k i. GradedWhen W ps c (Refused k i)) k p
   graded-heard = hears gradedHeard Refused (λ k i. refl) (gradeOf W ps c) (graded-is (gradeOf W ps c))

@@ -10,20 +10,21 @@ use Rattle.kinds.specs.Limits.{doubles}
 use Rattle.kinds.specs.Outcome.{outcome}
 use Rattle.kinds.specs.OutcomeLaws.{determined}
 use Rattle.grade.specs.Grade.{gradeOf, gradedHeard}
-use Rattle.grade.specs.Table.{GradedWhen, bad-list, bad-claim, earned}
+use Rattle.grade.specs.Table.{GradedWhen, too-many, bad-number, bad-claim, earned}
 use Rattle.grade.specs.TableLaws.{roomy-doubles, graded-heard, is-grade}
 use Rattle.grade.specs.declared.Graded.the-variants.{Refused}
 use Rattle.arrays.specs.Arrays.{tooManyOr4}
 use Rattle.arrays.specs.Codes.{Coded}
-use Rattle.arrays.specs.CodesLaws.{coded, answerIn, list-some, list-nonzero, values-call-left}
+use Rattle.arrays.specs.CodesLaws.{coded, answerIn, list-nonzero, values-call-left}
 use Rattle.grade_calls.specs.GradeArrays.{gradeArrays}
 use Rattle.grade_calls.specs.GradeArraysLaws.{grade-other, grade-called}
 
 -- no refusal has the number 0
 some : {ps : List ℕ} {c k i : ℕ} → GradedWhen doubles ps c (Refused k i) → k ≡ 0 → ⊥
-some (bad-list k i L) z = list-some L z
-some (bad-claim L n) z = omega arith
-some (earned L t g E) z = absurd (is-grade E)
+some (too-many h) z = omega arith
+some (bad-number h k i F) z = F .bad z
+some (bad-claim h A n) z = omega arith
+some (earned h A t g E) z = absurd (is-grade E)
 
 module _ (ps : List ℕ) (c : ℕ) (out : List ℕ) where
   -- ---- exactly when

@@ -29,7 +29,8 @@ returns-2 c =
     let after-grade = after-told .before .before in
     let a = after-grade .before .before .before .before .args in
     after-write .write-grade .ensures
-    ∙ sym (grade-answered (a .list .now) (a .claim) (a .out .now) (after-grade .before .if1 .left) Exact (sym (after-grade .grade .ensures) ∙ after-told .enum-told .given .1))
+    ∙ sym (grade-answered (a .list .now) (a .claim) (a .out .now) (after-grade .before .if1 .left) Exact
+    (sym (after-grade .grade .ensures) ∙ after-told .enum-told .given .1))
 
 returns-3 : tie.Need-returns-3
 returns-3 c =
@@ -38,7 +39,8 @@ returns-3 c =
     let after-grade = after-told .before .before in
     let a = after-grade .before .before .before .before .args in
     after-write .write-grade2 .ensures
-    ∙ sym (grade-answered (a .list .now) (a .claim) (a .out .now) (after-grade .before .if1 .left) Nearest (sym (after-grade .grade .ensures) ∙ after-told .enum-told2 .given .1))
+    ∙ sym (grade-answered (a .list .now) (a .claim) (a .out .now) (after-grade .before .if1 .left) Nearest
+    (sym (after-grade .grade .ensures) ∙ after-told .enum-told2 .given .1))
 
 returns-4 : tie.Need-returns-4
 returns-4 c =
@@ -47,7 +49,8 @@ returns-4 c =
     let after-grade = after-told .before .before in
     let a = after-grade .before .before .before .before .args in
     after-write .write-grade3 .ensures
-    ∙ sym (grade-answered (a .list .now) (a .claim) (a .out .now) (after-grade .before .if1 .left) Faithful (sym (after-grade .grade .ensures) ∙ after-told .enum-told3 .given .1))
+    ∙ sym (grade-answered (a .list .now) (a .claim) (a .out .now) (after-grade .before .if1 .left) Faithful
+    (sym (after-grade .grade .ensures) ∙ after-told .enum-told3 .given .1))
 
 returns-5 : tie.Need-returns-5
 returns-5 c =
@@ -56,7 +59,8 @@ returns-5 c =
     let after-grade = after-told .before .before in
     let a = after-grade .before .before .before .before .args in
     after-write .write-grade4 .ensures
-    ∙ sym (grade-answered (a .list .now) (a .claim) (a .out .now) (after-grade .before .if1 .left) Wrong (sym (after-grade .grade .ensures) ∙ after-told .enum-told4 .given .1))
+    ∙ sym (grade-answered (a .list .now) (a .claim) (a .out .now) (after-grade .before .if1 .left) Wrong
+    (sym (after-grade .grade .ensures) ∙ after-told .enum-told4 .given .1))
 
 returns-6 : tie.Need-returns-6
 returns-6 c =
