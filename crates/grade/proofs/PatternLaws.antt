@@ -79,7 +79,8 @@ module _ (f : Format) where
 
       there : T (a || (b && c)) → d ≡ 0
       there = either a b c (λ u. apart-none f x (value f y) (ap (λ (r : ℕ). value f (ofBits f r)) (eqb→eq p q u)))
-          (λ u v. apart-none f x (value f y) (zero-value f x (rest-zero p h s (eqb→eq (p % top f) 0 u)) ∙ sym (zero-value f y (rest-zero q k t (eqb→eq (q % top f) 0 v)))))
+          (λ u v. apart-none f x (value f y)
+          (zero-value f x (rest-zero p h s (eqb→eq (p % top f) 0 u)) ∙ sym (zero-value f y (rest-zero q k t (eqb→eq (q % top f) 0 v)))))
 
       back : d ≡ 0 → T (a || (b && c))
       back z =
@@ -89,7 +90,7 @@ module _ (f : Format) where
                 let n : magnitude f x ≡ 0 = sym (value-mag f x) ∙ ap natAbs e ∙ value-mag f y ∙ m in
                 right a b c (eq→eqb (zero-rest p h s n)) (eq→eqb (zero-rest q k t m))
             | inr m ↦
-                let one : x ≡ y =
-                same-float (number-of p h s) (number-of q k t) e (λ (o : value f x ≡ pos 0). absurd (omega (arith, sym (value-mag f y) ∙ ap natAbs (sym e ∙ o)))) in
+                let some : value f x ≡ pos 0 → ⊥ = λ o. omega (arith, sym (value-mag f y) ∙ ap natAbs (sym e ∙ o)) in
+                let one : x ≡ y = same-float (number-of p h s) (number-of q k t) e (λ o. absurd (some o)) in
                 left a b c (eq→eqb (sym (bits-of p h s) ∙ ap (toBits f) one ∙ bits-of q k t))
           ]

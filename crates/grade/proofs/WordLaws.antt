@@ -86,7 +86,10 @@ pub near-bits : (f : Format) (S : ℤ) → natAbs S < limit f → toBits f (near
 near-bits f S l =
     ap (toBits f) (nearest-round f false S)
     ∙ round-bits f (signOf false S) (natAbs S) (rnd-finite f l)
-    ∙ ap (λ (b : ℕ). cond (signOf false S) (top f) 0 + b) (sym (zero-add (dropped (prec f) (natAbs S) * hid f + closest (natAbs S) (2 ^ dropped (prec f) (natAbs S)))))
+    ∙ ap (λ (b : ℕ). cond (signOf false S) (top f) 0 + b) (sym (zero-add (k * hid f + closest (natAbs S) (2 ^ k))))
+  where
+    k : ℕ
+    k = dropped (prec f) (natAbs S)
 
 module _ (S : ℤ) (l : natAbs S < limit binary64) {p : ℕ} (e : p ≡ toBits binary64 (near binary64 S)) where
   abbrev f : Format

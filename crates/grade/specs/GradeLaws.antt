@@ -96,7 +96,8 @@ module _ {f : Format} {S : ℤ} (I : Inside f S) where
         level : natAbs (value f (far f S) -ℤ S) ≡ natAbs (value f (near f S) -ℤ S)
         level = le-antisymm (M .best (near f S) (N .number)) (N .best (far f S) (M .number))
 
-        bits-apart : (toBits f (far f S) ≡ toBits f (near f S) + 1) ⊎ (toBits f (near f S) ≡ toBits f (far f S) + 1) → toBits f (far f S) ≡ toBits f (near f S) → ⊥
+        bits-apart : (toBits f (far f S) ≡ toBits f (near f S) + 1) ⊎ (toBits f (near f S) ≡ toBits f (far f S) + 1)
+            → toBits f (far f S) ≡ toBits f (near f S) → ⊥
         bits-apart (inl s) e = omega (arith, s, e)
         bits-apart (inr s) e = omega (arith, s, e)
 

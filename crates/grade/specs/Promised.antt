@@ -1,5 +1,5 @@
--- Rule Q6 for the nearest sum: it is graded exact or nearest. And of any accepted list: a faithful double isn't graded wrong, both zeros have one grade, and the
--- grade goes by the exact sum alone. Assumes nothing.
+-- Rule Q6 for the nearest sum: it is graded exact or nearest. Of any accepted list a faithful double isn't graded wrong; and rule Q1: both zeros have one
+-- grade, for every list. Assumes nothing.
 use mathlib.Core.Path.{_≡_, refl, sym, ap, subst, _∙_}
 use mathlib.Core.Logic.{_⊎_, inl, inr}
 use mathlib.Core.Bool.{true}
