@@ -13,7 +13,8 @@
  * kewohiata_walk_faithful. They need the calling thread to round to nearest, to keep subnormal results (no flush-to-zero) and to read subnormal operands as
  * they are (no denormals-as-zero), and to trap no floating-point exception; else they may return 0 with a wrong sum. A program that was linked with -Ofast
  * or -ffast-math may start with both switched on: ask kewohiata_environment once per thread, before the first of these calls. All other calls work on whole
- * numbers, make doubles by their bits, and answer the same in every environment: nearest, parts, registers, weights, sheets.
+ * numbers, make doubles by their bits, and answer the same in every environment: nearest, parts, grades, registers, weights,
+ * sheets.
  *
  * Outside the contract (rule C8), and nothing is promised of such a call: a null pointer (also with length 0), a length that isn't the array's, an array
  * that is not readable or not writable as its type says, an array of uint64_t or double that isn't aligned as its type is, two arrays of a call that
@@ -34,10 +35,10 @@ extern "C" {
 #endif
 
 /* Below 1.0.0 a call's form and its answers may still change, and the second number tells it. */
-#define KEWOHIATA_VERSION "0.5.0"
-enum { KEWOHIATA_VERSION_MAJOR = 0, KEWOHIATA_VERSION_MINOR = 5, KEWOHIATA_VERSION_PATCH = 0 };
+#define KEWOHIATA_VERSION "0.6.0"
+enum { KEWOHIATA_VERSION_MAJOR = 0, KEWOHIATA_VERSION_MINOR = 6, KEWOHIATA_VERSION_PATCH = 0 };
 
-/* The refusals, rules R1 to R17. A code has room for numbers up to 31; 18 and above are kept for later ones. */
+/* The refusals, rules R1 to R17 and R20. A code has room for numbers up to 31; 18, 19 and those above 20 are kept for later ones. */
 enum kewohiata_refusals {
     KEWOHIATA_ACCEPTED = 0,
     KEWOHIATA_TOO_MANY = 1,          /* more than 4,094 numbers */
@@ -56,7 +57,8 @@ enum kewohiata_refusals {
     KEWOHIATA_NOT_A_WEIGHT = 14,     /* a weight below 0 or above 1, no whole multiple of 2^-30, or -0; its place is told */
     KEWOHIATA_WRONG_TOTAL = 15,      /* the weights' exact sum isn't 1 */
     KEWOHIATA_NO_SUCH_CLOCK = 16,    /* the leaver's place is none of the list */
-    KEWOHIATA_NO_OTHER_WEIGHT = 17   /* all weights but the leaver's are zero */
+    KEWOHIATA_NO_OTHER_WEIGHT = 17,  /* all weights but the leaver's are zero */
+    KEWOHIATA_CLAIM_NOT_FINITE = 20  /* the claim is a NaN or infinity */
 };
 
 /* The lengths. */
@@ -89,6 +91,9 @@ enum kewohiata_states {
     KEWOHIATA_DONE_ROUNDS = 2 /* of a finished walk: the sum's pattern and the rounds; the rest is 0 */
 };
 enum kewohiata_kinds { KEWOHIATA_MORE = 1, KEWOHIATA_DONE = 2 };
+
+/* The grades of a claimed sum, rules Q2 to Q5, the best first. */
+enum kewohiata_grades { KEWOHIATA_GRADE_EXACT = 0, KEWOHIATA_GRADE_NEAREST = 1, KEWOHIATA_GRADE_FAITHFUL = 2, KEWOHIATA_GRADE_WRONG = 3 };
 
 /* ---- helpers: none of them is a call into the archive */
 
@@ -181,6 +186,11 @@ uint32_t kewohiata_list_nearest(const uint64_t *list, size_t list_length, uint64
  * parts: 1 to 8 doubles, all of which are written. out: 1 number, 1 where the parts add up to the exact sum and else 0.
  * Refusals: 1; 4; 5; 2 or 3 of the lowest bad place. */
 uint32_t kewohiata_list_parts(const uint64_t *list, size_t list_length, double *parts, size_t parts_length, uint64_t *out, size_t out_length);
+
+/* Grades a sum that came from elsewhere (rules Q1 to Q5): whether it is the exact sum; else the nearest double; else a faithful one; else wrong.
+ * claim: its pattern, of any finite double, also beyond 2^1000; -0 counts as zero. out: 1 number, a grade.
+ * Refusals: 1; 4; 2 or 3 of the lowest bad place; 20. */
+uint32_t kewohiata_list_grade(const uint64_t *list, size_t list_length, uint64_t claim, uint64_t *out, size_t out_length);
 
 /* ---- a register: 33 words, the lowest first, a whole number of units of 2^-1074 in two's complement; 33 zeros are the empty one. Time: that of 33 words. */
 

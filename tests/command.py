@@ -4,6 +4,7 @@ import os
 import sys
 
 HELP = {"-h", "--help"}
+BEHIND = {"sum.py", "grade.py"}  # which a few lines of shell stand before
 
 
 class Trouble(Exception):
@@ -13,7 +14,7 @@ class Trouble(Exception):
 def named():
     """The command as one would call it from the root."""
     folder, name = os.path.split(os.path.realpath(sys.argv[0]))
-    return os.path.join(os.path.basename(folder), name if name != "sum.py" else "sum")
+    return os.path.join(os.path.basename(folder), name.removesuffix(".py") if name in BEHIND else name)
 
 
 def say(text):

@@ -131,6 +131,36 @@ def check_sum():
     expect("scripts/sum: refused, with no standard error", shell(f"scripts/sum {REFUSED} 2>&-") == (1, "refused 2 at 2\n", []))
 
 
+def check_grade():
+    """Each grade of a list whose sum lies between two doubles or is one, refusals of the sheet and of the claim, and troubles."""
+    between = "examples/between.sheet"  # 1, half of its last place, and a unit
+    for name, line, status, out, said in (
+        ("exact", f"scripts/grade {SHEET} 1", 0, "grade exact\n", "exact: "),
+        ("minus zero", "scripts/grade tests/sheets/both_zeros.sheet -0.0", 0, "grade exact\n", "exact: "),
+        ("nearest", f"scripts/grade {between} pattern:3FF0000000000001", 0, "grade nearest\n", "nearest: "),
+        ("nearest in decimal", f"scripts/grade {between} 1.0000000000000002", 0, "grade nearest\n", "nearest: "),
+        ("faithful", f"scripts/grade {between} 0x1p0", 0, "grade faithful\n", "faithful: "),
+        ("wrong", f"scripts/grade - 1.0000000000000004 <{between}", 0, "grade wrong\n", "wrong: "),
+        ("far off", f"scripts/grade {between} pattern:7FEFFFFFFFFFFFFF", 0, "grade wrong\n", "wrong: "),
+        ("refused", f"scripts/grade {REFUSED} 1", 1, "refused 2 at 2\n", "place 2"),
+        ("a bad list before a bad claim", f"scripts/grade {REFUSED} inf", 1, "refused 2 at 2\n", "place 2"),
+        ("no claim", f"scripts/grade {SHEET} -inf", 1, "refused 20\n", "refused 20: the claim"),
+        ("no sheet", "scripts/grade - 1 </dev/null", 1, "refused 11\n", "refused 11: "),
+        ("no number", f"scripts/grade {SHEET} one", 2, "", "'one': no number"),
+        ("beyond the doubles", f"scripts/grade {SHEET} 1e999", 2, "", "beyond the largest double"),
+        ("no file", "scripts/grade 'no such file' 1", 2, "", "No such file"),
+        ("one word", f"scripts/grade {SHEET}", 2, "", "say one FILE"),
+        ("a folder as input", "scripts/grade - 1 <tests", 2, "", "standard input is a folder"),
+        ("closed output", f"scripts/grade {SHEET} 1 >&-", 2, "", "standard output is closed"),
+        ("full output", f"scripts/grade {SHEET} 1 >/dev/full", 2, "", "standard output: "),
+        ("no kit", f"RATTLE_HOME= PATH=/nothing $(command -v sh) scripts/grade {SHEET} 1", 2, "", None),
+    ):
+        COUNTS["statuses"] += 1
+        got = shell(line)
+        held = said is None or (len(got[2]) == 1 and got[2][0].startswith("scripts/grade: ") and said in got[2][0])
+        expect(f"scripts/grade: {name}", got[:2] == (status, out) and held, got)
+
+
 def check_example():
     expected = read("examples/leaver.out")
     for name, line, status, out, said in (
@@ -288,6 +318,7 @@ def main():
     built.need(built.ARCHIVE)
     check_help()
     check_sum()
+    check_grade()
     check_example()
     check_rooms()
     check_install()

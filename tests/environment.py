@@ -22,6 +22,7 @@ import built  # noqa: E402
 import command  # noqa: E402
 import exact  # noqa: E402
 import farewell  # noqa: E402
+import grades  # noqa: E402
 import kit  # noqa: E402
 import samples  # noqa: E402
 
@@ -44,7 +45,7 @@ ENVIRONMENTS = {
     "both, upward": USUAL | UP | FLUSH | ZEROED,
 }
 GOOD = {"as usual", "with flags raised"}
-ENVIRONMENT, NEAREST, ADD, WITHDRAW, FAITHFUL, LIST_NEAREST, WORDS_ROUND, PARTS, WALK, READ, HAND_ON, WRITE, MERGE = range(13)
+ENVIRONMENT, NEAREST, ADD, WITHDRAW, FAITHFUL, LIST_NEAREST, WORDS_ROUND, PARTS, WALK, READ, HAND_ON, WRITE, MERGE, GRADE = range(14)
 
 TINY = [exact.ONE, 0x36EB6, exact.ONE | exact.SIGN]
 LISTS = 150
@@ -54,10 +55,11 @@ WEIGHTS = [0x3E28000000000000, 0, 0x3E10000000000000, 0x3E10000000000000, 0x3FEF
 NAMES = {
     "TOO_MANY": 1, "NOT_FINITE": 2, "TOO_LARGE": 3, "WRONG_LENGTH": 4, "WRONG_PARTS": 5, "NO_SUCH_BLOCK": 6, "BLOCK_NOT_PENDING": 7, "UNSOUND_STATE": 8,
     "REGISTER_FULL": 9, "NO_FINITE_DOUBLE": 10, "SHEET_TOO_SHORT": 11, "OTHER_VERSION": 12, "SHEET_TOO_LONG": 13, "NOT_A_WEIGHT": 14,
-    "WRONG_TOTAL": 15, "NO_SUCH_CLOCK": 16, "NO_OTHER_WEIGHT": 17, "LIST_MOST": 4094,
+    "WRONG_TOTAL": 15, "NO_SUCH_CLOCK": 16, "NO_OTHER_WEIGHT": 17, "CLAIM_NOT_FINITE": 20, "GRADE_EXACT": 0, "GRADE_NEAREST": 1, "GRADE_FAITHFUL": 2,
+    "GRADE_WRONG": 3, "LIST_MOST": 4094,
     "LIST_BYTES_MOST": 32752, "BLOCK": 64, "STATE": 10, "FAITHFUL": 2, "VALUE": 1, "SUM_BYTES": 16, "WORDS": 33, "REGISTER_BYTES": 264, "PARTS_MOST": 8,
     "ROUNDS_MOST": 51, "SHEET_HEADER": 5, "SHEET_BYTES_MOST": 32757, "ACCEPTED": 0, "MORE": 1, "DONE": 2, "STATE_KIND": 0, "STATE_SIGMA": 1, "STATE_T": 2,
-    "STATE_TAU": 3, "STATE_N": 4, "STATE_PENDING": 5, "STATE_ROUNDS": 6, "DONE_SUM": 1, "DONE_ROUNDS": 2, "VERSION_MAJOR": 0, "VERSION_MINOR": 5,
+    "STATE_TAU": 3, "STATE_N": 4, "STATE_PENDING": 5, "STATE_ROUNDS": 6, "DONE_SUM": 1, "DONE_ROUNDS": 2, "VERSION_MAJOR": 0, "VERSION_MINOR": 6,
     "VERSION_PATCH": 0,
 }  # fmt: skip
 
@@ -168,6 +170,8 @@ def wanted(call, numbers):
         return [whole(numbers, 1).round()]
     if call == HAND_ON:
         return farewell.hand_on(WEIGHTS, len(numbers) % 5, 5)
+    if call == GRADE:
+        return [exact.nearest_sum(numbers), grades.grade(numbers, exact.nearest_sum(numbers))]
     if call == READ:
         return (numbers + [0] * 32)[:32] + [len(numbers)]
     if call == WRITE:
@@ -180,7 +184,7 @@ def wanted(call, numbers):
 
 def check_calls(name, program, prefix, some):
     """The calls on whole numbers answer the same everywhere; the walk's are counted where they are wrong."""
-    calls = [NEAREST, ADD, WITHDRAW] + [LIST_NEAREST, WORDS_ROUND, PARTS, READ, HAND_ON, WRITE, MERGE]
+    calls = [NEAREST, ADD, WITHDRAW] + [LIST_NEAREST, WORDS_ROUND, PARTS, READ, HAND_ON, WRITE, MERGE, GRADE]
     right = {(call, k): wanted(call, numbers) for call in calls for k, numbers in enumerate(some)}
     for what, control in ENVIRONMENTS.items():
         asked = [(call, k) for call in calls for k in range(len(some))]

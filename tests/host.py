@@ -30,6 +30,7 @@ sys.path[:0] = [HERE, os.path.join(HERE, "host")]
 import archive  # noqa: E402
 import built  # noqa: E402
 import calls  # noqa: E402
+import claims  # noqa: E402
 import drawn  # noqa: E402
 import farewells  # noqa: E402
 import fixed  # noqa: E402
@@ -39,7 +40,7 @@ import shuffles  # noqa: E402
 import writings  # noqa: E402
 
 PLACE = os.path.join(ROOT, "target", "host")
-OTHERS = farewells, merges, shuffles, writings
+OTHERS = claims, farewells, merges, shuffles, writings
 FIXED = fixed.GROUPS + [group for other in OTHERS for group in other.FIXED]
 DRAWN = drawn.GROUPS + [group for other in OTHERS for group in other.DRAWN]
 LISTS = 20000
@@ -66,6 +67,7 @@ REFUSALS = {
     "kewohiata_weights_hand_on": {0, 1, 2, 3, 4, 14, 15, 16, 17},
     "kewohiata_sheet_write": {0, 1, 4},
     "kewohiata_words_merge": {0, 4, 9},
+    "kewohiata_list_grade": SUMS | {20},
 }
 
 

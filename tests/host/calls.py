@@ -1,7 +1,8 @@
 """The C calls: each as a request to the driver, with the answer that docs/SCOPE.md asks for.
 
-The answers come from the models of tests/exact.py (sums, parts and registers in whole units), tests/walk.py (the faithful walk) and tests/farewell.py
-(weights); what is said here is how they lie in arrays and which lengths are refused. Sheets are read and written as by tests/sheets.py. An array is its bytes, of whatever its elements are.
+The answers come from the models of tests/exact.py (sums, parts and registers in whole units), tests/walk.py (the faithful walk), tests/grades.py (grades) and
+tests/farewell.py (weights); what is said here is how they lie in arrays and which lengths are refused. Sheets are read and written as by tests/sheets.py. An
+array is its bytes, of whatever its elements are.
 """
 import collections
 import functools
@@ -9,6 +10,7 @@ import struct
 
 import exact
 import farewell
+import grades
 import sheets
 import walk
 from exact import INFINITY, NAN, SIGN, Refused
@@ -31,6 +33,7 @@ CALLS = {
     "kewohiata_weights_hand_on": "QQ",
     "kewohiata_sheet_write": "QBQ",
     "kewohiata_words_merge": "QQQ",
+    "kewohiata_list_grade": "QQ",
 }
 NUMBERS = {call: number for number, call in enumerate(CALLS)}
 SIZE, SUM, REGISTER = 8, 16, 8 * exact.WORDS  # bytes of a number, of a sum in bytes, and of a register
@@ -296,6 +299,16 @@ def merged(one, other, out, twice=False):
         return [one, other, packed(register.words)], None
 
     return asked("kewohiata_words_merge", [one, other, out], model, int(twice))
+
+
+# ---- grades
+def graded(data, claim, out):
+    """1, 4, 2 or 3, 20."""
+    def model():
+        array_lengths(data, len(out) == SIZE)
+        return [data, packed([grades.grade(unpacked(data), claim)])], None
+
+    return asked("kewohiata_list_grade", [data, out], model, claim)
 
 
 # ---- weights

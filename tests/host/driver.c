@@ -41,6 +41,7 @@ static uint64_t call(const struct request *r)
     case 13: return kewohiata_weights_hand_on(LENT(0, numbers), r->number, LENT(1, numbers));
     case 14: return kewohiata_sheet_write(LENT(0, numbers), LENT(1, bytes), LENT(2, numbers));
     case 15: return kewohiata_words_merge(LENT(0, numbers), LENT(r->number ? 0 : 1, numbers), LENT(2, numbers)); /* or the first register twice */
+    case 16: return kewohiata_list_grade(LENT(0, numbers), r->number, LENT(1, numbers));
     default: return UINT64_MAX;
     }
 }

@@ -94,6 +94,13 @@ static uint32_t handed_on(size_t n)
     return kewohiata_weights_hand_on(weights, 5, n % 5, values, 5);
 }
 
+/* the nearest sum, and its grade */
+static uint32_t graded(size_t n)
+{
+    uint32_t code = kewohiata_list_nearest(list, n, values, KEWOHIATA_VALUE);
+    return code ? code : kewohiata_list_grade(list, n, values[0], values + 1, KEWOHIATA_VALUE);
+}
+
 static uint32_t call(uint64_t which, size_t n)
 {
     switch (which) {
@@ -110,6 +117,7 @@ static uint32_t call(uint64_t which, size_t n)
     case 10: return handed_on(n);
     case 11: return sheet_written(n);
     case 12: return merged(n);
+    case 13: return graded(n);
     default: return UINT32_MAX;
     }
 }

@@ -3,8 +3,9 @@ import itertools
 
 import exact
 import walk
-from calls import SIZE, SUM, VALUES, array_nearest, entered, packed, parted, rounded, started, step_of, stepped, summed, ten, total_of, undivided, unpacked
-from exact import ONES, UNIT
+from calls import SIZE, SUM, VALUES, array_nearest, entered, graded, nearest_of, packed, parted, rounded, started, step_of, stepped, summed, ten
+from calls import total_of, undivided, unpacked
+from exact import INFINITY, ONES, SIGN, UNIT
 
 ORDERS = [walk.rising, walk.falling, walk.seeded]
 ADD, WITHDRAW = ENTRIES = [(f"kewohiata_register_{entry}", f"kewohiata_words_{entry}") for entry in ("add", "withdraw")]
@@ -20,6 +21,22 @@ def unread(chance):
 
 
 # ---- lists
+def beside(pattern, steps):
+    """The pattern so many doubles above another one, in the order of their values; both zeros are one, and there is none beyond the largest."""
+    place = (-(pattern % SIGN) if pattern >= SIGN else pattern) + steps
+    place = max(min(place, INFINITY - 1), 1 - INFINITY)
+    return SIGN | -place if place < 0 else place
+
+
+def near(patterns):
+    """The nearest pattern of a list and two on either side, or those around 0 where it is refused."""
+    try:
+        middle = nearest_of(tuple(patterns))
+    except exact.Refused:
+        middle = 0
+    return [beside(middle, steps) for steps in (-2, -1, 0, 1, 2)]
+
+
 def list_requests(chance, patterns):
     """Every call on a list. The arrays hold what they happen to hold."""
     data, n = packed(patterns), len(patterns)
@@ -29,6 +46,8 @@ def list_requests(chance, patterns):
         yield started(call, data, chance.randbytes(SIZE * n), chance.randbytes(SIZE * values))
     yield array_nearest(data, chance.randbytes(SIZE))
     yield parted(data, chance.randbytes(SIZE * chance.randint(1, 8)), chance.randbytes(SIZE))
+    for claim in near(patterns):
+        yield graded(data, claim, chance.randbytes(SIZE))
 
 
 def run_requests(chance, patterns, order):

@@ -8,7 +8,7 @@ use lib.ListN.{replicate}
 use Rattle.kinds.specs.Outcome.{outcome}
 use Rattle.kinds.specs.Heard.{nowhere, at, refused, more, done, nearest, parts, accepted, count}
 use Rattle.cases.specs.Calls.{Given, Case, beforehand, byteBeforehand, least, greatest}
-use Rattle.cases.specs.Calls.{opening, step, faithfulSum, nearestSum, sumInParts, round, merge, sheet, write, handOn}
+use Rattle.cases.specs.Calls.{opening, step, faithfulSum, nearestSum, sumInParts, round, merge, sheet, write, handOn, grading}
 
 -- a state with t = tau = +0; one with a given t and tau, and one with a given sigma, of one number
 abbrev opened : ℕ → ℕ → ℕ → Given
@@ -260,4 +260,23 @@ bounds =
       call = handOn (0x3FE0000000000000 ∷ 0 ∷ 0x3FE0000000000000 ∷ []) 1 3;
       expected = outcome accepted (0x3FE0000000000000 ∷ 0 ∷ 0x3FE0000000000000 ∷ []);
     }
+    -- rules Q2 to Q5, around 1, 2^-53 and below it: at the tie the even neighbour is nearest and the odd one faithful, a unit above it the other way round
+    ∷ record { call = grading (0x3FF0000000000000 ∷ 0x3CA0000000000000 ∷ []) 0x3FF0000000000000; expected = outcome (count 1) [] }
+    ∷ record { call = grading (0x3FF0000000000000 ∷ 0x3CA0000000000000 ∷ []) 0x3FF0000000000001; expected = outcome (count 2) [] }
+    ∷ record { call = grading (0x3FF0000000000000 ∷ 0x3CA0000000000000 ∷ 1 ∷ []) 0x3FF0000000000000; expected = outcome (count 2) [] }
+    ∷ record { call = grading (0x3FF0000000000000 ∷ 0x3CA0000000000000 ∷ 1 ∷ []) 0x3FF0000000000001; expected = outcome (count 1) [] }
+    ∷ record { call = grading (0xBFF0000000000000 ∷ 0xBCA0000000000000 ∷ []) 0xBFF0000000000001; expected = outcome (count 2) [] }
+    -- only the neighbour on S's side: a unit above 1 the next above it, a unit below 1 the next below it
+    ∷ record { call = grading (0x3FF0000000000000 ∷ 1 ∷ []) 0x3FF0000000000000; expected = outcome (count 1) [] }
+    ∷ record { call = grading (0x3FF0000000000000 ∷ 1 ∷ []) 0x3FF0000000000001; expected = outcome (count 2) [] }
+    ∷ record { call = grading (0x3FF0000000000000 ∷ 1 ∷ []) 0x3FEFFFFFFFFFFFFF; expected = outcome (count 3) [] }
+    ∷ record { call = grading (0x3FF0000000000000 ∷ 0x8000000000000001 ∷ []) 0x3FEFFFFFFFFFFFFF; expected = outcome (count 2) [] }
+    ∷ record { call = grading (0x3FF0000000000000 ∷ 0x8000000000000001 ∷ []) 0x3FF0000000000001; expected = outcome (count 3) [] }
+    -- where S is a double: exact, or wrong; -0 is zero; a claim may be above 2^1000, the largest double too
+    ∷ record { call = grading (0x4630000000000000 ∷ 0x3FF0000000000000 ∷ 0xC630000000000000 ∷ []) 0x3FF0000000000000; expected = outcome (count 0) [] }
+    ∷ record { call = grading (0x3FF0000000000000 ∷ []) 0x3FF0000000000001; expected = outcome (count 3) [] }
+    ∷ record { call = grading (0x3FF0000000000000 ∷ 0xBFF0000000000000 ∷ []) 0x8000000000000000; expected = outcome (count 0) [] }
+    ∷ record { call = grading [] 1; expected = outcome (count 3) [] }
+    ∷ record { call = grading (0x7E70000000000000 ∷ 0x7E70000000000000 ∷ []) 0x7E80000000000000; expected = outcome (count 0) [] }
+    ∷ record { call = grading (0x3FF0000000000000 ∷ []) 0x7FEFFFFFFFFFFFFF; expected = outcome (count 3) [] }
     ∷ []

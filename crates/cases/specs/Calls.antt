@@ -15,6 +15,7 @@ use Rattle.sums.specs.Sums.{nearestOf, partsOf}
 use Rattle.sheet.specs.Sheet.{readOf}
 use Rattle.sheet.specs.Write.{writtenOf, writtenHeard}
 use Rattle.weights.specs.Weights.{handedOf, handedHeard}
+use Rattle.grade.specs.Grade.{gradeOf, gradedHeard}
 
 -- what an area holds before the call, at each place: 1.5, a number that is in no list and no answer of the table
 abbrev pub beforehand : ℕ
@@ -61,6 +62,8 @@ pub data Call : Type 0 where
   write : List ℕ → ℕ → Call
   -- handing on the weight of a weight list's clock at a place, to an area of a length
   handOn : List ℕ → ℕ → ℕ → Call
+  -- the grade of a claim, by its pattern, of a list's sum
+  grading : List ℕ → ℕ → Call
 
 -- what its caller hears, beside the patterns or words of the lent area afterwards
 abbrev pub Result : Type 0
@@ -95,6 +98,7 @@ resultOf (write ps m) =
 resultOf (handOn ps place m) =
     let r = handedOf doubles ps place (replicate m beforehand) in
     outcome (handedHeard (r .answer)) (r .area)
+resultOf (grading ps c) = outcome (gradedHeard (gradeOf doubles ps c)) []
 
 -- one row of the table
 pub record Case : Type 0 where

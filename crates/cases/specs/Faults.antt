@@ -1,4 +1,4 @@
--- Calls with two faults at once, where rules O1 to O5 and O7 to O9 say which is told, and some with the later fault alone: a table of the same kind.
+-- Calls with two faults at once, where rules O1 to O5 and O7 to O10 say which is told, and some with the later fault alone: a table of the same kind.
 -- Definitions only.
 -- Patterns: 7FF0000000000000 is an infinity, FFF8000000000000 a NaN, and 7E70000000000001 the first double above 2^1000.
 use mathlib.Core.List.{List, [], _∷_, _++_}
@@ -7,7 +7,7 @@ use lib.ListN.{replicate}
 use Rattle.kinds.specs.Outcome.{outcome}
 use Rattle.kinds.specs.Heard.{nowhere, at, refused}
 use Rattle.cases.specs.Calls.{Given, Case, beforehand, byteBeforehand, least, greatest}
-use Rattle.cases.specs.Calls.{faithfulWithin, step, nearestSum, sumInParts, add, withdraw, round, merge, sheet, write, handOn}
+use Rattle.cases.specs.Calls.{faithfulWithin, step, nearestSum, sumInParts, add, withdraw, round, merge, sheet, write, handOn, grading}
 
 abbrev numbered : ℕ → ℕ → Given
 numbered n pending = record { sigma = 0x4070000000000000; t = 0; tau = 0; n = n; pending = pending; rounds = 0 }
@@ -74,4 +74,10 @@ faults =
     ∷ record { call = handOn [] 0 0; expected = outcome (refused 15 nowhere) [] }
     ∷ record { call = handOn (0x3FF0000000000000 ∷ []) 1 1; expected = outcome (refused 16 nowhere) (beforehand ∷ []) }
     ∷ record { call = handOn (0x3FF0000000000000 ∷ []) 0 1; expected = outcome (refused 17 nowhere) (beforehand ∷ []) }
+    -- rule O10: 1, 2 and 3 before 20, and 20 alone
+    ∷ record { call = grading (replicate 4095 0) 0x7FF0000000000000; expected = outcome (refused 1 nowhere) [] }
+    ∷ record { call = grading (0 ∷ 0xFFF8000000000000 ∷ []) 0x7FF0000000000000; expected = outcome (refused 2 (at 1)) [] }
+    ∷ record { call = grading (0x7E70000000000001 ∷ []) 0xFFF8000000000000; expected = outcome (refused 3 (at 0)) [] }
+    ∷ record { call = grading [] 0xFFF0000000000000; expected = outcome (refused 20 nowhere) [] }
+    ∷ record { call = grading (0x3FF0000000000000 ∷ []) 0x7FF0000000000001; expected = outcome (refused 20 nowhere) [] }
     ∷ []

@@ -32,6 +32,8 @@ use Rattle.part_calls.specs.PartArrays.{partsArrays}
 use Rattle.register_calls.specs.RegisterArrays.{addArrays, withdrawArrays, mergeArrays, roundArrays}
 use Rattle.sheet_calls.specs.SheetArrays.{readArrays, writeArrays}
 use Rattle.weight_calls.specs.WeightArrays.{handOnArrays}
+use Rattle.grade.specs.Grade as Q
+use Rattle.grade_calls.specs.GradeArrays.{gradeArrays}
 
 abbrev numbers : List ℕ
 numbers = 0x4630000000000000 ∷ 0x4320000000000000 ∷ 0xC630000000000000 ∷ []
@@ -121,6 +123,19 @@ pub hands-on : handOnArrays (0x3FE0000000000000 ∷ 0x3FD0000000000000 ∷ 0x3FD
 unfolding judged firstFault faultOf H.weightGood H.weightOf H.patternFor H.total H.spread H.badWeight H.weighed H.handedAfter
     magnitude negative nearestFloat ofBits toBits
 hands-on = refl
+
+-- ---- grades: the odd neighbour of a tie is faithful; a NaN is no claim; another length of the array before that
+pub grades : gradeArrays (0x3FF0000000000000 ∷ 0x3CA0000000000000 ∷ []) 0x3FF0000000000001 (7 ∷ []) ≡ outcome 0 (2 ∷ [])
+unfolding gradeArrays judged firstFault faultOf Q.otherSide Q.gradeAt Q.gradedAfter magnitude nearestFloat value ofBits toBits
+grades = refl
+
+pub no-claim : gradeArrays [] 0x7FF8000000000000 (7 ∷ []) ≡ outcome 20 (7 ∷ [])
+unfolding gradeArrays judged firstFault Q.gradedAfter ofBits
+no-claim = refl
+
+pub four-before-twenty : gradeArrays [] 0x7FF8000000000000 [] ≡ outcome 4 []
+unfolding gradeArrays
+four-before-twenty = refl
 
 -- ---- in bytes: -1 is summed in 1 round, and its nearest sum tells none
 abbrev minusOne : List ℕ

@@ -22,6 +22,7 @@ use Rattle.rounds.specs.Round as R
 use Rattle.walk.specs.Walk as W
 use Rattle.sums.specs.Sums as S
 use Rattle.weights.specs.Weights as H
+use Rattle.grade.specs.Grade as Q
 use Rattle.kinds.specs.Outcome.{outcome}
 use Rattle.kinds.specs.Heard.{nowhere, at, Heard, refused, more, done, nearest, parts, accepted, count}
 use Rattle.octets.specs.Octets.{eights, joined}
@@ -133,7 +134,7 @@ unfolding
     W.openedAfter W.steppedAfter W.taken W.rising W.roundsFrom R.turned R.fresh R.scaled R.finished R.closedBy
     N.soundSigma N.atMost N.soundNumbers N.soundPending N.badPlace N.sound N.gated remainders gathered lastSum largest powerOf ceil
     S.nearestAfter S.partsAfter S.parts rounded merged number digits signed residue nearestFloat value readOf eights writtenOf sheetOf joined
-    H.weightGood H.weightOf H.patternFor H.total H.spread H.badWeight H.weighed H.handedAfter
+    H.weightGood H.weightOf H.patternFor H.total H.spread H.badWeight H.weighed H.handedAfter Q.otherSide Q.gradeAt Q.gradedAfter
     ofBits toBits add sub mul le eq
 computed-bounds = refl
 
@@ -142,7 +143,7 @@ unfolding
     every faults judged firstFault faultOf W.openedAfter W.steppedAfter W.roundsFrom W.rising
     N.soundSigma N.atMost N.soundNumbers N.soundPending N.badPlace N.sound N.gated ceil
     S.nearestAfter S.partsAfter enter rounded merged number digits signed residue nearestFloat value readOf writtenOf
-    H.weightGood H.weightOf H.patternFor H.total H.spread H.badWeight H.weighed H.handedAfter
+    H.weightGood H.weightOf H.patternFor H.total H.spread H.badWeight H.weighed H.handedAfter Q.otherSide Q.gradeAt Q.gradedAfter
     ofBits toBits le eq
 computed-faults = refl
 

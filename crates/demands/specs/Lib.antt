@@ -8,3 +8,4 @@ pub mod Determined
 pub mod Refusals
 pub mod Hearing
 pub mod Weighed
+pub mod Graded

@@ -1,0 +1,4 @@
+-- What the proofs of single functions cite.
+pub mod PatternLaws
+pub mod WordLaws
+pub mod CaseWords
