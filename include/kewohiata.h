@@ -34,7 +34,7 @@
 extern "C" {
 #endif
 
-/* Below 1.0.0 a call's form and its answers may still change, and the second number tells it. */
+/* Below 1.0.0 calls may be added, and their forms and answers may still change; the second number tells it. */
 #define KEWOHIATA_VERSION "0.6.0"
 enum { KEWOHIATA_VERSION_MAJOR = 0, KEWOHIATA_VERSION_MINOR = 6, KEWOHIATA_VERSION_PATCH = 0 };
 
@@ -225,7 +225,7 @@ uint32_t kewohiata_weights_hand_on(const uint64_t *list, size_t list_length, siz
 uint32_t kewohiata_sheet_read(const uint8_t *sheet, size_t sheet_length, uint64_t *area, size_t area_length, uint64_t *out, size_t out_length);
 
 /* Writes a list as a sheet (rules H4 and H5): 5 + 8n bytes from the start of `sheet`; the rest of it stays. No number is judged, and a NaN's pattern is
- * written to the bit. kewohiata_sheet_read gives back what was written.
+ * written to the bit. kewohiata_sheet_read, handed these bytes and no more, gives the list back.
  * sheet: 5 + 8n bytes or more. out: 1 number, the bytes that were written. Refusals: 1; 4. */
 uint32_t kewohiata_sheet_write(const uint64_t *list, size_t list_length, uint8_t *sheet, size_t sheet_length, uint64_t *out, size_t out_length);
 

@@ -45,7 +45,7 @@ ENVIRONMENTS = {
     "both, upward": USUAL | UP | FLUSH | ZEROED,
 }
 GOOD = {"as usual", "with flags raised"}
-ENVIRONMENT, NEAREST, ADD, WITHDRAW, FAITHFUL, LIST_NEAREST, WORDS_ROUND, PARTS, WALK, READ, HAND_ON, WRITE, MERGE, GRADE = range(14)
+ENVIRONMENT, NEAREST, ADD, WITHDRAW, FAITHFUL, LIST_NEAREST, WORDS_ROUND, PARTS, WALK, READ, HAND_ON, WRITE, MERGE, GRADE, STEP = range(15)
 
 TINY = [exact.ONE, 0x36EB6, exact.ONE | exact.SIGN]
 LISTS = 150
@@ -194,6 +194,18 @@ def check_calls(name, program, prefix, some):
             expect(f"{name}, {what}: call {call}", held, [f"{p:016X}" for p in some[k]], code, [f"{v:X}" for v in values[: len(expected)]])
 
 
+# sigma, t, and the sigma that rule W4 goes on with: 2^-51 times the first, below the least normal number
+SCALED = [(0x032 << 52, 1 << 52, 0x0004000000000000), (0x033 << 52, 2 << 52, 0x0008000000000000)]
+
+
+def check_scaled(name, program, prefix):
+    """Rule F4: a sigma is scaled without an operation on doubles, so that it is right where subnormal results are flushed too."""
+    nearest = {what: control for what, control in ENVIRONMENTS.items() if not control & (DOWN | UP)}
+    asked = [(what, control, sigma, t, scaled) for what, control in nearest.items() for sigma, t, scaled in SCALED]
+    for (what, _, sigma, t, scaled), (_, code, values) in zip(asked, answers(program, prefix, [(one[1], STEP, [one[2], one[3]]) for one in asked])):
+        expect(f"{name}, {what}: scaled", (code, values[:10]) == (0, [1, scaled, t, 0, 1, 1, 1, 0, 0, 0]), f"{sigma:016X}", code, [f"{v:X}" for v in values[:10]])
+
+
 def is_faithful(pattern, numbers):
     """No double strictly between the sum and the exact sum, and the exact sum where that is one."""
     total = sum(map(exact.units, numbers))
@@ -254,6 +266,7 @@ def main():
         tried += 1
         check_environment(name, program, prefix)
         check_calls(name, program, prefix, some)
+        check_scaled(name, program, prefix)
         check_walk(name, program, prefix, some)
     expect("programs", tried >= 3, tried)
     expect("the walk is wrong in some environment", COUNTS["wrong sums of the walk"] > tried * LISTS)

@@ -101,6 +101,15 @@ static uint32_t graded(size_t n)
     return code ? code : kewohiata_list_grade(list, n, values[0], values + 1, KEWOHIATA_VALUE);
 }
 
+/* a step of a walk of one number, +0, with the list's sigma and t: the ten numbers that it leaves */
+static uint32_t stepped(void)
+{
+    const uint64_t state[KEWOHIATA_STATE] = {KEWOHIATA_MORE, list[0], list[1], 0, 1, 1, 0, 0, 0, 0};
+    memcpy(values, state, sizeof state);
+    area[0] = 0.0;
+    return kewohiata_walk_step(values, KEWOHIATA_STATE, area, 1, 0);
+}
+
 static uint32_t call(uint64_t which, size_t n)
 {
     switch (which) {
@@ -118,6 +127,7 @@ static uint32_t call(uint64_t which, size_t n)
     case 11: return sheet_written(n);
     case 12: return merged(n);
     case 13: return graded(n);
+    case 14: return stepped();
     default: return UINT32_MAX;
     }
 }

@@ -21,7 +21,8 @@ def close_call(chance, n):
 
 def zeros(chance, n):
     """Zeros, of one sign or of both."""
-    return [SIGN * chance.choice(chance.choice([[0], [1], [0, 1]])) for _ in range(n)]
+    signs = chance.choice([[0], [1], [0, 1]])
+    return [SIGN * chance.choice(signs) for _ in range(n)]
 
 
 KINDS = [*dict.fromkeys(SHAPES), close_call, zeros]
@@ -59,7 +60,7 @@ def two_orders(chance, patterns, shuffled):
     one, other = on_list(patterns, area, before), on_list(shuffled, area, before)
     yield from [*one, *other]
     for r, s in zip(one, other):
-        assert (r.code == 0) == (s.code == 0) and (r.code == s.code or r.code > 32), f"refused in one order alone: {r.code}, {s.code}"
+        assert (r.code == 0) == (s.code == 0) and (r.code == s.code or min(r.code, s.code) > 32), f"refused in one order alone: {r.code}, {s.code}"
     if one[0].code:
         return True
     if len(patterns) <= SHORT:

@@ -20,7 +20,7 @@ def size_of(patterns):
     return HEADER + SIZE * len(patterns)
 
 
-def there_and_back(chance, patterns, longer):
+def written_and_read(chance, patterns, longer):
     """A list written to an area with so many bytes behind, and the sheet read back to an area with some places behind."""
     yield written(packed(patterns), chance.randbytes(size_of(patterns) + longer), chance.randbytes(SIZE))
     yield read(sheet(patterns), chance.randbytes(SIZE * (len(patterns) + longer % 3)), chance.randbytes(SIZE))
@@ -33,7 +33,7 @@ def sheets_written(chance):
     lists += [[chance.choice(STRANGE) for _ in range(n)] for n in COUNTS]
     for patterns in lists:
         for longer in (0, 1, 7, 8, 1000):
-            yield from there_and_back(chance, patterns, longer)
+            yield from written_and_read(chance, patterns, longer)
 
 
 def write_refusals(chance):
@@ -41,7 +41,7 @@ def write_refusals(chance):
     for n in (0, 1, 2, 64, LENGTH - 1, LENGTH, LENGTH + 1, LENGTH + 2, 5000):
         data = packed([chance.choice(STRANGE) for _ in range(n)])
         fits = HEADER + len(data)
-        for room in sorted({0, 1, 4, 5, 6, fits - 8, fits - 1, fits, fits + 1, fits + 8, 32756, 32757, 32758} - {-3}):
+        for room in sorted({0, 1, 4, 5, 6, max(fits - 8, 0), fits - 1, fits, fits + 1, fits + 8, 32756, 32757, 32758}):
             for values in (1, 0, 2, 5):
                 yield written(data, chance.randbytes(room), chance.randbytes(SIZE * values))
 
@@ -65,7 +65,7 @@ def writings(chance):
     for _ in range(20):
         n = chance.choice([0, 1, 2, 3, 64, chance.randint(4, 40), chance.randint(41, 600)])
         patterns = [chance.choice([turn(chance), chance.choice(STRANGE)]) for _ in range(n)]
-        yield from there_and_back(chance, patterns, chance.choice([0, 0, 1, 2, chance.randint(3, 99)]))
+        yield from written_and_read(chance, patterns, chance.choice([0, 0, 1, 2, chance.randint(3, 99)]))
         room = max(size_of(patterns) + chance.choice([-9, -8, -1, 0, 1]), 0)
         yield written(packed(patterns), chance.randbytes(room), chance.randbytes(SIZE * chance.choice([1] * 4 + [0, 2])))
 

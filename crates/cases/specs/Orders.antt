@@ -1,5 +1,5 @@
--- What rules S8 and S9 can't say more of: faithful sums of one list in two orders that differ, one that is off by more than 2^-53 of S, and one of a list with
--- exact sum zero. Each is computed. Assumes nothing.
+-- What rules S8 and S9 can't say more of: faithful sums of one list in two orders that differ, one by blocks; one that is off by more than 2^-53 of S; one of a
+-- list with exact sum zero. And that two doubles with one between them aren't neighbours. Each is computed. Assumes nothing.
 use mathlib.Core.Path.{_≡_, refl, ap}
 use mathlib.Core.List.{List, [], _∷_, map, Perm, Perm·trans, Perm·cons, Perm·swap}
 use Prim.Native.Nat.{ℕ, _*_, _^_, _≤_, _<_}
@@ -7,9 +7,12 @@ use native.Mathlib.Nat.{lt-irrefl, not-le-of-lt}
 use native.Mathlib.Omega.{arith}
 use lib.Dec.{lit≤}
 use lib.IntN.{natAbs, _-ℤ_}
+use lib.Signed.{ltZ-yes}
 use lib.Ieee.{Float, binary64, ofBits, toBits, add, sub, mul, le, eq}
+use lib.Ieee.Bits.{ofBits-fits}
 use Rattle.units.specs.Rounding.{ceil}
 use Rattle.ieee.specs.Units.{magnitude, negative, value, nearestFloat}
+use Rattle.ieee.specs.Accuracy.{EqualOrNeighbouring, equal, below, above}
 use Rattle.kinds.specs.Limits.{doubles}
 use Rattle.judge.specs.Judge.{faultOf, firstFault, judged}
 use Rattle.extract.specs.Extract.{remainders, gathered, lastSum, largest}
@@ -18,7 +21,7 @@ use Rattle.sound.specs.Sound as N
 use Rattle.rounds.specs.Round as R
 use Rattle.sums.specs.Sums.{sumOf}
 use Rattle.walk.specs.Walk as W
-use Rattle.runs.specs.Reordering.{Summed, undivided}
+use Rattle.runs.specs.Reordering.{Summed, undivided, by-blocks}
 
 -- 1, 2^-53 and twice 2^-106, in two orders; 1 and -1
 abbrev one : List ℕ
@@ -49,7 +52,7 @@ unfolding
     nearestFloat value ofBits toBits add sub mul le eq
 computed = (
   undivided (map (ofBits binary64) one) refl,
-  undivided (map (ofBits binary64) other) refl,
+  by-blocks (map (ofBits binary64) other) (0 ∷ []) refl,
   undivided (map (ofBits binary64) cancelled) refl,
 )
 
@@ -71,3 +74,11 @@ pub not-at-zero : ((ps : List ℕ) (x : Float) (k : ℕ) (xs : List Float) → S
     → 2 ^ 52 * natAbs (value binary64 x -ℤ sumOf binary64 ps) < natAbs (sumOf binary64 ps)) → ⊥
 unfolding value magnitude negative ofBits
 not-at-zero h = lt-irrefl _ (h cancelled _ _ _ (computed .2))
+
+-- rule S8: 1 and the second double above it are neither equal nor neighbours
+pub not-two-apart : EqualOrNeighbouring binary64 (ofBits binary64 0x3FF0000000000000) (ofBits binary64 0x3FF0000000000002) → ⊥
+unfolding ofBits toBits value magnitude negative
+not-two-apart (equal e) = let p = ap (toBits binary64) e in omega arith
+not-two-apart (below n) =
+    n .none (ofBits binary64 0x3FF0000000000001) (record { fit = ofBits-fits binary64 0x3FF0000000000001; fini = tt }) (ltZ-yes tt) (ltZ-yes tt)
+not-two-apart (above n) = absurd (n .less .lt)

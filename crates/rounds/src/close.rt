@@ -17,8 +17,8 @@ ghost use Rattle.rounds.specs.ClosedLaws.{enough};
 // eps is 2^-53 (rule L3).
 const EPS: u32 = 53;
 
-// 2^j eps sigma, of a sigma above the least normal number, which is a field over no digit (rule F4). The product of two powers of two is exact there: the field
-// goes down by 53 - j, or below the fields one digit is left.
+// 2^j eps sigma (rule F4). A sigma above the least normal number is a field over no digit, and the product of two powers of two is exact there: the field goes
+// down by 53 - j, or one digit is left where there is no field.
 fn scaled(j: u32, sigma: f64) -> f64
     requires { ⌜ (j ≤ prec (doubles .format)) × PowerFrom (doubles .format) (prec (doubles .format)) sigma ⌝ }
     ensures { λ r. ⌜ r ≡ scaled (doubles .format) j sigma ⌝ }

@@ -13,7 +13,7 @@ ghost use Rattle.judge.specs.Table.{sizeOf};
 ghost use Rattle.rounds.specs.InUnits.{Small};
 ghost use Rattle.rounds.specs.Round.{fresh};
 
-// Rule WO3: a round from mu, with t = +0. Where mu is zero the answer is `zero`, by rules WO2 and W1. Its pattern is asked, since mu may be subnormal (rule F4).
+// Rule WO3: a round from mu, with t = +0. Where mu is zero the answer is `zero`, by rules WO2 and W1: its pattern is asked, as mu may be subnormal (rule F4).
 pub fn from_mu(zero: f64, n: usize, mu: f64, rounds: u32) -> Step
     requires { ⌜
         (n ≤ doubles .length) × Small (doubles .format) (sizeOf doubles (doubles .magnitude)) mu × (negative mu ≡ false)

@@ -25,6 +25,7 @@ use Rattle.judge.specs.Judge.{floats, zeroSign}
 use Rattle.judge.specs.Table.{ListWhen, MinusZeros, ZeroWhen}
 use Rattle.judge.specs.ZeroLaws.{zero-sign, zero-when}
 use Rattle.sums.specs.Sums.{sumOf}
+use Rattle.rounds.specs.Round.{allZero}
 use Rattle.rounds.specs.Fitting.{Fitting}
 use Rattle.walk.specs.Walk.{Walked, opened, faithfulOf}
 use Rattle.walk.specs.Undivided.{faithful-done}
@@ -42,6 +43,11 @@ module _ {W : Width} (F : Fitting W) (ps : List ℕ) (work : List Float) (G : Li
 
     pub faithful-minus : faithfulOf W ps work ≡ outcome (Done (minusZero (W .format)) 0) (floats W ps)
     faithful-minus = sym (faithful-done F ps work (Done (minusZero (W .format)) 0) (floats W ps) (sym opened-minus) _ 0 refl)
+
+  -- ---- nothing but zeros: which of the two, after no round
+  pub opened-zeros : allZero (W .format) (floats W ps) ≡ true → {p : ℕ} → ZeroWhen W ps p → stepHeard W (opened W ps work .answer) ≡ done p 0
+  opened-zeros a {p} Z =
+      ap (λ (w : Walked). stepHeard W (w .answer)) (opened-zero F ps work G a) ∙ ap (λ (b : ℕ). done b 0) (zero-when W ps p .1 Z)
 
   promised : FaithfulSum W ps (faithfulOf W ps work)
   promised = faithful-promised F ps work G

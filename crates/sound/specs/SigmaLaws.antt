@@ -62,8 +62,8 @@ exponents : {m : ℕ} (M top : ℕ) → 2 ^ M ≤ m → m ≤ 2 ^ (M + top) → 
 exponents {m} M top h k = (pow-le-back M (ceil m) (le-trans h (ceil-ge m)), ceil-least k)
 
 -- ---- a power of two of at least 2^m units, by its pattern
-abbrev pub powerFrom : Format → ℕ → Float → Bool
-powerFrom f m x = not (negative x) && leb (2 ^ m) (magnitude f x) && eqb (magnitude f x) (2 ^ ceil (magnitude f x))
+abbrev pub isPowerFrom : Format → ℕ → Float → Bool
+isPowerFrom f m x = not (negative x) && leb (2 ^ m) (magnitude f x) && eqb (magnitude f x) (2 ^ ceil (magnitude f x))
 
 abbrev pub exponentIn : Format → Float → ℕ
 exponentIn f x = ceil (magnitude f x)
@@ -81,7 +81,7 @@ module _ {f : Format} {x : Float} (X : Number f x) (s : negative x ≡ false) (r
       bits : magnitude f x ≡ 2 ^ exponentIn f x → toBits f (powerOf f (exponentIn f x)) ≡ toBits f x
       bits e = ap (toBits f) (sym (power-same f room X (rw (s, e) at (facts f x X .is))))
 
-  pub power-from : (m : ℕ) → (leb m (exponentIn f x) && eqb (toBits f (powerOf f (exponentIn f x))) (toBits f x)) ≡ powerFrom f m x
+  pub power-from : (m : ℕ) → (leb m (exponentIn f x) && eqb (toBits f (powerOf f (exponentIn f x))) (toBits f x)) ≡ isPowerFrom f m x
   power-from m = rw (power-bits, s) (go (eqb (magnitude f x) (2 ^ exponentIn f x)) (eqb-true (magnitude f x) (2 ^ exponentIn f x)))
     where
       exponents-same : magnitude f x ≡ 2 ^ exponentIn f x → leb m (exponentIn f x) ≡ leb (2 ^ m) (magnitude f x)
@@ -95,7 +95,7 @@ module _ {f : Format} {x : Float} (X : Number f x) (s : negative x ≡ false) (r
       go false h = and-false (leb m (exponentIn f x)) ∙ sym (and-false (leb (2 ^ m) (magnitude f x)))
 
 -- a negative number is none
-pub negative-power : (f : Format) (x : Float) (m : ℕ) → negative x ≡ true → false ≡ powerFrom f m x
+pub negative-power : (f : Format) (x : Float) (m : ℕ) → negative x ≡ true → false ≡ isPowerFrom f m x
 negative-power f x m s = rw s
 
 -- ---- a sound sigma, with 2^top the largest magnitude in units
@@ -134,7 +134,7 @@ module _ (W : Width) (top : ℕ) (is : sizeOf W (W .magnitude) ≡ 2 ^ top) (n :
       most = rw (← (pow-add 2 (exponentOf n) top)) (pow-mono (omega (arith, P .to, limit-is)))
 
   -- it is no larger than the greatest sigma, and a power of two from the least one on
-  pub sigma-is : (x : Float) → (atMost W (2 ^ (exponentOf n + top)) x && powerFrom (W .format) (exponentOf n) x) ≡ soundSigma W n x
+  pub sigma-is : (x : Float) → (atMost W (2 ^ (exponentOf n + top)) x && isPowerFrom (W .format) (exponentOf n) x) ≡ soundSigma W n x
   unfolding atMost soundSigma
   sigma-is x =
       let m = magnitude (W .format) x in

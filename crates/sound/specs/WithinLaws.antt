@@ -1,11 +1,9 @@
 -- Two comparisons of floats that a number has to pass, and no NaN does: it lies between a limit and its negative exactly where it is finite and no larger.
 -- Assumes nothing.
 use mathlib.Core.Path.{_≡_, refl, ap}
-use mathlib.Core.Bool.{Bool, true, false, not, _&&_}
-use Prim.Native.Nat.{ℕ, _+_, _≤_, _<_}
-use native.Mathlib.Nat.{add-zero}
+use mathlib.Core.Bool.{Bool, true, false, _&&_}
+use Prim.Native.Nat.{ℕ, _+_, _≤_}
 use native.Mathlib.Omega.{arith}
-use borrow.Author.Tests.{lt-leb}
 use lib.Dec.{T, leb, leb→le, le→leb}
 use lib.Ieee.{Float, nan, inf, fin, Format, le, lt, eq, neg, fits}
 use lib.Ieee.Fits.{and-i, and-l, and-r}

@@ -14,7 +14,7 @@ ghost use Rattle.kinds.specs.Limits.{doubles};
 ghost use Rattle.judge.specs.Table.{sizeOf};
 ghost use Rattle.exponent.specs.Power.{powers};
 ghost use Rattle.sound.specs.Sound.{soundSigma, atMost, soundNumbers, soundPending};
-ghost use Rattle.sound.specs.SigmaLaws.{powerFrom};
+ghost use Rattle.sound.specs.SigmaLaws.{isPowerFrom};
 
 // Whether x is finite and no larger than the limit. A NaN passes no comparison, so it fails this one.
 pub fn at_most(x: f64, limit: f64) -> bool
@@ -34,7 +34,7 @@ fn top() -> u32
 // Whether a number is 2^k units with k at least m: whether its pattern is that of the power of two at its own exponent (rule F4).
 fn power_from(x: f64, m: u32) -> bool
     requires { ⌜ T (finite x) × (ceil (magnitude binary64 x) < powers binary64) ⌝ }
-    ensures { λ r. ⌜ r ≡ powerFrom binary64 m x ⌝ }
+    ensures { λ r. ⌜ r ≡ isPowerFrom binary64 m x ⌝ }
 {
     let p = f64::to_bits(x);
     if SIGN <= p {

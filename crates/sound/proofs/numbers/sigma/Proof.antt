@@ -12,7 +12,7 @@ use Rattle.exponent.specs.Power.{powers, powerOf}
 use Rattle.exponent.specs.PowerLaws.{power-number, power-negative, power-magnitude}
 use Rattle.kinds.specs.Limits.{doubles, exponentOf}
 use Rattle.sound.specs.Sound.{atMost, soundSigma}
-use Rattle.sound.specs.SigmaLaws.{powerFrom, sigma-is}
+use Rattle.sound.specs.SigmaLaws.{isPowerFrom, sigma-is}
 use Rattle.sound.specs.SoundLaws.{at-most-holds}
 use Rattle.sound.specs.DoublesLaws.{magnitude-units, magnitude-exponent, sigma-room}
 use Rattle.sound.proofs.numbers.sigma.Statement.{statement}
@@ -66,17 +66,17 @@ power-from-requires c κs =
 
 -- a sound sigma, after the first test
 decided : (c : tie.After-at-most) (b : Bool) → c .at-most .result ≡ b → let a = c .before .before .before .before .before .args in
-    (b && powerFrom binary64 (exponentOf (a .n)) (a .sigma)) ≡ soundSigma doubles (a .n) (a .sigma)
+    (b && isPowerFrom binary64 (exponentOf (a .n)) (a .sigma)) ≡ soundSigma doubles (a .n) (a .sigma)
 decided c b e =
     let a = c .before .before .before .before .before .args in
-    ap (λ (t : Bool). t && powerFrom binary64 (exponentOf (a .n)) (a .sigma)) (sym e ∙ test c) ∙ sigma-is doubles 2074 magnitude-units (a .n) (a .sigma)
+    ap (λ (t : Bool). t && isPowerFrom binary64 (exponentOf (a .n)) (a .sigma)) (sym e ∙ test c) ∙ sigma-is doubles 2074 magnitude-units (a .n) (a .sigma)
 
 returns : tie.Need-returns
 returns c =
     let t = c .before .before in
     let a = t .before .before .before .before .before .args in
     c .power-from .ensures
-    ∙ ap (λ (m : ℕ). powerFrom binary64 m (a .sigma)) (low (t .before .before .before)) ∙ decided t true (c .before .if1 .taken)
+    ∙ ap (λ (m : ℕ). isPowerFrom binary64 m (a .sigma)) (low (t .before .before .before)) ∙ decided t true (c .before .if1 .taken)
 
 returns-2 : tie.Need-returns-2
 returns-2 c = decided (c .before) false (c .if1 .left)
