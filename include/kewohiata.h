@@ -13,13 +13,12 @@
  * kewohiata_walk_faithful. They need the calling thread to round to nearest, to keep subnormal results (no flush-to-zero) and to read subnormal operands as
  * they are (no denormals-as-zero), and to trap no floating-point exception; else they may return 0 with a wrong sum. A program that was linked with -Ofast
  * or -ffast-math may start with both switched on: ask kewohiata_environment once per thread, before the first of these calls. All other calls work on whole
- * numbers, make doubles by their bits, and answer the same in every environment: nearest, parts, grades, registers, weights,
- * sheets.
+ * numbers, make doubles by their bits, and answer the same in every environment: nearest, parts, grades, registers, weights, sheets.
  *
  * Outside the contract (rule C8), and nothing is promised of such a call: a null pointer (also with length 0), a length that isn't the array's, an array
  * that is not readable or not writable as its type says, an array of uint64_t or double that isn't aligned as its type is, two arrays of a call that
- * overlap (but for the two of a merge that are only read), an array that something else writes to during the call, and a call of the walk in another
- * floating-point environment than the one above.
+ * overlap (but for the two of a merge that are only read, which may be one), an array that something else writes to during the call, and a call of the walk in
+ * another floating-point environment than the one above.
  *
  * The calls keep no state between each other, allocate nothing and may run at the same time on different arrays. A call takes a time that grows as n, the
  * list's length, where nothing else stands beside it. */
@@ -68,7 +67,7 @@ enum kewohiata_lengths {
     KEWOHIATA_BLOCK = 64,               /* numbers of a block; a list's last may have fewer */
     KEWOHIATA_STATE = 10,               /* numbers of a state */
     KEWOHIATA_FAITHFUL = 2,             /* numbers that kewohiata_walk_faithful writes: pattern, rounds */
-    KEWOHIATA_VALUE = 1,                /* numbers that any other call on arrays writes to `out` */
+    KEWOHIATA_VALUE = 1,                /* numbers of `out` where a call tells one: nearest, parts, grade, round, sheet_read, sheet_write */
     KEWOHIATA_SUM_BYTES = 16,           /* bytes of a sum of the calls on bytes */
     KEWOHIATA_WORDS = 33,               /* words of a register */
     KEWOHIATA_REGISTER_BYTES = 264,     /* the same in bytes */

@@ -9,7 +9,7 @@ from shuffles import close_call, zeros
 
 LARGEST = INFINITY - 1
 LARGE = MAGNITUDE + 1
-# claims that no list comes near, or that are zero: both zeros, the least subnormal, the greatest, 2^-1022, 2^1000, the next, the largest, each of either sign
+# claims at the ends, of either sign: zero, the least subnormal, the greatest, 2^-1022, 1, 2^1000, the next, the largest
 ENDS = [sign | p for sign in (0, SIGN) for p in (0, 1, 2**52 - 1, 2**52, ONE, MAGNITUDE, LARGE, LARGEST)]
 NO_CLAIMS = [NAN, INFINITY, SIGN | INFINITY, INFINITY + 1, 2**64 - 1]
 KINDS = [*dict.fromkeys(SHAPES), close_call, zeros]

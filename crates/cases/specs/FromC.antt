@@ -96,8 +96,8 @@ pub withdrawn : withdrawArrays onlyOne 0x3FF0000000000000 ≡ outcome 0 (replica
 unfolding enter number digits signed residue value faultOf ofBits
 withdrawn = refl
 
--- 1 in both rooms
-pub merged : mergeArrays onlyOne onlyOne (replicate 33 7) ≡ outcome 0 (replicate 16 0 ++ 0x8000000000000 ∷ replicate 16 0)
+-- 1 in one room, and a unit in the other
+pub merged : mergeArrays onlyOne (1 ∷ replicate 32 0) (replicate 33 7) ≡ outcome 0 (1 ∷ replicate 15 0 ++ 0x4000000000000 ∷ replicate 16 0)
 unfolding G.merged number digits signed residue
 merged = refl
 

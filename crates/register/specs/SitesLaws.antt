@@ -10,12 +10,18 @@ use Rattle.units.specs.ExactSum.{sum-reordered, sum-append}
 use Rattle.lists.specs.Each.{Each}
 use Rattle.lists.specs.SignedDigits.{cut-whole}
 use Rattle.words.specs.Words.{wordBits, wordCount, wholeOf, wordsOf}
+use Rattle.kinds.specs.declared.Entry.the-variants.{Entered}
 use Rattle.addend.specs.Addend.{Held}
 use Rattle.register.specs.Entries.{Change, changeOf, run, AllEntered, zeros}
 use Rattle.register.specs.RunLaws.{run-from-zero, zeros-held}
 use Rattle.register.specs.Farewell.{run-held}
-use Rattle.register.specs.Merge.{Sites, site, both, totalOf, AllMerged, registersOf}
+use Rattle.register.specs.Merge.{merged, Sites, site, both, totalOf, AllMerged, registersOf}
 use Rattle.register.specs.MergeLaws.{merge-whole, merge-held}
+
+-- two registers whose merge is accepted are two sites
+pub two-sites : (us vs out : List ℕ) → Held us → Held vs → merged us vs out .answer ≡ Entered → AllMerged (both (site us) (site vs) out)
+unfolding totalOf AllMerged
+two-sites us vs out h k e = (h, k, e)
 
 pub sites-held : (t : Sites) → AllMerged t → Held (totalOf t)
 unfolding totalOf AllMerged
@@ -59,3 +65,12 @@ sites-run t css A e E C =
     sym (cut-whole wordBits wordCount (lit< tt) (sites-held t A))
     ∙ ap wordsOf (sites-changes t css A e E ∙ sym (run-from-zero (flatten css) C))
     ∙ cut-whole wordBits wordCount (lit< tt) (run-held zeros (flatten css) zeros-held)
+
+-- what joined at one site and left at another leaves no trace: of the calls only their sum counts, wherever each was made
+pub sites-same : (s t : Sites) (css dss : List (List Change)) → AllMerged s → AllMerged t → registersOf s ≡ map (run zeros) css
+    → registersOf t ≡ map (run zeros) dss → Each (AllEntered zeros) css → Each (AllEntered zeros) dss
+    → exactSum (map changeOf (flatten css)) ≡ exactSum (map changeOf (flatten dss)) → totalOf s ≡ totalOf t
+sites-same s t css dss A B e d C D q =
+    sym (cut-whole wordBits wordCount (lit< tt) (sites-held s A))
+    ∙ ap wordsOf (sites-changes s css A e C ∙ q ∙ sym (sites-changes t dss B d D))
+    ∙ cut-whole wordBits wordCount (lit< tt) (sites-held t B)
