@@ -26,7 +26,6 @@ import kit  # noqa: E402
 import sum as summing  # noqa: E402
 from command import Trouble, say  # noqa: E402
 
-PLACE = os.path.join(ROOT, "target", "grade")
 GRADES = {
     "exact": "the claim is the exact sum",
     "nearest": "the exact sum is no double, and the claim is the double nearest to it",
@@ -46,20 +45,6 @@ def pattern_of(claim):
         raise Trouble(error) from error
 
 
-def made(archive):
-    """The path of the program."""
-    program = os.path.join(PLACE, "grade")
-    try:
-        os.makedirs(PLACE, exist_ok=True)
-    except OSError as error:
-        raise Trouble(f"nothing can be built here: target/grade: {error.strerror}") from error
-    for words in kit.c_commands(os.path.join(HERE, "grade.c"), [archive], program):
-        done = subprocess.run(words, stdout=subprocess.PIPE, stderr=subprocess.STDOUT, text=True, check=False)
-        if done.returncode:
-            raise Trouble(f"{os.path.basename(words[0])} ended with status {done.returncode} on scripts/grade.c: {done.stdout}")
-    return program
-
-
 def answered(words, program, pattern, sheet):
     """The code and the grade."""
     asked = struct.pack("<2Q", pattern, len(sheet)) + sheet
@@ -73,22 +58,18 @@ def main():
     command.helped(__doc__)
     if len(sys.argv) != 3:
         raise Trouble("say one FILE, or - for standard input, and one CLAIM; scripts/grade --help tells more")
-    closed = command.closed()
-    if 1 in closed:
-        raise Trouble("standard output is closed")
+    closed = command.opened()
     pattern, sheet, words = pattern_of(sys.argv[2]), summing.begun(sys.argv[1], closed), summing.prefix()
-    code, grade = answered(words, made(built.need(built.ARCHIVE)), pattern, sheet)
-    place = f" at {code // 32 - 1}" if code >= 32 else ""
-    line = f"refused {code % 32}{place}\n" if code else f"grade {list(GRADES)[grade]}\n"
-    try:
-        command.give(line.encode())
-    except OSError as error:
-        raise Trouble(f"standard output: {error.strerror}") from error
+    program = built.c_program(os.path.join("scripts", "grade.c"), "grade")
+    code, grade = answered(words, program, pattern, sheet)
     if code:
-        where = f",{place.replace('at', 'at place')} counted from 0" if place else ""
-        say(f"refused {code % 32}: {summing.meaning(code % 32)}{where}")
-        return summing.TOLD
-    say(f"{line.split()[1]}: {GRADES[line.split()[1]]}")
+        place = f" at {code // 32 - 1}" if code >= 32 else ""
+        line = f"refused {code % 32}{place}\n".encode()
+        command.answer(line)
+        return summing.explain(line)
+    name = list(GRADES)[grade]
+    command.answer(f"grade {name}\n".encode())
+    say(f"{name}: {GRADES[name]}")
     return 0
 
 

@@ -67,32 +67,28 @@ def meaning(number):
 
 
 def explain(lines):
+    """Says what the program's lines mean; the status that they ask for."""
     sums, refused = SUMS.fullmatch(lines), REFUSED.fullmatch(lines)
     if sums:
         say(f"in decimal: faithful {decimal(sums[1])}, nearest {decimal(sums[2])}")
-    else:
-        where = f", at place {refused[2].decode()} counted from 0" if refused[2] else ""
-        say(f"refused {refused[1].decode()}: {meaning(refused[1].decode())}{where}")
+        return 0
+    number = refused[1].decode()
+    where = f", at place {refused[2].decode()} counted from 0" if refused[2] else ""
+    say(f"refused {number}: {meaning(number)}{where}")
+    return TOLD
 
 
 def main():
     command.helped(__doc__)
     if len(sys.argv) != 2:
         raise Trouble("say one FILE, or - for standard input; scripts/sum --help tells more")
-    closed = command.closed()
-    if 1 in closed:
-        raise Trouble("standard output is closed")
-    sheet, words = begun(sys.argv[1], closed), prefix()
+    sheet, words = begun(sys.argv[1], command.opened()), prefix()
     program = built.need(built.SHEET_PROGRAM)
     ended = subprocess.run([*words, program], input=sheet, stdout=subprocess.PIPE, env=kit.environment(), check=False)
     if ended.returncode or not (SUMS.fullmatch(ended.stdout) or REFUSED.fullmatch(ended.stdout)):
         raise Trouble(f"target/bin/sum_sheet ended with status {ended.returncode} and printed {len(ended.stdout)} bytes")
-    try:
-        command.give(ended.stdout)
-    except OSError as error:
-        raise Trouble(f"standard output: {error.strerror}") from error
-    explain(ended.stdout)
-    return TOLD if REFUSED.fullmatch(ended.stdout) else 0
+    command.answer(ended.stdout)
+    return explain(ended.stdout)
 
 
 if __name__ == "__main__":

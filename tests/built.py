@@ -5,6 +5,7 @@ none, as after `rt ci`, the file is taken to be of the sources if none of them i
 import fcntl
 import hashlib
 import os
+import subprocess
 import time
 
 import archive
@@ -142,3 +143,17 @@ def need(made):
     return made.path
 
 
+def c_program(source, folder):
+    """The path of a C file's program over the archive, made in a folder of target/."""
+    archive_path = need(ARCHIVE)
+    place = os.path.join(ROOT, "target", folder)
+    try:
+        os.makedirs(place, exist_ok=True)
+    except OSError as error:
+        raise Trouble(f"nothing can be built here: target/{folder}: {error.strerror}") from error
+    program = os.path.join(place, os.path.splitext(os.path.basename(source))[0])
+    for words in kit.c_commands(os.path.join(ROOT, source), [archive_path], program):
+        done = subprocess.run(words, stdout=subprocess.PIPE, stderr=subprocess.STDOUT, text=True, check=False)
+        if done.returncode:
+            raise Trouble(f"{os.path.basename(words[0])} ended with status {done.returncode} on {source}: {done.stdout}")
+    return program

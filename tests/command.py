@@ -58,10 +58,26 @@ def closed():
     return found
 
 
+def opened():
+    """What `closed` finds, where an answer can be given."""
+    found = closed()
+    if 1 in found:
+        raise Trouble("standard output is closed")
+    return found
+
+
 def give(data):
     """Writes bytes to standard output, all of them, and keeps none back for the end of the program."""
     while data:
         data = data[os.write(1, data) :]
+
+
+def answer(data):
+    """Gives an answer, or tells why that can't be."""
+    try:
+        give(data)
+    except OSError as error:
+        raise Trouble(f"standard output: {error.strerror}") from error
 
 
 def told(error):
