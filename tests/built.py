@@ -1,7 +1,9 @@
 """What `rt` builds of the crates for a command: whether it is of the sources as they are, and building it again where not, one command at a time.
 
 Beside what a command had built lies a mark, target/built/NAME: a digest of the sources and one of the file. Where there is a mark it decides; where there is
-none, as after `rt ci`, the file is taken to be of the sources if none of them is newer."""
+none, as after `rt ci`, the file is taken to be of the sources if none of them is newer.
+
+And a C program over the archive, which is made at each run of its command."""
 import fcntl
 import hashlib
 import os
