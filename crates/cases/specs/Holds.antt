@@ -24,7 +24,7 @@ use Rattle.sums.specs.Sums as S
 use Rattle.weights.specs.Weights as H
 use Rattle.grade.specs.Grade as Q
 use Rattle.kinds.specs.Outcome.{outcome}
-use Rattle.kinds.specs.Heard.{nowhere, at, Heard, refused, more, done, nearest, parts, accepted, count}
+use Rattle.kinds.specs.Heard.{nowhere, at, Heard, refused, more, done, nearest, parts, accepted, count, rescued}
 use Rattle.octets.specs.Octets.{eights, joined}
 use Rattle.sheet.specs.Sheet.{sheetOf, readOf}
 use Rattle.sheet.specs.Write.{writtenOf}
@@ -44,6 +44,7 @@ code (parts true) = 5 ∷ []
 code (parts false) = 6 ∷ []
 code accepted = 7 ∷ []
 code (count n) = 8 ∷ n ∷ []
+code (rescued w t m o) = 9 ∷ w ∷ t ∷ m ∷ o ∷ []
 
 decode : List ℕ → Heard
 decode l =
@@ -56,7 +57,8 @@ decode l =
     (cond (eqb tag 5) (parts true)
     (cond (eqb tag 6) (parts false)
     (cond (eqb tag 7) accepted
-    (count (getD l 1 0)))))))))
+    (cond (eqb tag 8) (count (getD l 1 0))
+    (rescued (getD l 1 0) (getD l 2 0) (getD l 3 0) (getD l 4 0))))))))))
 
 decoded : (h : Heard) → decode (code h) ≡ h
 unfolding decode code
@@ -69,6 +71,7 @@ decoded (parts true) = refl
 decoded (parts false) = refl
 decoded accepted = refl
 decoded (count n) = refl
+decoded (rescued w t m o) = refl
 
 -- ---- the test
 same : List ℕ → List ℕ → Bool
