@@ -59,7 +59,8 @@ module _ (numberOf : List ℕ → ℕ) where
   eights-below below zero bs B l = record { below = λ i. pow-pos 64 }
   eights-below below (suc n) bs B l =
       let t : length (take 8 bs) ≡ 8 = length-take-le 8 bs (omega arith) in
-      digits-more 64 (below (take 8 bs) (digits-take 8 8 bs B) t) (eights-below below n (drop 8 bs) (digits-drop 8 8 bs B) (rw (length-drop 8 bs) (omega arith)))
+      digits-more 64 (below (take 8 bs) (digits-take 8 8 bs B) t)
+      (eights-below below n (drop 8 bs) (digits-drop 8 8 bs B) (rw (length-drop 8 bs) (omega arith)))
 
 -- ---- bytes from numbers
 module _ (bytesOf : ℕ → List ℕ) (size : (v : ℕ) → length (bytesOf v) ≡ 8) where

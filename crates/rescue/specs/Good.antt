@@ -23,7 +23,8 @@ use Rattle.octets.specs.Octets.{big}
 use Rattle.octets.specs.OctetsLaws.{big-below}
 use Rattle.octets.specs.EightsLaws.{eights-below}
 use Rattle.sheet.specs.Sheet.{sheetOf, countOf, patternsOf, readOf}
-use Rattle.sheet.specs.SheetLaws.{Readable, readable, read-patterns, read-is-sheet, patterns-body, sheet-count, sheet-body, sheet-version, sheet-length, sheet-read}
+use Rattle.sheet.specs.SheetLaws.{Readable, readable, read-patterns, read-is-sheet}
+use Rattle.sheet.specs.SheetLaws.{patterns-body, sheet-count, sheet-body, sheet-version, sheet-length, sheet-read}
 use Rattle.rescue.specs.Rescue.{takenOf, entriesOf, keptOf, markOf, reportOf, Rescuing, rescuing, rescuedOf}
 use Rattle.rescue.specs.RescueLaws.{kept-few, rescue-saved}
 use Rattle.rescue.specs.Marks.{allowed-marks}
@@ -80,7 +81,8 @@ module _ (W : Width) (w : W .length < 2 ^ 32) where
       → readOf W bytes area ≡ outcome (Read n) after → judged W right-area right-parts (take n after) ≡ Good
       → (sheet marks : List ℕ) → length bytes ≤ length sheet → n ≤ length marks
       → rescuedOf W bytes sheet marks
-      ≡ rescuing (Saved (record { written = length bytes; taken = n; missing = 0; over = 0 })) (bytes ++ drop (length bytes) sheet) (replicate n 0 ++ drop n marks)
+      ≡ rescuing (Saved (record { written = length bytes; taken = n; missing = 0; over = 0 }))
+      (bytes ++ drop (length bytes) sheet) (replicate n 0 ++ drop n marks)
   accepted-rescued bytes area right-area right-parts {n} {after} B e g sheet marks s m =
       let ps = take n after in
       let R : Readable W bytes area = readable W bytes area e in
@@ -91,7 +93,8 @@ module _ (W : Width) (w : W .length < 2 ^ 32) where
       let D : Digits 64 ps = rw (read-patterns W bytes area e .1) (patterns-below (countOf bytes) bytes B (omega (arith, R .exact))) in
       ap (λ (b : List ℕ). rescuedOf W b sheet marks) is
       ∙ sheet-rescued ps (list-passed G .few) D (list-allowed G) sheet marks (omega (arith, l, s)) (omega (arith, k, m))
-      ∙ (λ i. rescuing (Saved (record { written = l i; taken = k i; missing = 0; over = 0 })) (sym is i ++ drop (l i) sheet) (replicate (k i) 0 ++ drop (k i) marks))
+      ∙ (λ i. rescuing (Saved (record { written = l i; taken = k i; missing = 0; over = 0 }))
+      (sym is i ++ drop (l i) sheet) (replicate (k i) 0 ++ drop (k i) marks))
 
   -- ---- what was rescued is good
   module _ (bytes sheet marks : List ℕ) {r : Report} {out ms : List ℕ} (e : rescuedOf W bytes sheet marks ≡ rescuing (Saved r) out ms) where

@@ -4,4 +4,3 @@ pub mod RescueLaws
 pub mod Marks
 pub mod Saved
 pub mod Good
-pub mod Instances

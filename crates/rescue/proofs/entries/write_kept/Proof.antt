@@ -59,7 +59,8 @@ write-big-endian-requires c κs =
     let i = l .loop .i in
     let h : i < a .n = omega arith in
     let j : i < length (patternsOf (a .n) (drop 5 (a .damaged .now))) = entry-inside (a .damaged .now) (a .n) i h in
-    let t = entry-kept (a .damaged .now) (a .n) i h (c .before .before .before .big-endian .ensures) (c .before .before .fault .ensures) (c .before .if1 .taken) in
+    let f = c .before .before in
+    let t = entry-kept (a .damaged .now) (a .n) i h (f .before .big-endian .ensures) (f .fault .ensures) (c .before .if1 .taken) in
     let k : l .loop .kept < length (keptOf doubles (patternsOf (a .n) (drop 5 (a .damaged .now)))) = sifted-inside (l .loop .inv .3) 0 j t in
     omega arith
 

@@ -17,7 +17,8 @@ use Rattle.rescue.proofs.entries.write_marks.Statement.{statement}
 use Rattle.rescue.proofs.entries.write_marks.Tie as tie
 
 abbrev Inv-loop : tie.InvT-loop
-Inv-loop damaged n marks₀ i₀ marks i = (length marks ≡ length marks₀) × (i ≤ n) × (marks ≡ map (markOf doubles) (take i (patternsOf n (drop 5 damaged))) ++ drop i marks₀)
+Inv-loop damaged n marks₀ i₀ marks i =
+    (length marks ≡ length marks₀) × (i ≤ n) × (marks ≡ map (markOf doubles) (take i (patternsOf n (drop 5 damaged))) ++ drop i marks₀)
 
 abbrev μ-loop : tie.MeasureT-loop
 μ-loop damaged n marks₀ i₀ marks i = n - i
