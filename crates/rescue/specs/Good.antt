@@ -32,10 +32,6 @@ use Rattle.rescue.specs.Saved.{was-given, written-kept, saved-sheet}
 use Rattle.rescue.specs.declared.Report.{Report}
 use Rattle.rescue.specs.declared.Rescued.the-variants.{Saved}
 
--- a report of n entries, all kept, with nothing missing and nothing lying over
-abbrev pub whole : ℕ → Report
-whole n = record { written = 5 + 8 * n; taken = n; missing = 0; over = 0 }
-
 -- ---- what is kept
 pub kept-allowed : (W : Width) (ps : List ℕ) → Allowed W (keptOf W ps)
 kept-allowed W ps = first-good W (keptOf W ps) .0 (faultless-good W (keptOf W ps) 0 .0 (filter-passes (faultFree W) ps))
@@ -64,7 +60,8 @@ module _ (W : Width) (w : W .length < 2 ^ 32) where
 
     pub sheet-rescued : (sheet marks : List ℕ) → 5 + 8 * length ps ≤ length sheet → length ps ≤ length marks
         → rescuedOf W (sheetOf ps) sheet marks
-        ≡ rescuing (Saved (whole (length ps))) (sheetOf ps ++ drop (5 + 8 * length ps) sheet) (replicate (length ps) 0 ++ drop (length ps) marks)
+        ≡ rescuing (Saved (record { written = 5 + 8 * length ps; taken = length ps; missing = 0; over = 0 }))
+        (sheetOf ps ++ drop (5 + 8 * length ps) sheet) (replicate (length ps) 0 ++ drop (length ps) marks)
     sheet-rescued sheet marks s m =
         let c : countOf (sheetOf ps) ≡ length ps = sheet-count ps (omega arith) in
         let l : length (sheetOf ps) ≡ 5 + 8 * length ps = sheet-length ps in
@@ -76,7 +73,7 @@ module _ (W : Width) (w : W .length < 2 ^ 32) where
         ∙ (λ i. rescuing (Saved (record { written = 5 + 8 * k i; taken = taken-all i; missing = missing i; over = over i }))
         (sheetOf (kept-all i) ++ drop (5 + 8 * k i) sheet) (unmarked i ++ drop (taken-all i) marks))
 
-  -- rule H12: of bytes that the reader accepts, and whose list isn't refused
+  -- rule H12: nothing was wrong with the bytes
   pub accepted-rescued : (bytes area : List ℕ) (right-area right-parts : Bool) {n : ℕ} {after : List ℕ} → Digits 8 bytes
       → readOf W bytes area ≡ outcome (Read n) after → judged W right-area right-parts (take n after) ≡ Good
       → (sheet marks : List ℕ) → length bytes ≤ length sheet → n ≤ length marks
@@ -110,21 +107,25 @@ module _ (W : Width) (w : W .length < 2 ^ 32) where
         (patterns-below (takenOf bytes) bytes B (omega (arith, was-given W bytes sheet marks e .0 .header)))
 
     -- the reader accepts the sheet, to any area that suffices
-    pub rescued-read : Digits 8 bytes → (area : List ℕ) → length kept ≤ length area
-        → readOf W (take (r .written) out) area ≡ outcome (Read (length kept)) (kept ++ drop (length kept) area)
+    pub rescued-read : let ps = keptOf W (entriesOf bytes) in
+        Digits 8 bytes → (area : List ℕ) → length ps ≤ length area
+        → readOf W (take (r .written) out) area ≡ outcome (Read (length ps)) (ps ++ drop (length ps) area)
     rescued-read B area room = rw (saved-sheet W bytes sheet marks e) (sheet-read W kept area w kept-fits (kept-below B) room)
 
     -- its list is refused for nothing but what else is lent
-    pub rescued-good : (right-area right-parts : Bool) → T right-area → T right-parts → judged W right-area right-parts kept ≡ Good
+    pub rescued-good : (right-area right-parts : Bool) → T right-area → T right-parts
+        → judged W right-area right-parts (keptOf W (entriesOf bytes)) ≡ Good
     rescued-good right-area right-parts a b =
         list-when W right-area right-parts kept Good .1
         (allowed (record { few = kept-fits; right-area = a; right-parts = b }) (kept-allowed W (entriesOf bytes)))
 
     -- and rescued again it is the same
-    pub rescued-again : Digits 8 bytes → (area spots : List ℕ) → r .written ≤ length area → length kept ≤ length spots
-        → let again = take (r .written) out in
-        rescuedOf W again area spots
-        ≡ rescuing (Saved (whole (length kept))) (again ++ drop (r .written) area) (replicate (length kept) 0 ++ drop (length kept) spots)
+    pub rescued-again : let n = length (keptOf W (entriesOf bytes)) in
+        let again = take (r .written) out in
+        Digits 8 bytes → (area spots : List ℕ) → r .written ≤ length area → n ≤ length spots
+        → rescuedOf W again area spots
+        ≡ rescuing (Saved (record { written = r .written; taken = n; missing = 0; over = 0 }))
+        (again ++ drop (r .written) area) (replicate n 0 ++ drop n spots)
     rescued-again B area spots s m =
         let z : r .written ≡ 5 + 8 * length kept = written-kept W bytes sheet marks e in
         rw (saved-sheet W bytes sheet marks e, z)

@@ -1,6 +1,7 @@
 -- Rescuing what a damaged sheet still holds: which entries are taken, kept and marked, what the call answers and leaves, what is heard of it, and what each
 -- answer is given exactly for. Definitions only.
 use mathlib.Core.Path.{_≡_}
+use mathlib.Core.Logic.{_⊎_}
 use mathlib.Core.Bool.{cond, not, _||_}
 use mathlib.Core.List.{List, [], _∷_, _++_, map}
 use Prim.Native.Nat.{ℕ, _+_, _-_, _*_, _/_, _≤_, _<_, min}
@@ -88,8 +89,7 @@ pub data RescueWhen (W : Width) (bytes sheet marks : List ℕ) : Rescued → Typ
   -- rule R1, of the count that the sheet tells
   too-many : Begun bytes → W .length < countOf bytes → RescueWhen W bytes sheet marks (Refused 1 0)
   -- rules R4 and A2, of either area
-  no-room : Begun bytes → countOf bytes ≤ W .length → length sheet < 5 + 8 * length (keptOf W (entriesOf bytes))
+  no-room : Begun bytes → countOf bytes ≤ W .length → (length sheet < 5 + 8 * length (keptOf W (entriesOf bytes))) ⊎ (length marks < takenOf bytes)
       → RescueWhen W bytes sheet marks (Refused 4 0)
-  no-marks : Begun bytes → countOf bytes ≤ W .length → length marks < takenOf bytes → RescueWhen W bytes sheet marks (Refused 4 0)
   saved : Begun bytes → countOf bytes ≤ W .length → 5 + 8 * length (keptOf W (entriesOf bytes)) ≤ length sheet → takenOf bytes ≤ length marks
       → RescueWhen W bytes sheet marks (Saved (reportOf W bytes))

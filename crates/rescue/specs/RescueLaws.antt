@@ -26,7 +26,7 @@ use Rattle.octets.specs.EightsLaws.{eights-length}
 use Rattle.sheet.specs.Sheet.{sheetOf, versionOf, countOf, patternsOf}
 use Rattle.sheet.specs.Table.{Begun}
 use Rattle.rescue.specs.Rescue.{takenOf, entriesOf, keptOf, markOf, reportOf, Rescuing, rescuing, rescuedOf, rescuedHeard}
-use Rattle.rescue.specs.Rescue.{RescueWhen, no-header, other-version, too-many, no-room, no-marks, saved}
+use Rattle.rescue.specs.Rescue.{RescueWhen, no-header, other-version, too-many, no-room, saved}
 use Rattle.rescue.specs.declared.Report.{Report}
 use Rattle.rescue.specs.declared.Rescued.{Rescued}
 use Rattle.rescue.specs.declared.Rescued.the-variants.{Saved, Refused}
@@ -64,11 +64,8 @@ either true = refl
 either false = refl
 
 module _ (W : Width) (bytes sheet marks : List ℕ) where
-  abbrev kept : List ℕ
-  kept = keptOf W (entriesOf bytes)
-
   abbrev size : ℕ
-  size = 5 + 8 * length kept
+  size = 5 + 8 * length (keptOf W (entriesOf bytes))
 
   -- ---- case by case
   pub rescue-no-header : length bytes < 5 → rescuedOf W bytes sheet marks ≡ rescuing (Refused 11 0) sheet marks
@@ -85,7 +82,7 @@ module _ (W : Width) (bytes sheet marks : List ℕ) where
     rescue-many m = rw (le-ltb (length bytes) 5 (B .header), eq-eqb (versionOf bytes) 1 (B .version), lt-ltb (W .length) (countOf bytes) m)
 
     module _ (few : countOf bytes ≤ W .length) where
-      pub rescue-no-room : length sheet < size → rescuedOf W bytes sheet marks ≡ rescuing (Refused 4 0) sheet marks
+      pub rescue-no-room : length sheet < 5 + 8 * length (keptOf W (entriesOf bytes)) → rescuedOf W bytes sheet marks ≡ rescuing (Refused 4 0) sheet marks
       unfolding rescuedOf
       rescue-no-room s =
           rw (
@@ -106,9 +103,11 @@ module _ (W : Width) (bytes sheet marks : List ℕ) where
             either (ltb (length sheet) size),
           )
 
-      pub rescue-saved : size ≤ length sheet → takenOf bytes ≤ length marks
-          → rescuedOf W bytes sheet marks
-          ≡ rescuing (Saved (reportOf W bytes)) (sheetOf kept ++ drop size sheet) (map (markOf W) (entriesOf bytes) ++ drop (takenOf bytes) marks)
+      pub rescue-saved : 5 + 8 * length (keptOf W (entriesOf bytes)) ≤ length sheet → takenOf bytes ≤ length marks
+          → let kept = keptOf W (entriesOf bytes) in
+          rescuedOf W bytes sheet marks
+          ≡ rescuing (Saved (reportOf W bytes)) (sheetOf kept ++ drop (5 + 8 * length kept) sheet)
+          (map (markOf W) (entriesOf bytes) ++ drop (takenOf bytes) marks)
       unfolding rescuedOf
       rescue-saved s m =
           rw (
@@ -124,15 +123,15 @@ module _ (W : Width) (bytes sheet marks : List ℕ) where
   row (no-header h) = ap answerOf (rescue-no-header h)
   row (other-version h v) = ap answerOf (rescue-version h v)
   row (too-many B m) = ap answerOf (rescue-many B m)
-  row (no-room B f s) = ap answerOf (rescue-no-room B f s)
-  row (no-marks B f s) = ap answerOf (rescue-no-marks B f s)
+  row (no-room B f (inl s)) = ap answerOf (rescue-no-room B f s)
+  row (no-room B f (inr m)) = ap answerOf (rescue-no-marks B f m)
   row (saved B f s m) = ap answerOf (rescue-saved B f s m)
 
   by-room : Begun bytes → countOf bytes ≤ W .length → (r : Rescued) × RescueWhen W bytes sheet marks r
   by-room B f = elim (le-or-lt size (length sheet)) [
-    | inr s ↦ (Refused 4 0, no-room B f s)
+    | inr s ↦ (Refused 4 0, no-room B f (inl s))
     | inl s ↦ elim (le-or-lt (takenOf bytes) (length marks)) [
-      | inr m ↦ (Refused 4 0, no-marks B f m)
+      | inr m ↦ (Refused 4 0, no-room B f (inr m))
       | inl m ↦ (Saved (reportOf W bytes), saved B f s m)
     ]
   ]
@@ -157,8 +156,8 @@ module _ (W : Width) (bytes sheet marks : List ℕ) where
   left (no-header h) e = rescue-no-header h
   left (other-version h v) e = rescue-version h v
   left (too-many B m) e = rescue-many B m
-  left (no-room B f s) e = rescue-no-room B f s
-  left (no-marks B f s) e = rescue-no-marks B f s
+  left (no-room B f (inl s)) e = rescue-no-room B f s
+  left (no-room B f (inr m)) e = rescue-no-marks B f m
   left (saved B f s m) e = apart (cc)
 
   pub rescue-leaves : {k i : ℕ} → rescuedOf W bytes sheet marks .answer ≡ Refused k i → rescuedOf W bytes sheet marks ≡ rescuing (Refused k i) sheet marks
@@ -177,7 +176,6 @@ module _ (W : Width) (bytes sheet marks : List ℕ) where
   rescue-refusal (other-version h v) = at-place-0 (lit< tt)
   rescue-refusal (too-many B m) = at-place-0 (lit< tt)
   rescue-refusal (no-room B f s) = at-place-0 (lit< tt)
-  rescue-refusal (no-marks B f s) = at-place-0 (lit< tt)
 
   pub rescue-heard : (k : ℕ) (p : Place)
       → (rescuedHeard (rescuedOf W bytes sheet marks .answer) ≡ refused k p) ↔ Row (λ k i. RescueWhen W bytes sheet marks (Refused k i)) k p
@@ -186,5 +184,5 @@ module _ (W : Width) (bytes sheet marks : List ℕ) where
 
   -- ---- a rescue that saved something was given this
   pub given : {r : Report} → RescueWhen W bytes sheet marks (Saved r)
-      → Begun bytes × (countOf bytes ≤ W .length) × (size ≤ length sheet) × (takenOf bytes ≤ length marks)
+      → Begun bytes × (countOf bytes ≤ W .length) × (5 + 8 * length (keptOf W (entriesOf bytes)) ≤ length sheet) × (takenOf bytes ≤ length marks)
   given (saved B f s m) = (B, f, s, m)

@@ -33,7 +33,7 @@ module _ (W : Width) (bytes sheet marks : List ℕ) {r : Report} {out ms : List 
   abbrev kept : List ℕ
   kept = keptOf W entries
 
-  pub was-given : Begun bytes × (countOf bytes ≤ W .length) × (5 + 8 * length kept ≤ length sheet) × (takenOf bytes ≤ length marks)
+  pub was-given : Begun bytes × (countOf bytes ≤ W .length) × (5 + 8 * length (keptOf W (entriesOf bytes)) ≤ length sheet) × (takenOf bytes ≤ length marks)
   was-given = given W bytes sheet marks (rescue-when W bytes sheet marks (Saved r) .0 (ap answerOf e))
 
   full : rescuing (Saved r) out ms
@@ -41,58 +41,57 @@ module _ (W : Width) (bytes sheet marks : List ℕ) {r : Report} {out ms : List 
   full = let G = was-given in sym e ∙ rescue-saved W bytes sheet marks (G .0) (G .1) (G .2) (G .3)
 
   -- ---- rule H10
-  pub report : r ≡ reportOf W bytes
-  report = let s : Saved r ≡ Saved (reportOf W bytes) = ap answerOf full in cc
+  pub report-is : r ≡ reportOf W bytes
+  report-is = let s : Saved r ≡ Saved (reportOf W bytes) = ap answerOf full in cc
 
-  pub written-kept : r .written ≡ 5 + 8 * length kept
-  written-kept = ap (λ (x : Report). x .written) report
+  pub written-kept : r .written ≡ 5 + 8 * length (keptOf W (entriesOf bytes))
+  written-kept = ap (λ (x : Report). x .written) report-is
 
-  taken : r .taken ≡ takenOf bytes
-  taken = ap (λ (x : Report). x .taken) report
+  taken-is : r .taken ≡ takenOf bytes
+  taken-is = ap (λ (x : Report). x .taken) report-is
 
-  pub kept-or-dropped : length kept + length (droppedOf W entries) ≡ r .taken
-  kept-or-dropped = filter-others (faultFree W) entries ∙ eights-length big (takenOf bytes) (drop 5 bytes) ∙ sym taken
+  pub kept-or-dropped : length (keptOf W (entriesOf bytes)) + length (droppedOf W (entriesOf bytes)) ≡ r .taken
+  kept-or-dropped = filter-others (faultFree W) entries ∙ eights-length big (takenOf bytes) (drop 5 bytes) ∙ sym taken-is
 
   pub taken-or-missing : r .taken + r .missing ≡ countOf bytes
-  taken-or-missing = omega (arith, taken, ap (λ (x : Report). x .missing) report)
+  taken-or-missing = omega (arith, taken-is, ap (λ (x : Report). x .missing) report-is)
 
   pub every-byte : 5 + 8 * r .taken + r .over ≡ length bytes
-  every-byte = omega (arith, taken, ap (λ (x : Report). x .over) report, was-given .0 .header)
+  every-byte = omega (arith, taken-is, ap (λ (x : Report). x .over) report-is, was-given .0 .header)
 
   -- ---- rule H8, and rule H11 for the sheet
   size : length (sheetOf kept) ≡ r .written
   size = sheet-length kept ∙ sym written-kept
 
-  laid : out ≡ sheetOf kept ++ drop (r .written) sheet
-  laid = ap (λ (x : Rescuing). x .sheet) full ∙ ap (λ (n : ℕ). sheetOf kept ++ drop n sheet) (sym written-kept)
-
-  pub saved-sheet : take (r .written) out ≡ sheetOf kept
-  saved-sheet = ap (take (r .written)) laid ∙ take-at (sheetOf kept) _ (r .written) size
+  pub saved-sheet : take (r .written) out ≡ sheetOf (keptOf W (entriesOf bytes))
+  saved-sheet = ap (λ (x : Rescuing). take (r .written) (x .sheet)) full ∙ take-at (sheetOf kept) _ (r .written) size
 
   pub sheet-behind : drop (r .written) out ≡ drop (r .written) sheet
-  sheet-behind = ap (drop (r .written)) laid ∙ drop-at (sheetOf kept) _ (r .written) size
+  sheet-behind =
+      ap (λ (x : Rescuing). drop (r .written) (x .sheet)) full ∙ drop-at (sheetOf kept) _ (r .written) size
+      ∙ ap (λ (n : ℕ). drop n sheet) (sym written-kept)
 
   pub sheet-stays : length out ≡ length sheet
-  sheet-stays = ap length laid ∙ length-front (sheetOf kept) sheet (r .written) size (omega (arith, was-given .2, written-kept))
+  sheet-stays =
+      ap (λ (x : Rescuing). length (x .sheet)) full ∙ length-front (sheetOf kept) sheet (5 + 8 * length kept) (sheet-length kept) (was-given .2)
 
   -- ---- rule H9, and rule H11 for the marks
   many : length (map (markOf W) entries) ≡ r .taken
-  many = length-map entries (markOf W) ∙ eights-length big (takenOf bytes) (drop 5 bytes) ∙ sym taken
+  many = length-map entries (markOf W) ∙ eights-length big (takenOf bytes) (drop 5 bytes) ∙ sym taken-is
 
-  marked : ms ≡ map (markOf W) entries ++ drop (r .taken) marks
-  marked = ap (λ (x : Rescuing). x .marks) full ∙ ap (λ (n : ℕ). map (markOf W) entries ++ drop n marks) (sym taken)
-
-  pub saved-marks : take (r .taken) ms ≡ map (markOf W) entries
-  saved-marks = ap (take (r .taken)) marked ∙ take-at (map (markOf W) entries) _ (r .taken) many
+  pub saved-marks : take (r .taken) ms ≡ map (markOf W) (entriesOf bytes)
+  saved-marks = ap (λ (x : Rescuing). take (r .taken) (x .marks)) full ∙ take-at (map (markOf W) entries) _ (r .taken) many
 
   pub marks-behind : drop (r .taken) ms ≡ drop (r .taken) marks
-  marks-behind = ap (drop (r .taken)) marked ∙ drop-at (map (markOf W) entries) _ (r .taken) many
+  marks-behind =
+      ap (λ (x : Rescuing). drop (r .taken) (x .marks)) full ∙ drop-at (map (markOf W) entries) _ (r .taken) many ∙ ap (λ (n : ℕ). drop n marks) (sym taken-is)
 
   pub marks-stay : length ms ≡ length marks
-  marks-stay = ap length marked ∙ length-front (map (markOf W) entries) marks (r .taken) many (omega (arith, was-given .3, taken))
+  marks-stay =
+      ap (λ (x : Rescuing). length (x .marks)) full ∙ length-front (map (markOf W) entries) marks (takenOf bytes) (many ∙ taken-is) (was-given .3)
 
   -- the kept entries are those that are marked 0, in their order
-  pub kept-by-marks : kept ≡ markedKept (take (r .taken) ms) entries
+  pub kept-by-marks : keptOf W (entriesOf bytes) ≡ markedKept (take (r .taken) ms) (entriesOf bytes)
   kept-by-marks = kept-marked W entries ∙ ap (λ (l : List ℕ). markedKept l entries) (sym saved-marks)
 
   -- what the mark of the entry at a place says of its number
@@ -102,14 +101,14 @@ module _ (W : Width) (bytes sheet marks : List ℕ) {r : Report} {out ms : List 
 
     mark-at : getD ms j 0 ≡ markOf W p
     mark-at =
-        let l : j < length entries = omega (arith, eights-length big (takenOf bytes) (drop 5 bytes), taken) in
+        let l : j < length entries = omega (arith, eights-length big (takenOf bytes) (drop 5 bytes), taken-is) in
         sym (getD-take (r .taken) ms j 0 h) ∙ ap (λ (l : List ℕ). getD l j 0) saved-marks ∙ map-at (markOf W) entries j 0 0 l
 
-    pub marked-0 : (getD ms j 0 ≡ 0) ↔ (T (finite (floatOf W p)) × (sizeOf W p ≤ most W))
+    pub marked-0 : (getD ms j 0 ≡ 0) ↔ (T (finite (floatOf W (getD (entriesOf bytes) j 0))) × (sizeOf W (getD (entriesOf bytes) j 0) ≤ most W))
     marked-0 = rw mark-at (mark-0 W p)
 
-    pub marked-1 : (getD ms j 0 ≡ 1) ↔ T (not (finite (floatOf W p)))
+    pub marked-1 : (getD ms j 0 ≡ 1) ↔ T (not (finite (floatOf W (getD (entriesOf bytes) j 0))))
     marked-1 = rw mark-at (mark-1 W p)
 
-    pub marked-2 : (getD ms j 0 ≡ 2) ↔ (T (finite (floatOf W p)) × (most W < sizeOf W p))
+    pub marked-2 : (getD ms j 0 ≡ 2) ↔ (T (finite (floatOf W (getD (entriesOf bytes) j 0))) × (most W < sizeOf W (getD (entriesOf bytes) j 0)))
     marked-2 = rw mark-at (mark-2 W p)

@@ -1,4 +1,4 @@
-// What can be saved of a damaged sheet: rules H7 to H11.
+// What can be saved of a damaged sheet: rules H7 to H11. What is saved is a good sheet (rule H12).
 use crate::entries::count_kept;
 use crate::entries::write_kept;
 use crate::entries::write_marks;

@@ -34,7 +34,6 @@ some (rows.no-header h) z = omega arith
 some (rows.other-version h v) z = omega arith
 some (rows.too-many B m) z = omega arith
 some (rows.no-room B f s) z = omega arith
-some (rows.no-marks B f s) z = omega arith
 
 -- ---- another length of the report's array
 module _ (bytes : List ℕ) where
@@ -76,7 +75,7 @@ module _ (bytes : List ℕ) where
     row (no-header h) = rescue-when doubles bytes sheet marks _ .1 (rows.no-header h)
     row (other-version h v) = rescue-when doubles bytes sheet marks _ .1 (rows.other-version h v)
     row (too-many B m) = rescue-when doubles bytes sheet marks _ .1 (rows.too-many B m)
-    row (otherwise B f) = rescue-when doubles bytes sheet marks _ .1 (rows.no-room B f (omega arith))
+    row (otherwise B f) = rescue-when doubles bytes sheet marks _ .1 (rows.no-room B f (inl (omega arith)))
 
     pub unrescued-is : {r : Rescued} → rescuedOf doubles bytes sheet marks .answer ≡ r → r ≡ Refused (unrescuedCode bytes) 0
     unrescued-is e = sym e ∙ row (rescue-other (unrescuedCode bytes) .0 refl)
