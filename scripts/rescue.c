@@ -1,7 +1,7 @@
 /* Rescues a damaged sheet, for scripts/rescue, which hands over the bytes and says the report in words.
 
-   Read are how many bytes the damaged sheet has, in 64 bits, and the bytes. Written are the code and the report's four numbers, in 64 bits each, zeros where the
-   call refused; then the rescued sheet, and the marks. */
+   Read are how many bytes the damaged sheet has, in 64 bits, and the bytes. Written are the code and the report's four numbers, in 64 bits each, zeros where
+   the call refused; then the rescued sheet, and the marks. */
 #include "kewohiata.h"
 #include "pipe.h"
 

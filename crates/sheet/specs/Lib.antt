@@ -6,7 +6,7 @@ pub mod Table
 pub mod SheetLaws
 pub mod TableLaws
 pub mod WriteLaws
-pub mod LayoutLaws
 pub mod ThereAndBack
 pub mod Instances
 pub mod WriteInstances
+pub mod LayoutLaws
