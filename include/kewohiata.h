@@ -98,9 +98,9 @@ enum kewohiata_grades { KEWOHIATA_GRADE_EXACT = 0, KEWOHIATA_GRADE_NEAREST = 1, 
 /* What a rescue's report has at its four places, rule H10. */
 enum kewohiata_reports {
     KEWOHIATA_REPORT_WRITTEN = 0, /* bytes of the rescued sheet */
-    KEWOHIATA_REPORT_TAKEN = 1,   /* entries that were there whole: so many marks are written */
-    KEWOHIATA_REPORT_MISSING = 2, /* entries that the header counts and that weren't there */
-    KEWOHIATA_REPORT_OVER = 3     /* bytes behind the last entry taken */
+    KEWOHIATA_REPORT_TAKEN = 1,   /* whole entries, at most as many as the header counts: so many marks are written */
+    KEWOHIATA_REPORT_MISSING = 2, /* entries that the header counts and that weren't there whole */
+    KEWOHIATA_REPORT_OVER = 3     /* bytes behind the last entry taken, or behind the header where none is */
 };
 
 /* The mark of an entry, rule H9. */
@@ -242,7 +242,7 @@ uint32_t kewohiata_sheet_write(const uint64_t *list, size_t list_length, uint8_t
 
 /* Rescues what a damaged sheet still holds (rules H7 to H11): of the entries that are there whole, at most as many as the header counts, those that no list is
  * refused for become a sheet, in their order, at the start of `out_sheet`; each entry that was taken gets a mark at its place in `marks`. The rest of both
- * areas stays. kewohiata_sheet_read accepts the rescued sheet, cut to the bytes written, and the calls on a list accept what is read.
+ * areas stays. kewohiata_sheet_read accepts the rescued sheet, cut to the bytes written, and no call refuses what is read with 1, 2 or 3.
  * sheet: the damaged bytes. out_sheet: 5 bytes and 8 for each entry kept, or more; 32,757 always suffice. marks: a byte for each entry taken, or more; 4,094
  * always suffice. report: 4 numbers: the bytes written, the entries taken, the entries missing, the bytes lying over.
  * Refusals: 11 for fewer than 5 bytes; 12; 1 for a count above 4,094, however few entries are there; 4. */

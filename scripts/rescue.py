@@ -3,10 +3,12 @@
     scripts/rescue FILE     writes a good sheet of the entries that could be saved
     scripts/rescue -        the same of a sheet on standard input
 
-Standard output is the rescued sheet, or nothing where the damaged one is refused. Standard error tells in words how many entries were saved, how many are
-missing and how many bytes lay over; then, a line each, the entries that were dropped: the place, the pattern, and why.
+Standard output is the rescued sheet, or nothing where the damaged one is refused. Send it to another file than FILE, which the shell would empty first. Standard
+error tells in words how many of the entries that the sheet counts were saved, dropped and missing, and how many bytes lay over; then, a line each, the entries
+that were dropped: the place, the pattern, and why.
 
-Exit status: 0 where a sheet is written, 1 where the damaged one is refused and nowhere else, 2 where something else is wrong, with one line that says what.
+Exit status: 0 where a sheet is written, also where entries were lost, even all of them: the sum of a rescued sheet is that of the saved entries alone;
+1 where the damaged one is refused and nowhere else, 2 where something else is wrong, with one line that says what.
 Where target/staticlib/libkewohiata.a is missing, or older than its sources, `rt staticlib` proves and builds it first.
 """
 import os
@@ -55,7 +57,8 @@ def main():
     if code:
         return summing.explain(f"refused {code}\n".encode())
     command.answer(saved)
-    say(f"{marks.count(0)} of {counted(len(marks), 'entry', 'entries')} saved, {missing} missing, {counted(over, 'byte', 'bytes')} lying over")
+    kept, count = marks.count(0), counted(len(marks) + missing, "entry", "entries")
+    say(f"{kept} of {count} saved, {len(marks) - kept} dropped, {missing} missing; {counted(over, 'byte', 'bytes')} lying over")
     for place, mark in enumerate(marks):
         if mark:
             say(f"dropped the entry at place {place}, {sheet[5 + 8 * place : 13 + 8 * place].hex().upper()}: {WHY[mark]}")

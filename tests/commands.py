@@ -171,13 +171,13 @@ def check_rescue():
     """A good sheet, damaged ones and what is said of them, refusals, and troubles. A sheet is no text: standard output is compared in bytes."""
     saved = {"example": sheets.sheet([sheets.TOP, sheets.ONE, sheets.SIGN + sheets.TOP]), "silent": sheets.rescue(content("examples/silent.sheet"))[0]}
     for name, line, status, out, said in (
-        ("a good sheet", f"scripts/rescue {SHEET}", 0, saved["example"], ["3 of 3 entries saved, 0 missing, 0 bytes lying over"]),
-        ("standard input", f"scripts/rescue - <{SHEET}", 0, saved["example"], ["3 of 3 entries saved, 0 missing, 0 bytes lying over"]),
+        ("a good sheet", f"scripts/rescue {SHEET}", 0, saved["example"], ["3 of 3 entries saved, 0 dropped, 0 missing; 0 bytes lying over"]),
+        ("standard input", f"scripts/rescue - <{SHEET}", 0, saved["example"], ["3 of 3 entries saved, 0 dropped, 0 missing; 0 bytes lying over"]),
         ("a dropped entry", "scripts/rescue examples/silent.sheet", 0, saved["silent"],
-         ["3 of 4 entries saved, 0 missing, 0 bytes lying over", "dropped the entry at place 2, 7FF8000000000000: a NaN or infinity"]),
-        ("cut", f"head -c 14 {SHEET} | scripts/rescue -", 0, sheets.sheet([sheets.TOP]), ["1 of 1 entry saved, 2 missing, 1 byte lying over"]),
+         ["3 of 4 entries saved, 1 dropped, 0 missing; 0 bytes lying over", "dropped the entry at place 2, 7FF8000000000000: a NaN or infinity"]),
+        ("cut", f"head -c 14 {SHEET} | scripts/rescue -", 0, sheets.sheet([sheets.TOP]), ["1 of 3 entries saved, 0 dropped, 2 missing; 1 byte lying over"]),
         ("too large", "scripts/rescue tests/sheets/above_first.sheet", 0, sheets.sheet([]),
-         ["0 of 1 entry saved, 0 missing, 0 bytes lying over", "dropped the entry at place 0, 7E70000000000001: a magnitude above 2^1000"]),
+         ["0 of 1 entry saved, 1 dropped, 0 missing; 0 bytes lying over", "dropped the entry at place 0, 7E70000000000001: a magnitude above 2^1000"]),
         ("no header", "scripts/rescue - </dev/null", 1, b"", ["refused 11: "]),
         ("another version", "scripts/rescue tests/sheets/version_0.sheet", 1, b"", ["refused 12: "]),
         ("too many", "scripts/rescue tests/sheets/too_many_most.sheet", 1, b"", ["refused 1: "]),

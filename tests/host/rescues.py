@@ -6,7 +6,6 @@ from exact import INFINITY, LENGTH, MAGNITUDE, NAN, ONE, SIGN, Refused
 from sequences import turn
 from sheets import sheet
 
-HEADER = 5
 LARGE = MAGNITUDE + 1
 # what a list refuses, of either sign: NaNs that are quiet and signalling, infinities, the next number beyond 2^1000, the largest; and what it doesn't
 BAD = [sign | p for sign in (0, SIGN) for p in (NAN, INFINITY + 1, SIGN - 1, INFINITY, LARGE, INFINITY - 1)]

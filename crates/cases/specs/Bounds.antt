@@ -249,6 +249,11 @@ bounds =
       expected = outcome (rescued 13 3 1 3) (1 ∷ 0 ∷ 0 ∷ 0 ∷ 1 ∷ 0x7E ∷ 0x70 ∷ replicate 6 0 ++ (byteBeforehand ∷ 0 ∷ 1 ∷ 2 ∷ byteBeforehand ∷ []));
     }
     ∷ record { call = rescue (1 ∷ replicate 13 0) 5 0; expected = outcome (rescued 5 0 0 9) (1 ∷ 0 ∷ 0 ∷ 0 ∷ 0 ∷ []) }
+    -- and two are counted, of which one is there whole and no byte more
+    ∷ record {
+      call = rescue (1 ∷ 0 ∷ 0 ∷ 0 ∷ 2 ∷ 0x3F ∷ 0xF0 ∷ replicate 6 0) 13 1;
+      expected = outcome (rescued 13 1 1 0) (1 ∷ 0 ∷ 0 ∷ 0 ∷ 1 ∷ 0x3F ∷ 0xF0 ∷ replicate 6 0 ++ (0 ∷ []));
+    }
     -- rules L10 and R5
     ∷ record { call = sumInParts [] 0; expected = outcome (refused 5 nowhere) [] }
     ∷ record { call = sumInParts [] 8; expected = outcome (parts true) (replicate 8 0) }

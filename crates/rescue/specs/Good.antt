@@ -1,16 +1,16 @@
--- What a rescue makes is good: the reader accepts its sheet, and no list call refuses its list. A good sheet comes out byte for byte, with every mark 0,
--- nothing missing and nothing lying over; and so does what was rescued. At a width whose limit is told in 4 bytes. Assumes nothing.
+-- What a rescue makes is good: the reader accepts its sheet, and its list is refused with none of 1, 2 and 3. A good sheet comes out byte for byte, with every
+-- mark 0, nothing missing and nothing lying over; and so does what was rescued. At a width whose limit is told in 4 bytes. Assumes nothing.
 use mathlib.Core.Path.{_≡_, sym, ap, _∙_}
 use mathlib.Core.Bool.{Bool, true}
 use mathlib.Core.List.{List, _++_, map}
 use Prim.Native.Nat.{ℕ, _+_, _*_, _^_, _≤_, _<_}
 use native.Mathlib.Omega.{arith}
-use lib.Dec.{T}
+use lib.Dec.{T, lit<}
 use lib.ListN.{length, take, drop, replicate, length-drop}
 use Rattle.lists.specs.Digits.{Digits}
 use Rattle.lists.specs.DigitLaws.{digits-drop}
 use Rattle.lists.specs.Filter.{filter-passes, filter-all, filter-digits}
-use Rattle.kinds.specs.Limits.{Width}
+use Rattle.kinds.specs.Limits.{Width, doubles}
 use Rattle.kinds.specs.Outcome.{outcome}
 use Rattle.kinds.specs.declared.Sheet.the-variants.{Read}
 use Rattle.kinds.specs.declared.Verdict.the-variants.{Good}
@@ -130,3 +130,27 @@ module _ (W : Width) (w : W .length < 2 ^ 32) where
         let z : r .written ≡ 5 + 8 * length kept = written-kept W bytes sheet marks e in
         rw (saved-sheet W bytes sheet marks e, z)
         (sheet-rescued kept kept-fits (kept-below B) (kept-allowed W (entriesOf bytes)) area spots (omega arith) m)
+
+-- ---- at the scope's width
+pub doubles-rescued-read : (bytes sheet marks : List ℕ) {r : Report} {out ms : List ℕ} → rescuedOf doubles bytes sheet marks ≡ rescuing (Saved r) out ms
+    → let ps = keptOf doubles (entriesOf bytes) in
+    Digits 8 bytes → (area : List ℕ) → length ps ≤ length area
+    → readOf doubles (take (r .written) out) area ≡ outcome (Read (length ps)) (ps ++ drop (length ps) area)
+doubles-rescued-read bytes sheet marks e = rescued-read doubles (lit< tt) bytes sheet marks e
+
+pub doubles-rescued-again : (bytes sheet marks : List ℕ) {r : Report} {out ms : List ℕ} → rescuedOf doubles bytes sheet marks ≡ rescuing (Saved r) out ms
+    → let n = length (keptOf doubles (entriesOf bytes)) in
+    let again = take (r .written) out in
+    Digits 8 bytes → (area spots : List ℕ) → r .written ≤ length area → n ≤ length spots
+    → rescuedOf doubles again area spots
+    ≡ rescuing (Saved (record { written = r .written; taken = n; missing = 0; over = 0 }))
+    (again ++ drop (r .written) area) (replicate n 0 ++ drop n spots)
+doubles-rescued-again bytes sheet marks e = rescued-again doubles (lit< tt) bytes sheet marks e
+
+pub doubles-accepted-rescued : (bytes area : List ℕ) (right-area right-parts : Bool) {n : ℕ} {after : List ℕ} → Digits 8 bytes
+    → readOf doubles bytes area ≡ outcome (Read n) after → judged doubles right-area right-parts (take n after) ≡ Good
+    → (sheet marks : List ℕ) → length bytes ≤ length sheet → n ≤ length marks
+    → rescuedOf doubles bytes sheet marks
+    ≡ rescuing (Saved (record { written = length bytes; taken = n; missing = 0; over = 0 }))
+    (bytes ++ drop (length bytes) sheet) (replicate n 0 ++ drop n marks)
+doubles-accepted-rescued = accepted-rescued doubles (lit< tt)

@@ -59,6 +59,11 @@ module _ (W : Width) (bytes sheet marks : List ℕ) {r : Report} {out ms : List 
   pub every-byte : 5 + 8 * r .taken + r .over ≡ length bytes
   every-byte = omega (arith, taken-is, ap (λ (x : Report). x .over) report-is, was-given .0 .header)
 
+  -- rule H7: where entries are missing, no whole one is left behind
+  pub none-left : 0 < r .missing → r .over < 8
+  none-left m =
+      omega (arith, taken-is, ap (λ (x : Report). x .missing) report-is, ap (λ (x : Report). x .over) report-is, was-given .0 .header)
+
   -- ---- rule H8, and rule H11 for the sheet
   size : length (sheetOf kept) ≡ r .written
   size = sheet-length kept ∙ sym written-kept
