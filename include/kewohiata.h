@@ -34,8 +34,8 @@ extern "C" {
 #endif
 
 /* Below 1.0.0 calls may be added, and their forms and answers may still change; the second number tells it. */
-#define KEWOHIATA_VERSION "0.6.0"
-enum { KEWOHIATA_VERSION_MAJOR = 0, KEWOHIATA_VERSION_MINOR = 6, KEWOHIATA_VERSION_PATCH = 0 };
+#define KEWOHIATA_VERSION "0.7.0"
+enum { KEWOHIATA_VERSION_MAJOR = 0, KEWOHIATA_VERSION_MINOR = 7, KEWOHIATA_VERSION_PATCH = 0 };
 
 /* The refusals, rules R1 to R17 and R20. A code has room for numbers up to 31; 18, 19 and those above 20 are kept for later ones. */
 enum kewohiata_refusals {
@@ -68,6 +68,7 @@ enum kewohiata_lengths {
     KEWOHIATA_STATE = 10,               /* numbers of a state */
     KEWOHIATA_FAITHFUL = 2,             /* numbers that kewohiata_walk_faithful writes: pattern, rounds */
     KEWOHIATA_VALUE = 1,                /* numbers of `out` where a call tells one: nearest, parts, grade, round, sheet_read, sheet_write */
+    KEWOHIATA_REPORT = 4,               /* numbers that kewohiata_sheet_rescue reports */
     KEWOHIATA_SUM_BYTES = 16,           /* bytes of a sum of the calls on bytes */
     KEWOHIATA_WORDS = 33,               /* words of a register */
     KEWOHIATA_REGISTER_BYTES = 264,     /* the same in bytes */
@@ -93,6 +94,17 @@ enum kewohiata_kinds { KEWOHIATA_MORE = 1, KEWOHIATA_DONE = 2 };
 
 /* The grades of a claimed sum, rules Q2 to Q5, the best first. */
 enum kewohiata_grades { KEWOHIATA_GRADE_EXACT = 0, KEWOHIATA_GRADE_NEAREST = 1, KEWOHIATA_GRADE_FAITHFUL = 2, KEWOHIATA_GRADE_WRONG = 3 };
+
+/* What a rescue's report has at its four places, rule H10. */
+enum kewohiata_reports {
+    KEWOHIATA_REPORT_WRITTEN = 0, /* bytes of the rescued sheet */
+    KEWOHIATA_REPORT_TAKEN = 1,   /* whole entries, at most as many as the header counts: so many marks are written */
+    KEWOHIATA_REPORT_MISSING = 2, /* entries that the header counts and that weren't there whole */
+    KEWOHIATA_REPORT_OVER = 3     /* bytes behind the last entry taken, or behind the header where none is */
+};
+
+/* The mark of an entry, rule H9. */
+enum kewohiata_marks { KEWOHIATA_MARK_KEPT = 0, KEWOHIATA_MARK_NOT_FINITE = 1, KEWOHIATA_MARK_TOO_LARGE = 2 };
 
 /* ---- helpers: none of them is a call into the archive */
 
@@ -227,6 +239,16 @@ uint32_t kewohiata_sheet_read(const uint8_t *sheet, size_t sheet_length, uint64_
  * written to the bit. kewohiata_sheet_read, handed these bytes and no more, gives the list back.
  * sheet: 5 + 8n bytes or more. out: 1 number, the bytes that were written. Refusals: 1; 4. */
 uint32_t kewohiata_sheet_write(const uint64_t *list, size_t list_length, uint8_t *sheet, size_t sheet_length, uint64_t *out, size_t out_length);
+
+/* Rescues what a damaged sheet still holds (rules H7 to H11): of the entries that are there whole, at most as many as the header counts, those that no list is
+ * refused for become a sheet, in their order, at the start of `out_sheet`; each entry that was taken gets a mark at its place in `marks`. The rest of both
+ * areas stays. kewohiata_sheet_read accepts the rescued sheet, cut to the bytes written, and no call refuses what is read with 1, 2 or 3.
+ * sheet: the damaged bytes. out_sheet: 5 bytes and 8 for each entry kept, or more; 32,757 always suffice. marks: a byte for each entry taken, or more; 4,094
+ * always suffice. report: 4 numbers: the bytes written, the entries taken, the entries missing, the bytes lying over.
+ * Refusals: 11 for fewer than 5 bytes; 12; 1 for a count above 4,094, however few entries are there; 4. */
+uint32_t kewohiata_sheet_rescue(
+    const uint8_t *sheet, size_t sheet_length, uint8_t *out_sheet, size_t out_sheet_length, uint8_t *marks, size_t marks_length, uint64_t *report,
+    size_t report_length);
 
 /* ---- the calls on bytes (rules C1 to C7). Patterns and words lie least significant byte first, 8 bytes each, on every machine, and at any address. */
 

@@ -29,13 +29,13 @@ SUMS = re.compile(rb"count \d+\nfaithful ([0-9A-F]{16}) rounds \d+\nnearest ([0-
 REFUSED = re.compile(rb"refused (\d+)(?: at (\d+))?\n")
 
 
-def begun(name, closed):
-    """The bytes of a sheet, as many as the program reads; those of standard input where the name is -."""
+def begun(name, closed, most=BUFFER):
+    """The bytes of a sheet, no more than so many; those of standard input where the name is -."""
     if name == "-" and 0 in closed:
         raise Trouble("standard input is closed")
     try:
         with open(0 if name == "-" else name, "rb") as sheet:
-            return sheet.read(BUFFER)
+            return sheet.read(most)
     except (OSError, ValueError) as error:
         raise Trouble(f"{'standard input' if name == '-' else name}: {getattr(error, 'strerror', None) or error}") from error
 

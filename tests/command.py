@@ -4,7 +4,7 @@ import os
 import sys
 
 HELP = {"-h", "--help"}
-BEHIND = {"sum.py", "grade.py"}  # which a few lines of shell stand before
+BEHIND = {"sum.py", "grade.py", "rescue.py"}  # which a few lines of shell stand before
 
 
 class Trouble(Exception):

@@ -18,6 +18,7 @@ sys.dont_write_bytecode = True
 import built  # noqa: E402
 import command  # noqa: E402
 import kit  # noqa: E402
+import sheets  # noqa: E402
 
 ROOT = built.ROOT
 SHEET, REFUSED = "tests/sheets/example.sheet", "tests/sheets/nan_third.sheet"
@@ -46,6 +47,11 @@ def expect(name, held, *more):
 
 def read(path):
     with open(os.path.join(ROOT, path), encoding="utf-8") as f:
+        return f.read()
+
+
+def content(path):
+    with open(os.path.join(ROOT, path), "rb") as f:
         return f.read()
 
 
@@ -159,6 +165,34 @@ def check_grade():
         got = shell(line)
         held = said is None or (len(got[2]) == 1 and got[2][0].startswith("scripts/grade: ") and said in got[2][0])
         expect(f"scripts/grade: {name}", got[:2] == (status, out) and held, got)
+
+
+def check_rescue():
+    """A good sheet, damaged ones and what is said of them, refusals, and troubles. A sheet is no text: standard output is compared in bytes."""
+    saved = {"example": sheets.sheet([sheets.TOP, sheets.ONE, sheets.SIGN + sheets.TOP]), "silent": sheets.rescue(content("examples/silent.sheet"))[0]}
+    for name, line, status, out, said in (
+        ("a good sheet", f"scripts/rescue {SHEET}", 0, saved["example"], ["3 of 3 entries saved, 0 dropped, 0 missing; 0 bytes lying over"]),
+        ("standard input", f"scripts/rescue - <{SHEET}", 0, saved["example"], ["3 of 3 entries saved, 0 dropped, 0 missing; 0 bytes lying over"]),
+        ("a dropped entry", "scripts/rescue examples/silent.sheet", 0, saved["silent"],
+         ["3 of 4 entries saved, 1 dropped, 0 missing; 0 bytes lying over", "dropped the entry at place 2, 7FF8000000000000: a NaN or infinity"]),
+        ("cut", f"head -c 14 {SHEET} | scripts/rescue -", 0, sheets.sheet([sheets.TOP]), ["1 of 3 entries saved, 0 dropped, 2 missing; 1 byte lying over"]),
+        ("too large", "scripts/rescue tests/sheets/above_first.sheet", 0, sheets.sheet([]),
+         ["0 of 1 entry saved, 1 dropped, 0 missing; 0 bytes lying over", "dropped the entry at place 0, 7E70000000000001: a magnitude above 2^1000"]),
+        ("no header", "scripts/rescue - </dev/null", 1, b"", ["refused 11: "]),
+        ("another version", "scripts/rescue tests/sheets/version_0.sheet", 1, b"", ["refused 12: "]),
+        ("too many", "scripts/rescue tests/sheets/too_many_most.sheet", 1, b"", ["refused 1: "]),
+        ("no sheet", "head -c 16777217 /dev/zero | scripts/rescue -", 2, b"", ["more than 16777216 bytes"]),
+        ("no file", "scripts/rescue 'no such file'", 2, b"", ["No such file"]),
+        ("two words", f"scripts/rescue {SHEET} {SHEET}", 2, b"", ["say one FILE"]),
+        ("a folder as input", "scripts/rescue - <tests", 2, b"", ["standard input is a folder"]),
+        ("closed output", f"scripts/rescue {SHEET} >&-", 2, b"", ["standard output is closed"]),
+        ("full output", f"scripts/rescue {SHEET} >/dev/full", 2, b"", ["standard output: "]),
+    ):  # fmt: skip
+        COUNTS["statuses"] += 1
+        got = subprocess.run(["bash", "-c", line], cwd=ROOT, stdin=subprocess.DEVNULL, capture_output=True, check=False)
+        lines = got.stderr.decode().splitlines()
+        held = len(lines) == len(said) and all(one.startswith("scripts/rescue: ") and other in one for one, other in zip(lines, said))
+        expect(f"scripts/rescue: {name}", (got.returncode, got.stdout) == (status, out) and held, got)
 
 
 def check_example():
@@ -319,6 +353,7 @@ def main():
     check_help()
     check_sum()
     check_grade()
+    check_rescue()
     check_example()
     check_rooms()
     check_install()

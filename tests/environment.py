@@ -45,7 +45,7 @@ ENVIRONMENTS = {
     "both, upward": USUAL | UP | FLUSH | ZEROED,
 }
 GOOD = {"as usual", "with flags raised"}
-ENVIRONMENT, NEAREST, ADD, WITHDRAW, FAITHFUL, LIST_NEAREST, WORDS_ROUND, PARTS, WALK, READ, HAND_ON, WRITE, MERGE, GRADE, STEP = range(15)
+ENVIRONMENT, NEAREST, ADD, WITHDRAW, FAITHFUL, LIST_NEAREST, WORDS_ROUND, PARTS, WALK, READ, HAND_ON, WRITE, MERGE, GRADE, STEP, RESCUE = range(16)
 
 TINY = [exact.ONE, 0x36EB6, exact.ONE | exact.SIGN]
 LISTS = 150
@@ -59,8 +59,9 @@ NAMES = {
     "GRADE_WRONG": 3, "LIST_MOST": 4094,
     "LIST_BYTES_MOST": 32752, "BLOCK": 64, "STATE": 10, "FAITHFUL": 2, "VALUE": 1, "SUM_BYTES": 16, "WORDS": 33, "REGISTER_BYTES": 264, "PARTS_MOST": 8,
     "ROUNDS_MOST": 51, "SHEET_HEADER": 5, "SHEET_BYTES_MOST": 32757, "ACCEPTED": 0, "MORE": 1, "DONE": 2, "STATE_KIND": 0, "STATE_SIGMA": 1, "STATE_T": 2,
-    "STATE_TAU": 3, "STATE_N": 4, "STATE_PENDING": 5, "STATE_ROUNDS": 6, "DONE_SUM": 1, "DONE_ROUNDS": 2, "VERSION_MAJOR": 0, "VERSION_MINOR": 6,
-    "VERSION_PATCH": 0,
+    "STATE_TAU": 3, "STATE_N": 4, "STATE_PENDING": 5, "STATE_ROUNDS": 6, "DONE_SUM": 1, "DONE_ROUNDS": 2, "VERSION_MAJOR": 0, "VERSION_MINOR": 7,
+    "VERSION_PATCH": 0, "REPORT": 4, "REPORT_WRITTEN": 0, "REPORT_TAKEN": 1, "REPORT_MISSING": 2, "REPORT_OVER": 3, "MARK_KEPT": 0, "MARK_NOT_FINITE": 1,
+    "MARK_TOO_LARGE": 2,
 }  # fmt: skip
 
 DIFFERENCES = []
@@ -176,6 +177,9 @@ def wanted(call, numbers):
         return (numbers + [0] * 32)[:32] + [len(numbers)]
     if call == WRITE:
         return (numbers + [0] * 31)[:31] + [2**32 + len(numbers), 5 + 8 * len(numbers)]
+    if call == RESCUE:
+        kept = numbers[1:]
+        return [5 + 8 * len(kept), len(numbers), 1, 3] + (kept + [0] * 28)[:28] + [1]
     if call == PARTS:
         parts, all_of_it = exact.sum_in_parts(numbers, exact.PARTS)
         return parts + [int(all_of_it)]
@@ -184,7 +188,7 @@ def wanted(call, numbers):
 
 def check_calls(name, program, prefix, some):
     """The calls on whole numbers answer the same everywhere; the walk's are counted where they are wrong."""
-    calls = [NEAREST, ADD, WITHDRAW] + [LIST_NEAREST, WORDS_ROUND, PARTS, READ, HAND_ON, WRITE, MERGE, GRADE]
+    calls = [NEAREST, ADD, WITHDRAW] + [LIST_NEAREST, WORDS_ROUND, PARTS, READ, HAND_ON, WRITE, MERGE, GRADE, RESCUE]
     right = {(call, k): wanted(call, numbers) for call in calls for k, numbers in enumerate(some)}
     for what, control in ENVIRONMENTS.items():
         asked = [(call, k) for call in calls for k in range(len(some))]

@@ -36,11 +36,12 @@ import farewells  # noqa: E402
 import fixed  # noqa: E402
 import kit  # noqa: E402
 import merges  # noqa: E402
+import rescues  # noqa: E402
 import shuffles  # noqa: E402
 import writings  # noqa: E402
 
 PLACE = os.path.join(ROOT, "target", "host")
-OTHERS = claims, farewells, merges, shuffles, writings
+OTHERS = claims, farewells, merges, rescues, shuffles, writings
 FIXED = fixed.GROUPS + [group for other in OTHERS for group in other.FIXED]
 DRAWN = drawn.GROUPS + [group for other in OTHERS for group in other.DRAWN]
 LISTS = 20000
@@ -68,6 +69,7 @@ REFUSALS = {
     "kewohiata_sheet_write": {0, 1, 4},
     "kewohiata_words_merge": {0, 4, 9},
     "kewohiata_list_grade": SUMS | {20},
+    "kewohiata_sheet_rescue": {0, 1, 4, 11, 12},
 }
 
 

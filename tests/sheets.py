@@ -10,7 +10,9 @@ through a pipe in small pieces, each written when the program has taken the one 
 """
 import array
 import fcntl
+import math
 import os
+import struct
 import subprocess
 import sys
 import termios
@@ -53,6 +55,29 @@ def read(data):
     if len(data) > 5 + 8 * count:
         raise Refused(13, 0)
     return [int.from_bytes(data[i : i + 8], "big") for i in range(5, len(data), 8)]
+
+
+# ---- rules H7 to H10
+def mark(entry):
+    """Of an entry's 8 bytes, as a double: 0 kept, 1 not finite, 2 too large."""
+    (x,) = struct.unpack(">d", entry)
+    return 1 if not math.isfinite(x) else 2 if abs(x) > 2.0**1000 else 0
+
+
+def rescue(data):
+    """The sheet that is saved of a damaged one, the marks, how many entries are missing and how many bytes lie over; or the refusal: 11, 12, 1."""
+    if len(data) < 5:
+        raise Refused(11, 0)
+    if data[0] != 1:
+        raise Refused(12, 0)
+    count = int.from_bytes(data[1:5], "big")
+    if count > exact.LENGTH:
+        raise Refused(1, 0)
+    entries = [data[i : i + 8] for i in range(5, len(data), 8)][:count]
+    entries = [entry for entry in entries if len(entry) == 8]
+    marks = bytes(map(mark, entries))
+    kept = [entry for entry, told in zip(entries, marks) if told == 0]
+    return b"\1" + len(kept).to_bytes(4, "big") + b"".join(kept), marks, count - len(entries), len(data) - 5 - 8 * len(entries)
 
 
 def printed(data):

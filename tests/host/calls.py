@@ -1,8 +1,8 @@
 """The C calls: each as a request to the driver, with the answer that docs/SCOPE.md asks for.
 
 The answers come from the models of tests/exact.py (sums, parts and registers in whole units), tests/walk.py (the faithful walk), tests/grades.py (grades) and
-tests/farewell.py (weights); what is said here is how they lie in arrays and which lengths are refused. Sheets are read and written as by tests/sheets.py. An
-array is its bytes, of whatever its elements are.
+tests/farewell.py (weights); what is said here is how they lie in arrays and which lengths are refused. Sheets are read, written and rescued as by
+tests/sheets.py. An array is its bytes, of whatever its elements are.
 """
 import collections
 import functools
@@ -34,10 +34,13 @@ CALLS = {
     "kewohiata_sheet_write": "QBQ",
     "kewohiata_words_merge": "QQQ",
     "kewohiata_list_grade": "QQ",
+    "kewohiata_sheet_rescue": "BBBQ",
 }
 NUMBERS = {call: number for number, call in enumerate(CALLS)}
 SIZE, SUM, REGISTER = 8, 16, 8 * exact.WORDS  # bytes of a number, of a sum in bytes, and of a register
+ARRAYS = 4  # of a call, at most
 TEN = 10  # numbers of a state
+REPORT = 4  # numbers of a rescue's report
 VALUES = {"kewohiata_walk_open": TEN, "kewohiata_walk_faithful": 2}  # numbers that a walk's call writes
 
 # Before and behind each array, where no call may write. Those of bytes begin at no multiple of 8.
@@ -63,7 +66,7 @@ def heard(number, place):
 
 # ---- what goes through the pipes
 def padded(numbers):
-    return [*numbers, 0, 0, 0][:3]
+    return [*numbers, *[0] * ARRAYS][:ARRAYS]
 
 
 def laid(call, arrays):
@@ -339,3 +342,15 @@ def written(data, area, out):
         return [data, sheet + area[len(sheet) :], packed([len(sheet)])], None
 
     return asked("kewohiata_sheet_write", [data, area, out], model)
+
+
+def rescued(damaged, area, marks, report):
+    """11 for fewer than 5 bytes, 12, 1, and 4 for either area that is too short or for the report."""
+    def model():
+        saved, told, missing, over = sheets.rescue(damaged)
+        if len(area) < len(saved) or len(marks) < len(told) or len(report) != SIZE * REPORT:
+            raise Refused(4, 0)
+        after = [damaged, saved + area[len(saved) :], told + marks[len(told) :], packed([len(saved), len(told), missing, over])]
+        return after, None
+
+    return asked("kewohiata_sheet_rescue", [damaged, area, marks, report], model)

@@ -1,13 +1,13 @@
 /* Takes calls on standard input and writes their answers, for tests/host.py.
 
-   A request is eleven 64-bit numbers (which call, its number where it has one, and of up to three arrays at which element it begins, how many elements are
+   A request is fourteen 64-bit numbers (which call, its number where it has one, and of up to four arrays at which element it begins, how many elements are
    lent, and how many bytes follow for it) and then those bytes: each array with guards before and behind it. An answer is the call's code in 64 bits and all
    of the bytes as they are afterwards: arrays that a call only reads, and the guards, too. There are no headers of a C library here, and nothing but read and
    write is used of it. */
 #include "kewohiata.h"
 #include "pipe.h"
 
-enum { ARRAYS = 3, LIMIT = 1 << 18 };
+enum { ARRAYS = 4, LIMIT = 1 << 18 };
 
 struct request {
     uint64_t call, number, at[ARRAYS], length[ARRAYS], size[ARRAYS];
@@ -42,6 +42,7 @@ static uint64_t call(const struct request *r)
     case 14: return kewohiata_sheet_write(LENT(0, numbers), LENT(1, bytes), LENT(2, numbers));
     case 15: return kewohiata_words_merge(LENT(0, numbers), LENT(r->number ? 0 : 1, numbers), LENT(2, numbers)); /* or the first register twice */
     case 16: return kewohiata_list_grade(LENT(0, numbers), r->number, LENT(1, numbers));
+    case 17: return kewohiata_sheet_rescue(LENT(0, bytes), LENT(1, bytes), LENT(2, bytes), LENT(3, numbers));
     default: return UINT64_MAX;
     }
 }

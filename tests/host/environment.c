@@ -87,6 +87,24 @@ static uint32_t sheet_written(size_t n)
     return code;
 }
 
+/* the list as a sheet that counts one number more, whose first is made a NaN or an infinity, with three bytes behind it: the report, then of what is saved
+   as many patterns as there are values but for the last, which is how many marks aren't 0 */
+static uint32_t sheet_rescued(size_t n)
+{
+    static uint8_t damaged[KEWOHIATA_SHEET_BYTES_MOST + 3], sheet[KEWOHIATA_SHEET_BYTES_MOST], marks[KEWOHIATA_LIST_MOST];
+    uint32_t code = kewohiata_sheet_write(list, n, damaged, sizeof damaged, values, KEWOHIATA_VALUE);
+    damaged[KEWOHIATA_SHEET_HEADER - 1]++;
+    damaged[KEWOHIATA_SHEET_HEADER] = 0x7F;
+    damaged[KEWOHIATA_SHEET_HEADER + 1] = 0xF0;
+    if (code == KEWOHIATA_ACCEPTED)
+        code = kewohiata_sheet_rescue(damaged, (size_t)values[0] + 3, sheet, sizeof sheet, marks, sizeof marks, values, KEWOHIATA_REPORT);
+    for (size_t i = 0; i < 8 * (n - 1) && i < 8 * (VALUES - 1 - KEWOHIATA_REPORT); i++)
+        values[KEWOHIATA_REPORT + i / 8] = values[KEWOHIATA_REPORT + i / 8] << 8 | sheet[KEWOHIATA_SHEET_HEADER + i];
+    for (size_t i = 0; i < n; i++)
+        values[VALUES - 1] += marks[i] != KEWOHIATA_MARK_KEPT;
+    return code;
+}
+
 /* weights of 3, 0, 1, 1 and 2^30 - 5 times 2^-30; which clock leaves is chosen by the list's length */
 static uint32_t handed_on(size_t n)
 {
@@ -128,6 +146,7 @@ static uint32_t call(uint64_t which, size_t n)
     case 12: return merged(n);
     case 13: return graded(n);
     case 14: return stepped();
+    case 15: return sheet_rescued(n);
     default: return UINT32_MAX;
     }
 }

@@ -6,7 +6,7 @@ use Prim.Native.Nat.{ℕ, _+_}
 use lib.Dec.{ltb}
 use lib.ListN.{length}
 use Rattle.kinds.specs.Limits.{doubles}
-use Rattle.kinds.specs.Heard.{Heard, refused, more, done, nearest, parts, accepted, count}
+use Rattle.kinds.specs.Heard.{Heard, refused, more, done, nearest, parts, accepted, count, rescued}
 use Rattle.calls.specs.Calls.{placeCode}
 
 -- ---- what is returned: 0, or a refusal's code
@@ -18,6 +18,7 @@ codeOf (nearest x) = 0
 codeOf (parts b) = 0
 codeOf accepted = 0
 codeOf (count n) = 0
+codeOf (rescued written taken missing over) = 0
 
 -- ---- rule C10: the values that an accepted call writes to its array of numbers; a refused one leaves it
 abbrev pub valuesOf : Heard → List ℕ → List ℕ
@@ -28,6 +29,7 @@ valuesOf (nearest x) before = x ∷ []
 valuesOf (parts b) before = cond b 1 0 ∷ []
 valuesOf accepted before = before
 valuesOf (count n) before = n ∷ []
+valuesOf (rescued written taken missing over) before = written ∷ taken ∷ missing ∷ over ∷ []
 
 -- ---- what is returned, the lent area and the values afterwards
 pub record Returned (X : Type 0) : Type 0 where

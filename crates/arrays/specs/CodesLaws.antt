@@ -13,7 +13,7 @@ use Rattle.lists.specs.Apart.{apart}
 use Rattle.units.specs.Powers.{le-or-lt}
 use Rattle.kinds.specs.Limits.{doubles}
 use Rattle.kinds.specs.Outcome.{Outcome, outcome}
-use Rattle.kinds.specs.Heard.{Place, Heard, refused, more, done, nearest, parts, accepted, count}
+use Rattle.kinds.specs.Heard.{Place, Heard, refused, more, done, nearest, parts, accepted, count, rescued}
 use Rattle.kinds.specs.Hearing.{exactly}
 use Rattle.kinds.specs.OutcomeLaws.{same}
 use Rattle.kinds.specs.declared.Verdict.the-variants as verdicts
@@ -35,6 +35,7 @@ heard-row h (accepts A) = by h A
     by (parts b) A = refl
     by accepted A = refl
     by (count n) A = refl
+    by (rescued w t m o) A = refl
 
 heard-some : (h : Heard) → (c : ℕ) × HeardWhen h c
 heard-some (refused k p) = (_, refuses k p refl)
@@ -44,6 +45,7 @@ heard-some (nearest x) = (_, accepts (λ k p e. apart (cc)))
 heard-some (parts b) = (_, accepts (λ k p e. apart (cc)))
 heard-some accepted = (_, accepts (λ k p e. apart (cc)))
 heard-some (count n) = (_, accepts (λ k p e. apart (cc)))
+heard-some (rescued w t m o) = (_, accepts (λ k p e. apart (cc)))
 
 pub heard-code : (h : Heard) (c : ℕ) → (codeOf h ≡ c) ↔ HeardWhen h c
 heard-code h = exactly (codeOf h) (HeardWhen h) (λ c. heard-row h) (heard-some h)
@@ -89,6 +91,7 @@ refused-code (nearest x) n = absurd (n refl)
 refused-code (parts b) n = absurd (n refl)
 refused-code accepted n = absurd (n refl)
 refused-code (count m) n = absurd (n refl)
+refused-code (rescued w t m o) n = absurd (n refl)
 
 pub values-left : (h : Heard) (before : List ℕ) → (codeOf h ≡ 0 → ⊥) → valuesOf h before ≡ before
 values-left h before n = let r = refused-code h n in ap (λ (x : Heard). valuesOf x before) (r .2)

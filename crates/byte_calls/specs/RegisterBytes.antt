@@ -2,22 +2,19 @@
 -- 264 bytes, and the code of every row of the table. Assumes nothing.
 use mathlib.Core.Path.{_≡_, refl, sym, ap, _∙_}
 use mathlib.Core.List.{List, []}
-use Prim.Native.Nat.{ℕ, zero, suc, _+_, _*_}
+use Prim.Native.Nat.{ℕ, _+_, _*_}
 use native.Mathlib.Omega.{arith}
 use lib.IntN.{ℤ, _+ℤ_, _-ℤ_}
-use lib.Pow.{pow-pos}
-use lib.ListN.{length, take, drop, length-drop}
-use lib.Seq.{length-take-le}
+use lib.ListN.{length}
 use Rattle.lists.specs.Digits.{Digits}
-use Rattle.lists.specs.DigitLaws.{digits-more, digits-take, digits-drop, number-lt}
 use Rattle.kinds.specs.Limits.{doubles}
 use Rattle.kinds.specs.Outcome.{outcome}
 use Rattle.kinds.specs.Heard.{entryHeard}
 use Rattle.kinds.specs.declared.Entry.{Entry}
 use Rattle.kinds.specs.declared.Entry.the-variants as entries
-use Rattle.octets.specs.Octets.{littleEndian, little, packed, unpacked, eights}
-use Rattle.octets.specs.OctetsLaws.{little-length, little-back, little-bytes-back}
-use Rattle.octets.specs.EightsLaws.{eights-length, eights-joined, joined-eights, joined-length}
+use Rattle.octets.specs.Octets.{littleEndian, little, packed, unpacked}
+use Rattle.octets.specs.OctetsLaws.{little-length, little-below, little-back, little-bytes-back}
+use Rattle.octets.specs.EightsLaws.{eights-length, eights-below, eights-joined, joined-eights, joined-length}
 use Rattle.words.specs.Words.{wordCount, wholeOf}
 use Rattle.register.specs.Register.{Changed, enter, added, withdrawn}
 use Rattle.addend.specs.Addend.{unitsOf, Held}
@@ -26,15 +23,7 @@ use Rattle.register.specs.RegisterLaws.{entry-when, whole-after, held-after, wi
 use Rattle.calls.specs.Calls.{Called, answered, registerCall, addCall, withdrawCall, registerBytes, wordsIn}
 use Rattle.calls.specs.CallsLaws.{register-refused, register-registered, answered-accepted}
 
--- ---- words from bytes, and back
-eights-below : (n : ℕ) (bs : List ℕ) → Digits 8 bs → length bs ≡ 8 * n → Digits 64 (unpacked n bs)
-unfolding eights
-eights-below zero bs B l = record { below = λ i. pow-pos 64 }
-eights-below (suc n) bs B l =
-    let t : length (take 8 bs) ≡ 8 = length-take-le 8 bs (omega arith) in
-    digits-more 64 (rw t at (number-lt 8 (take 8 bs) (digits-take 8 8 bs B)))
-    (eights-below n (drop 8 bs) (digits-drop 8 8 bs B) (rw (length-drop 8 bs) (omega arith)))
-
+-- ---- words to bytes, and back
 words-back : (ws : List ℕ) → Held ws → wordsIn (packed ws) ≡ ws
 words-back ws W = ap (λ (n : ℕ). unpacked n (packed ws)) (sym (W .long)) ∙ eights-joined (littleEndian 8) (little-length 8) little (little-back 8) ws (W .below)
 
@@ -60,7 +49,7 @@ module _ (register : List ℕ) (B : Digits 8 register) (l : length register ≡ 
   doing vs = enter vs p (z vs)
 
   held : Held ws
-  held = record { long = eights-length little wordCount register; below = eights-below wordCount register B l }
+  held = record { long = eights-length little wordCount register; below = eights-below little little-below wordCount register B (omega arith) }
 
   is-entered : registerCall doing register .answer ≡ 0 → e .answer ≡ entries.Entered
   is-entered c =

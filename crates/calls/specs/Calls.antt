@@ -7,7 +7,7 @@ use lib.Ieee.{Float, ofBits}
 use lib.ListN.{length, replicate}
 use Rattle.kinds.specs.Limits.{doubles}
 use Rattle.kinds.specs.Outcome.{Outcome, outcome}
-use Rattle.kinds.specs.Heard.{Place, nowhere, at, Heard, refused, more, done, nearest, parts, accepted, count}
+use Rattle.kinds.specs.Heard.{Place, nowhere, at, Heard, refused, more, done, nearest, parts, accepted, count, rescued}
 use Rattle.kinds.specs.Heard.{stepHeard, nearestHeard, entryHeard}
 use Rattle.octets.specs.Octets.{packed, unpacked}
 use Rattle.words.specs.Words.{wordCount}
@@ -24,7 +24,7 @@ abbrev pub placeCode : Place → ℕ
 placeCode nowhere = 0
 placeCode (at p) = 32 * (p + 1)
 
--- What is heard, as a call returns and leaves it, with the lent bytes before and the words of a register afterwards: rules C3 to C5. The last three are heard
+-- What is heard, as a call returns and leaves it, with the lent bytes before and the words of a register afterwards: rules C3 to C5. The last four are heard
 -- of no call here.
 unfoldable pub answered : Heard → List ℕ → List ℕ → Called
 answered (refused k p) before words = outcome (k + placeCode p) before
@@ -34,6 +34,7 @@ answered accepted before words = outcome 0 (packed words)
 answered (more sigma t tau n pending rounds) before words = outcome 0 before
 answered (parts b) before words = outcome 0 before
 answered (count n) before words = outcome 0 before
+answered (rescued written taken missing over) before words = outcome 0 before
 
 -- ---- the bytes of the longest list, of a sum and of a register
 abbrev pub listBytes : ℕ

@@ -8,7 +8,7 @@ use lib.Dec.{eqb}
 use lib.ListN.{length}
 use Rattle.kinds.specs.Outcome.{outcome}
 use Rattle.kinds.specs.OutcomeLaws.{determined}
-use Rattle.kinds.specs.Heard.{Place, nowhere, at, Heard, refused, more, done, nearest, parts, accepted, count}
+use Rattle.kinds.specs.Heard.{Place, nowhere, at, Heard, refused, more, done, nearest, parts, accepted, count, rescued}
 use Rattle.register.specs.Register.{Changed}
 use Rattle.calls.specs.Calls.{Called, placeCode, answered, lengthFault, patternsIn, summed, sumCall, registered, registerCall, registerBytes}
 
@@ -26,6 +26,7 @@ answer-leaves accepted before words n = absurd (n refl)
 answer-leaves (more a b c d e f) before words n = absurd (n refl)
 answer-leaves (parts b) before words n = absurd (n refl)
 answer-leaves (count m) before words n = absurd (n refl)
+answer-leaves (rescued w t m o) before words n = absurd (n refl)
 
 -- a call is what it answers, or a refusal of its lengths
 either-leaves : (b : Bool) (c : Called) (k : ℕ) (before : List ℕ) → ((c .answer ≡ 0 → ⊥) → c .area ≡ before)

@@ -6,9 +6,9 @@ use mathlib.Core.List.{List, [], _∷_, _++_}
 use Prim.Native.Nat.{ℕ, _+_, _-_, _^_}
 use lib.ListN.{replicate}
 use Rattle.kinds.specs.Outcome.{outcome}
-use Rattle.kinds.specs.Heard.{nowhere, at, refused, more, done, nearest, parts, accepted, count}
+use Rattle.kinds.specs.Heard.{nowhere, at, refused, more, done, nearest, parts, accepted, count, rescued}
 use Rattle.cases.specs.Calls.{Given, Case, beforehand, byteBeforehand, least, greatest}
-use Rattle.cases.specs.Calls.{opening, step, faithfulSum, nearestSum, sumInParts, round, merge, sheet, write, handOn, grading}
+use Rattle.cases.specs.Calls.{opening, step, faithfulSum, nearestSum, sumInParts, round, merge, sheet, write, rescue, handOn, grading}
 
 -- a state with t = tau = +0; one with a given t and tau, and one with a given sigma, of one number
 abbrev opened : ℕ → ℕ → ℕ → Given
@@ -241,6 +241,19 @@ bounds =
     }
     ∷ record { call = write [] 5; expected = outcome (count 5) (1 ∷ 0 ∷ 0 ∷ 0 ∷ 0 ∷ []) }
     ∷ record { call = write (replicate 258 0) 2069; expected = outcome (count 2069) (1 ∷ 0 ∷ 0 ∷ 1 ∷ 2 ∷ replicate 2064 0) }
+    -- rules H7 to H11: four are counted; 2^1000, a NaN and the next below -2^1000 are there, and three bytes; a byte more in each area. None is counted
+    ∷ record {
+      call =
+          rescue (1 ∷ 0 ∷ 0 ∷ 0 ∷ 4 ∷ (0x7E ∷ 0x70 ∷ replicate 6 0) ++ (0x7F ∷ 0xF8 ∷ replicate 6 0) ++ (0xFE ∷ 0x70 ∷ replicate 5 0) ++ (1 ∷ 64 ∷ 0 ∷ 0 ∷ []))
+          14 4;
+      expected = outcome (rescued 13 3 1 3) (1 ∷ 0 ∷ 0 ∷ 0 ∷ 1 ∷ 0x7E ∷ 0x70 ∷ replicate 6 0 ++ (byteBeforehand ∷ 0 ∷ 1 ∷ 2 ∷ byteBeforehand ∷ []));
+    }
+    ∷ record { call = rescue (1 ∷ replicate 13 0) 5 0; expected = outcome (rescued 5 0 0 9) (1 ∷ 0 ∷ 0 ∷ 0 ∷ 0 ∷ []) }
+    -- and two are counted, of which one is there whole and no byte more
+    ∷ record {
+      call = rescue (1 ∷ 0 ∷ 0 ∷ 0 ∷ 2 ∷ 0x3F ∷ 0xF0 ∷ replicate 6 0) 13 1;
+      expected = outcome (rescued 13 1 1 0) (1 ∷ 0 ∷ 0 ∷ 0 ∷ 1 ∷ 0x3F ∷ 0xF0 ∷ replicate 6 0 ++ (0 ∷ []));
+    }
     -- rules L10 and R5
     ∷ record { call = sumInParts [] 0; expected = outcome (refused 5 nowhere) [] }
     ∷ record { call = sumInParts [] 8; expected = outcome (parts true) (replicate 8 0) }

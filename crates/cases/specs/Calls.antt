@@ -14,6 +14,7 @@ use Rattle.walk.specs.Walk.{Walked, opened, stepped, faithfulOf}
 use Rattle.sums.specs.Sums.{nearestOf, partsOf}
 use Rattle.sheet.specs.Sheet.{readOf}
 use Rattle.sheet.specs.Write.{writtenOf, writtenHeard}
+use Rattle.rescue.specs.Rescue.{rescuedOf, rescuedHeard}
 use Rattle.weights.specs.Weights.{handedOf, handedHeard}
 use Rattle.grade.specs.Grade.{gradeOf, gradedHeard}
 
@@ -60,12 +61,14 @@ pub data Call : Type 0 where
   -- reading a sheet's bytes to an area of a length; writing a list as a sheet to so many bytes
   sheet : List ℕ → ℕ → Call
   write : List ℕ → ℕ → Call
+  -- rescuing a damaged sheet's bytes, to so many bytes for the sheet and so many for the marks
+  rescue : List ℕ → ℕ → ℕ → Call
   -- handing on the weight of a weight list's clock at a place, to an area of a length
   handOn : List ℕ → ℕ → ℕ → Call
   -- the grade of a claim, by its pattern, of a list's sum
   grading : List ℕ → ℕ → Call
 
--- what its caller hears, beside the patterns or words of the lent area afterwards
+-- what its caller hears, beside the patterns or words of the lent area afterwards; of two areas the second stands behind the first
 abbrev pub Result : Type 0
 Result = Outcome Heard ℕ
 
@@ -95,6 +98,9 @@ resultOf (sheet bytes m) =
 resultOf (write ps m) =
     let r = writtenOf doubles ps (replicate m byteBeforehand) in
     outcome (writtenHeard (r .answer)) (r .area)
+resultOf (rescue bytes m k) =
+    let r = rescuedOf doubles bytes (replicate m byteBeforehand) (replicate k byteBeforehand) in
+    outcome (rescuedHeard (r .answer)) (r .sheet ++ r .marks)
 resultOf (handOn ps place m) =
     let r = handedOf doubles ps place (replicate m beforehand) in
     outcome (handedHeard (r .answer)) (r .area)

@@ -1,4 +1,4 @@
--- Calls with two faults at once, where rules O1 to O5 and O7 to O10 say which is told, and some with the later fault alone: a table of the same kind.
+-- Calls with two faults at once, where rules O1 to O5 and O7 to O11 say which is told, and some with the later fault alone: a table of the same kind.
 -- Definitions only.
 -- Patterns: 7FF0000000000000 is an infinity, FFF8000000000000 a NaN, and 7E70000000000001 the first double above 2^1000.
 use mathlib.Core.List.{List, [], _∷_, _++_}
@@ -7,7 +7,7 @@ use lib.ListN.{replicate}
 use Rattle.kinds.specs.Outcome.{outcome}
 use Rattle.kinds.specs.Heard.{nowhere, at, refused}
 use Rattle.cases.specs.Calls.{Given, Case, beforehand, byteBeforehand, least, greatest}
-use Rattle.cases.specs.Calls.{faithfulWithin, step, nearestSum, sumInParts, add, withdraw, round, merge, sheet, write, handOn, grading}
+use Rattle.cases.specs.Calls.{faithfulWithin, step, nearestSum, sumInParts, add, withdraw, round, merge, sheet, write, rescue, handOn, grading}
 
 abbrev numbered : ℕ → ℕ → Given
 numbered n pending = record { sigma = 0x4070000000000000; t = 0; tau = 0; n = n; pending = pending; rounds = 0 }
@@ -56,6 +56,12 @@ faults =
     -- rule O8: 1 before 4; and 4 alone, one byte short
     ∷ record { call = write (replicate 4095 0) 4; expected = outcome (refused 1 nowhere) (replicate 4 byteBeforehand) }
     ∷ record { call = write (0x7FF0000000000000 ∷ []) 12; expected = outcome (refused 4 nowhere) (replicate 12 byteBeforehand) }
+    -- rule O11: 11 before 12; 12 before 1; 1 before 4, however few entries are there; 4 of the sheet, and of the marks, for a dropped entry too
+    ∷ record { call = rescue (2 ∷ 0 ∷ 0 ∷ 0 ∷ []) 0 0; expected = outcome (refused 11 nowhere) [] }
+    ∷ record { call = rescue (2 ∷ 0 ∷ 0 ∷ 15 ∷ 255 ∷ []) 0 0; expected = outcome (refused 12 nowhere) [] }
+    ∷ record { call = rescue (1 ∷ 255 ∷ 255 ∷ 255 ∷ 255 ∷ []) 4 0; expected = outcome (refused 1 nowhere) (replicate 4 byteBeforehand) }
+    ∷ record { call = rescue (1 ∷ 0 ∷ 0 ∷ 0 ∷ 1 ∷ replicate 8 0) 12 1; expected = outcome (refused 4 nowhere) (replicate 13 byteBeforehand) }
+    ∷ record { call = rescue (1 ∷ 0 ∷ 0 ∷ 0 ∷ 1 ∷ 255 ∷ 240 ∷ replicate 6 0) 5 0; expected = outcome (refused 4 nowhere) (replicate 5 byteBeforehand) }
     -- rule O7: 1 before 4; 4 before a bad number; that, at any place, before 14; 14 before 15; 15 before 16 and 17, also of no weight at all
     ∷ record { call = handOn (0x7FF0000000000000 ∷ replicate 4094 0) 0 0; expected = outcome (refused 1 nowhere) [] }
     ∷ record { call = handOn (0xFFF8000000000000 ∷ []) 0 0; expected = outcome (refused 4 nowhere) [] }

@@ -11,6 +11,7 @@ use Rattle.lists.specs.Digits.{number, digits, signed, residue}
 use Rattle.ieee.specs.Units.{value, magnitude, negative, nearestFloat}
 use Rattle.kinds.specs.Outcome.{outcome}
 use Rattle.lists.specs.Every.{every}
+use Rattle.lists.specs.Filter.{filter}
 use Rattle.judge.specs.Judge.{faultOf, firstFault, judged, zeroSign}
 use Rattle.register.specs.Register.{enter, rounded}
 use Rattle.register.specs.Merge as G
@@ -23,6 +24,7 @@ use Rattle.walk.specs.Walk as W
 use Rattle.sums.specs.Sums as S
 use Rattle.sheet.specs.Sheet.{sheetOf, readOf}
 use Rattle.sheet.specs.Write.{writtenOf}
+use Rattle.rescue.specs.Rescue.{rescuedOf}
 use Rattle.weights.specs.Weights as H
 use Rattle.calls.specs.Calls.{answered, sumCall, faithfulCall, nearestCall, registerCall, addCall, withdrawCall}
 use Rattle.arrays.specs.Arrays.{returned}
@@ -31,6 +33,7 @@ use Rattle.sum_calls.specs.SumArrays.{faithfulArrays, nearestArrays}
 use Rattle.part_calls.specs.PartArrays.{partsArrays}
 use Rattle.register_calls.specs.RegisterArrays.{addArrays, withdrawArrays, mergeArrays, roundArrays}
 use Rattle.sheet_calls.specs.SheetArrays.{readArrays, writeArrays}
+use Rattle.sheet_calls.specs.RescueArrays.{rescueReturned, rescueArrays}
 use Rattle.weight_calls.specs.WeightArrays.{handOnArrays}
 use Rattle.grade.specs.Grade as Q
 use Rattle.grade_calls.specs.GradeArrays.{gradeArrays}
@@ -116,6 +119,12 @@ pub writes : writeArrays (0x3FF0000000000000 ∷ 0x7FF0000000000203 ∷ []) (rep
     ≡ returned 0 (1 ∷ 0 ∷ 0 ∷ 0 ∷ 2 ∷ 0x3F ∷ 0xF0 ∷ replicate 6 0 ++ 0x7F ∷ 0xF0 ∷ replicate 4 0 ++ 2 ∷ 3 ∷ 7 ∷ []) (21 ∷ [])
 unfolding writeArrays writtenOf sheetOf joined digits
 writes = refl
+
+-- and of a NaN, 1 and a byte, where three are counted, 1 is saved
+pub saves : rescueArrays (1 ∷ 0 ∷ 0 ∷ 0 ∷ 3 ∷ 0x7F ∷ 0xF8 ∷ replicate 6 0 ++ 0x3F ∷ 0xF0 ∷ replicate 7 0) (replicate 14 7) (replicate 3 7) (replicate 4 7)
+    ≡ rescueReturned 0 (1 ∷ 0 ∷ 0 ∷ 0 ∷ 1 ∷ 0x3F ∷ 0xF0 ∷ replicate 6 0 ++ 7 ∷ []) (1 ∷ 0 ∷ 7 ∷ []) (13 ∷ 2 ∷ 1 ∷ 1 ∷ [])
+unfolding rescueArrays rescuedOf eights number faultOf magnitude ofBits filter sheetOf joined digits
+saves = refl
 
 -- ---- weights: 1/2, 1/4 and 1/4, without the first
 pub hands-on : handOnArrays (0x3FE0000000000000 ∷ 0x3FD0000000000000 ∷ 0x3FD0000000000000 ∷ []) 0 (7 ∷ 7 ∷ 7 ∷ [])
@@ -251,6 +260,10 @@ four-without-values = refl
 pub too-many-to-write : writeArrays (replicate 4095 0) [] [] ≡ returned 1 [] []
 unfolding writeArrays
 too-many-to-write = refl
+
+pub four-for-report : rescueArrays (1 ∷ replicate 4 0) (replicate 5 7) [] (replicate 3 7) ≡ rescueReturned 4 (replicate 5 7) [] (replicate 3 7)
+unfolding rescueArrays number
+four-for-report = refl
 
 -- ---- in bytes: of two numbers the second is at fault, so the first stands first; a register of 264 bytes, the lowest first: 2^50 in word 16 is 4 in byte 134
 pub second-in-bytes : nearestCall (replicate 6 0 ++ 0xF0 ∷ 0x3F ∷ replicate 6 0 ++ 0xF8 ∷ 0x7F ∷ []) (replicate 16 7) ≡ outcome 66 (replicate 16 7)

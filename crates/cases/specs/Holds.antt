@@ -12,6 +12,7 @@ use Rattle.units.specs.Rounding.{ceil}
 use Rattle.lists.specs.Digits.{number, digits, signed, residue}
 use Rattle.ieee.specs.Units.{value, nearestFloat}
 use Rattle.lists.specs.Every as L
+use Rattle.lists.specs.Filter.{filter}
 use Rattle.judge.specs.Judge.{faultOf, firstFault, judged, zeroSign}
 use Rattle.register.specs.Register.{enter, rounded}
 use Rattle.register.specs.Merge.{merged}
@@ -24,10 +25,11 @@ use Rattle.sums.specs.Sums as S
 use Rattle.weights.specs.Weights as H
 use Rattle.grade.specs.Grade as Q
 use Rattle.kinds.specs.Outcome.{outcome}
-use Rattle.kinds.specs.Heard.{nowhere, at, Heard, refused, more, done, nearest, parts, accepted, count}
+use Rattle.kinds.specs.Heard.{nowhere, at, Heard, refused, more, done, nearest, parts, accepted, count, rescued}
 use Rattle.octets.specs.Octets.{eights, joined}
 use Rattle.sheet.specs.Sheet.{sheetOf, readOf}
 use Rattle.sheet.specs.Write.{writtenOf}
+use Rattle.rescue.specs.Rescue.{rescuedOf}
 use Rattle.cases.specs.Calls.{Result, Case, resultOf}
 use Rattle.cases.specs.Table.{table}
 use Rattle.cases.specs.Bounds.{bounds}
@@ -44,6 +46,7 @@ code (parts true) = 5 ∷ []
 code (parts false) = 6 ∷ []
 code accepted = 7 ∷ []
 code (count n) = 8 ∷ n ∷ []
+code (rescued w t m o) = 9 ∷ w ∷ t ∷ m ∷ o ∷ []
 
 decode : List ℕ → Heard
 decode l =
@@ -56,7 +59,8 @@ decode l =
     (cond (eqb tag 5) (parts true)
     (cond (eqb tag 6) (parts false)
     (cond (eqb tag 7) accepted
-    (count (getD l 1 0)))))))))
+    (cond (eqb tag 8) (count (getD l 1 0))
+    (rescued (getD l 1 0) (getD l 2 0) (getD l 3 0) (getD l 4 0))))))))))
 
 decoded : (h : Heard) → decode (code h) ≡ h
 unfolding decode code
@@ -69,6 +73,7 @@ decoded (parts true) = refl
 decoded (parts false) = refl
 decoded accepted = refl
 decoded (count n) = refl
+decoded (rescued w t m o) = refl
 
 -- ---- the test
 same : List ℕ → List ℕ → Bool
@@ -133,7 +138,7 @@ unfolding
     every bounds judged firstFault faultOf zeroSign L.every
     W.openedAfter W.steppedAfter W.taken W.rising W.roundsFrom R.turned R.fresh R.scaled R.finished R.closedBy
     N.soundSigma N.atMost N.soundNumbers N.soundPending N.badPlace N.sound N.gated remainders gathered lastSum largest powerOf ceil
-    S.nearestAfter S.partsAfter S.parts rounded merged number digits signed residue nearestFloat value readOf eights writtenOf sheetOf joined
+    S.nearestAfter S.partsAfter S.parts rounded merged number digits signed residue nearestFloat value readOf eights writtenOf sheetOf joined rescuedOf filter
     H.weightGood H.weightOf H.patternFor H.total H.spread H.badWeight H.weighed H.handedAfter Q.otherSide Q.gradeAt Q.gradedAfter
     ofBits toBits add sub mul le eq
 computed-bounds = refl
@@ -142,7 +147,7 @@ computed-faults : every faults ≡ true
 unfolding
     every faults judged firstFault faultOf W.openedAfter W.steppedAfter W.roundsFrom W.rising
     N.soundSigma N.atMost N.soundNumbers N.soundPending N.badPlace N.sound N.gated ceil
-    S.nearestAfter S.partsAfter enter rounded merged number digits signed residue nearestFloat value readOf writtenOf
+    S.nearestAfter S.partsAfter enter rounded merged number digits signed residue nearestFloat value readOf eights writtenOf rescuedOf filter
     H.weightGood H.weightOf H.patternFor H.total H.spread H.badWeight H.weighed H.handedAfter Q.otherSide Q.gradeAt Q.gradedAfter
     ofBits toBits le eq
 computed-faults = refl

@@ -15,7 +15,7 @@ use lib.Ieee.Scale.{finite}
 use Rattle.ieee.specs.Units.{Number, patternUnits}
 use Rattle.lists.specs.Apart.{apart}
 use Rattle.kinds.specs.Limits.{Width, doubles}
-use Rattle.kinds.specs.Heard.{Place, nowhere, at, Heard, refused, more, done, nearest, parts, accepted, count, tells, placeOf, Row, Refusal}
+use Rattle.kinds.specs.Heard.{Place, nowhere, at, Heard, refused, more, done, nearest, parts, accepted, count, rescued, tells, placeOf, Row, Refusal}
 use Rattle.kinds.specs.Hearing.{exactly, at-place-0, hears}
 use Rattle.kinds.specs.OutcomeLaws.{same}
 use Rattle.kinds.specs.declared.Verdict.{Verdict}
@@ -76,6 +76,7 @@ answerIn (done x rounds) = Wrong
 answerIn (nearest x) = Wrong
 answerIn (parts b) = Wrong
 answerIn accepted = Wrong
+answerIn (rescued written taken missing over) = Wrong
 
 answer-back : (a : Graded) → answerIn (gradedHeard a) ≡ a
 unfolding answerIn

@@ -32,6 +32,8 @@ pub data Heard : Type 0 where
   parts : Bool → Heard
   accepted : Heard
   count : ℕ → Heard
+  -- of a rescue: the bytes written, the entries taken, the entries missing, the bytes lying over
+  rescued : ℕ → ℕ → ℕ → ℕ → Heard
 
 -- rule A5: 2, 3 and 14 tell a place
 abbrev pub tells : ℕ → Bool

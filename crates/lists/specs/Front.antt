@@ -5,7 +5,7 @@ use mathlib.Core.List.{List, [], _∷_, _++_, append-assoc, append-nil, map, map
 use Prim.Native.Nat.{ℕ, zero, suc, _+_, _≤_, _<_}
 use native.Mathlib.Numerals.{add-one}
 use native.Mathlib.Omega.{arith}
-use lib.ListN.{length, take, drop, getD, set, length-map, drop-of-length-le}
+use lib.ListN.{length, take, drop, getD, set, length-map, length-append, length-drop, drop-of-length-le}
 use lib.Seq.{drop-cons, take-suc, take-all, length-take-le, getD-at, set-at}
 
 module _ {A : Type 0} (d : A) (a l : List A) (i : ℕ) (e : length a ≡ i) (h : i < length l) where
@@ -14,6 +14,9 @@ module _ {A : Type 0} (d : A) (a l : List A) (i : ℕ) (e : length a ≡ i) (h :
 
   pub store-front : (v : A) → set (a ++ drop i l) i v ≡ (a ++ (v ∷ [])) ++ drop (i + 1) l
   store-front v = rw (drop-cons l i d, add-one) (set-at a _ _ v i e ∙ sym (append-assoc a (v ∷ []) _))
+
+pub length-front : {A : Type 0} (a l : List A) (i : ℕ) → length a ≡ i → i ≤ length l → length (a ++ drop i l) ≡ length l
+length-front a l i e h = omega (arith, length-append a (drop i l), length-drop i l)
 
 pub take-next : {A : Type 0} (d : A) (l : List A) (i : ℕ) → i < length l → take (i + 1) l ≡ take i l ++ (getD l i d ∷ [])
 take-next d l i h = rw add-one (take-suc l i d h)

@@ -6,6 +6,7 @@ pub mod Apart
 pub mod Front
 pub mod Each
 pub mod Every
+pub mod Filter
 pub mod Reordered
 pub mod BitsetLaws
 pub mod LeadingZeros

@@ -2,14 +2,15 @@
 -- Assumes nothing.
 use mathlib.Core.Path.{_≡_, refl, sym, ap, _∙_}
 use mathlib.Core.List.{List, [], _∷_, _++_, append-assoc, append-nil}
-use Prim.Native.Nat.{ℕ, zero, suc, _+_, _*_, _^_, _<_}
+use Prim.Native.Nat.{ℕ, zero, suc, _+_, _*_, _^_, _≤_, _<_}
 use native.Mathlib.Nat.{zero-add}
 use native.Mathlib.Numerals.{add-one}
 use native.Mathlib.Omega.{arith}
+use lib.Pow.{pow-pos}
 use lib.ListN.{length, getD, take, drop, take-append-drop, length-append, length-drop}
 use lib.Seq.{length-take-le, take-at, drop-at, drop-drop}
 use Rattle.lists.specs.Digits.{Digits}
-use Rattle.lists.specs.DigitLaws.{digits-head, digits-tail, digits-take, digits-drop}
+use Rattle.lists.specs.DigitLaws.{digits-head, digits-tail, digits-more, digits-take, digits-drop}
 use Rattle.lists.specs.Front.{take-next}
 use Rattle.octets.specs.Octets.{bytesAt, joined, eights}
 
@@ -38,6 +39,28 @@ module _ (numberOf : List ℕ → ℕ) where
   pub eights-next : (i k : ℕ) (bytes : List ℕ)
       → eights numberOf (i + 1) (drop k bytes) ≡ eights numberOf i (drop k bytes) ++ (numberOf (bytesAt bytes (k + 8 * i) 8) ∷ [])
   eights-next i k bytes = rw (eights-more i (drop k bytes), drop-drop (8 * i) k bytes)
+
+  -- the number at a place
+  numbered : (n i : ℕ) (bytes : List ℕ) → i < n → getD (eights numberOf n bytes) i 0 ≡ numberOf (bytesAt bytes (8 * i) 8)
+  unfolding eights
+  numbered zero i bytes h = absurd (omega arith)
+  numbered (suc n) zero bytes h = refl
+  numbered (suc n) (suc i) bytes h =
+      let e : 8 + 8 * i ≡ 8 * suc i = omega arith in
+      numbered n i (drop 8 bytes) (omega arith) ∙ rw (drop-drop (8 * i) 8 bytes, e)
+
+  pub eights-at : (n i k : ℕ) (bytes : List ℕ) → i < n → getD (eights numberOf n (drop k bytes)) i 0 ≡ numberOf (bytesAt bytes (k + 8 * i) 8)
+  eights-at n i k bytes h = rw (numbered n i (drop k bytes) h, drop-drop (8 * i) k bytes)
+
+  -- bytes make numbers of 64 bits
+  pub eights-below : ((bs : List ℕ) → Digits 8 bs → length bs ≡ 8 → numberOf bs < 2 ^ 64) → (n : ℕ) (bs : List ℕ) → Digits 8 bs → 8 * n ≤ length bs
+      → Digits 64 (eights numberOf n bs)
+  unfolding eights
+  eights-below below zero bs B l = record { below = λ i. pow-pos 64 }
+  eights-below below (suc n) bs B l =
+      let t : length (take 8 bs) ≡ 8 = length-take-le 8 bs (omega arith) in
+      digits-more 64 (below (take 8 bs) (digits-take 8 8 bs B) t)
+      (eights-below below n (drop 8 bs) (digits-drop 8 8 bs B) (rw (length-drop 8 bs) (omega arith)))
 
 -- ---- bytes from numbers
 module _ (bytesOf : ℕ → List ℕ) (size : (v : ℕ) → length (bytesOf v) ≡ 8) where

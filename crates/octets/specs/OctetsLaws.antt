@@ -11,7 +11,7 @@ use lib.ListN.{length, getD, take, drop, set, take-append-drop, length-append, l
 use lib.Seq.{take-suc, take-add, drop-cons, drop-drop, getD-drop, length-take-le, set-at}
 use Rattle.lists.specs.Digits.{number, digits, Digits}
 use Rattle.lists.specs.DigitLaws.{weight-next, number-nil, number-cons, number-append, digits-number, number-digits}
-use Rattle.lists.specs.DigitLaws.{digits-head, digits-tail, digits-more, digits-length, digits-none, digits-last}
+use Rattle.lists.specs.DigitLaws.{digits-head, digits-tail, digits-more, digits-length, digits-none, digits-last, number-lt}
 use Rattle.lists.specs.Front.{store-front, take-next}
 use Rattle.octets.specs.Octets.{littleEndian, bigEndian, little, big, bytesAt}
 
@@ -122,6 +122,13 @@ reversed (b ∷ l) r L R = reversed l (b ∷ r) (digits-tail 8 L) (digits-more 8
 
 pub bytes-reverse : (bs : List ℕ) → Digits 8 bs → Digits 8 (reverse bs)
 bytes-reverse bs B = reversed bs [] B (record { below = λ i. pow-pos 8 })
+
+-- ---- eight bytes make a number of 64 bits
+pub little-below : (bs : List ℕ) → Digits 8 bs → length bs ≡ 8 → little bs < 2 ^ 64
+little-below bs B l = rw l at (number-lt 8 bs B)
+
+pub big-below : (bs : List ℕ) → Digits 8 bs → length bs ≡ 8 → big bs < 2 ^ 64
+big-below bs B l = little-below (reverse bs) (bytes-reverse bs B) (length-reverse bs ∙ l)
 
 -- ---- there and back
 pub big-length : (k v : ℕ) → length (bigEndian k v) ≡ k

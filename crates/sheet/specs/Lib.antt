@@ -9,3 +9,4 @@ pub mod WriteLaws
 pub mod ThereAndBack
 pub mod Instances
 pub mod WriteInstances
+pub mod LayoutLaws

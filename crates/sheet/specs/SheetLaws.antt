@@ -144,18 +144,26 @@ header-back (b ∷ bs) B h v =
     let k : 4 ≤ length bs = omega arith in
     (λ i. 1 ∷ (front-back 4 bs (digits-tail 8 B) k i ++ drop 4 bs)) ∙ (λ i. sym v i ∷ take-append-drop 4 bs i)
 
+-- where n are read, the first n of the area afterwards are the patterns that the bytes hold
+pub read-patterns : (W : Width) (bytes area : List ℕ) {n : ℕ} {after : List ℕ} → readOf W bytes area ≡ outcome (Read n) after
+    → (countOf bytes ≡ n) × (take n after ≡ patternsOf (countOf bytes) (drop 5 bytes))
+read-patterns W bytes area {n} {after} e =
+    let ps = patternsOf (countOf bytes) (drop 5 bytes) in
+    let r : outcome (Read (countOf bytes)) (ps ++ drop (countOf bytes) area) ≡ outcome (Read n) after =
+    sym (readable-read W bytes area (readable W bytes area e)) ∙ e in
+    let a : Read (countOf bytes) ≡ Read n = ap (λ (x : Reading). x .answer) r in
+    let c : countOf bytes ≡ n = cc in
+    let l : ps ++ drop (countOf bytes) area ≡ after = ap (λ (x : Reading). x .area) r in
+    (c, rw (← c, ← l) (take-at ps (drop (countOf bytes) area) (countOf bytes) (eights-length big (countOf bytes) (drop 5 bytes))))
+
 -- rule H1: where n are read, the bytes are the sheet of the first n of the area afterwards
 pub read-is-sheet : (W : Width) (bytes area : List ℕ) {n : ℕ} {after : List ℕ}
     → Digits 8 bytes → readOf W bytes area ≡ outcome (Read n) after → (bytes ≡ sheetOf (take n after)) × (n ≡ length (take n after))
 unfolding sheetOf
 read-is-sheet W bytes area {n} {after} B e =
     let A : Readable W bytes area = readable W bytes area e in
-    let ps = patternsOf (countOf bytes) (drop 5 bytes) in
-    let r : outcome (Read (countOf bytes)) (ps ++ drop (countOf bytes) area) ≡ outcome (Read n) after = sym (readable-read W bytes area A) ∙ e in
-    let a : Read (countOf bytes) ≡ Read n = ap (λ (x : Reading). x .answer) r in
-    let c : countOf bytes ≡ n = cc in
-    let l : ps ++ drop (countOf bytes) area ≡ after = ap (λ (x : Reading). x .area) r in
-    let t : take n after ≡ ps = rw (← c, ← l) (take-at ps (drop (countOf bytes) area) (countOf bytes) (eights-length big (countOf bytes) (drop 5 bytes))) in
+    let c : countOf bytes ≡ n = read-patterns W bytes area e .0 in
+    let t : take n after ≡ patternsOf (countOf bytes) (drop 5 bytes) = read-patterns W bytes area e .1 in
     let d : length (drop 5 bytes) ≡ 8 * countOf bytes = rw (length-drop 5 bytes) (omega (arith, A .exact)) in (
       rw (t, eights-length big (countOf bytes) (drop 5 bytes), body-patterns (countOf bytes) (drop 5 bytes) (digits-drop 8 5 bytes B) d)
           (sym (header-back bytes B (A .header) (A .version))),
@@ -163,18 +171,18 @@ read-is-sheet W bytes area {n} {after} B e =
     )
 
 -- ---- what is written is read back
-patterns-body : (ps : List ℕ) → Digits 64 ps → patternsOf (length ps) (body ps) ≡ ps
+pub patterns-body : (ps : List ℕ) → Digits 64 ps → patternsOf (length ps) (body ps) ≡ ps
 patterns-body = eights-joined (bigEndian 8) (big-length 8) big (big-back 8)
 
 module _ (ps : List ℕ) where
   count-size : length (bigEndian 4 (length ps)) ≡ 4
   count-size = big-length 4 (length ps)
 
-  sheet-count : length ps < 2 ^ 32 → countOf (sheetOf ps) ≡ length ps
+  pub sheet-count : length ps < 2 ^ 32 → countOf (sheetOf ps) ≡ length ps
   unfolding sheetOf
   sheet-count h = rw (take-at (bigEndian 4 (length ps)) (body ps) 4 count-size) (big-back 4 (length ps) h)
 
-  sheet-body : drop 5 (sheetOf ps) ≡ body ps
+  pub sheet-body : drop 5 (sheetOf ps) ≡ body ps
   unfolding sheetOf
   sheet-body = drop-at (bigEndian 4 (length ps)) (body ps) 4 count-size
 
@@ -182,7 +190,7 @@ module _ (ps : List ℕ) where
   unfolding sheetOf
   sheet-length = rw (length-append (bigEndian 4 (length ps)) (body ps), count-size, joined-length (bigEndian 8) (big-length 8) ps) (omega arith)
 
-  sheet-version : versionOf (sheetOf ps) ≡ 1
+  pub sheet-version : versionOf (sheetOf ps) ≡ 1
   unfolding sheetOf
   sheet-version = refl
 

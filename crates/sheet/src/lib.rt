@@ -3,7 +3,7 @@ use kinds::Doubles;
 use kinds::Sheet;
 use octets::big_endian;
 
-mod layout;
+pub mod layout;
 
 ghost use mathlib.Core.Path.{_≡_};
 ghost use mathlib.Core.List.{_++_};
@@ -36,7 +36,7 @@ pub struct Header {
 }
 
 // The count is what the bytes say, up to 2^32 - 1: nothing is refused here.
-fn read_header(sheet: &[u8]) -> Header
+pub fn read_header(sheet: &[u8]) -> Header
     requires { ⌜ 5 ≤ length (now sheet) ⌝ }
     ensures { λ r. ⌜ (r .version ≡ versionOf (now (sheet .entry))) × (r .count ≡ countOf (now (sheet .entry))) ⌝ }
 {

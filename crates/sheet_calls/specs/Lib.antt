@@ -3,3 +3,5 @@ pub mod SheetArrays
 pub mod SheetArraysLaws
 pub mod SheetCodes
 pub mod WriteCodes
+pub mod RescueArrays
+pub mod RescueCodes

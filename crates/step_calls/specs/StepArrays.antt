@@ -7,7 +7,7 @@ use lib.Ieee.{Float, ofBits}
 use lib.ListN.{length, getD, replicate}
 use Rattle.kinds.specs.Limits.{doubles}
 use Rattle.kinds.specs.States.{stateOf}
-use Rattle.kinds.specs.Heard.{Heard, refused, more, done, nearest, parts, accepted, count, stepHeard}
+use Rattle.kinds.specs.Heard.{Heard, refused, more, done, nearest, parts, accepted, count, rescued, stepHeard}
 use Rattle.kinds.specs.declared.State.{State}
 use Rattle.walk.specs.Walk.{Walked, opened, stepped}
 use Rattle.arrays.specs.Arrays.{codeOf, Returned, returned, tooManyOr4}
@@ -24,6 +24,7 @@ walkValues (nearest x) before = before
 walkValues (parts b) before = before
 walkValues accepted before = before
 walkValues (count n) before = before
+walkValues (rescued written taken missing over) before = before
 
 -- the state that a step reads: the second number to the seventh
 abbrev pub floatIn : List ℕ → ℕ → Float

@@ -8,7 +8,7 @@ use Rattle.kinds.specs.Limits.{doubles}
 use Rattle.kinds.specs.Outcome.{outcome}
 use Rattle.sheet.specs.declared.Written.the-variants.{Wrote}
 use Rattle.sheet.specs.WriteLaws.{write-many, write-no-room, write-all}
-use Rattle.sheet.proofs.LayoutLaws.{sheet-laid}
+use Rattle.sheet.specs.LayoutLaws.{sheet-laid}
 use Rattle.sheet.proofs.write.Statement.{statement}
 use Rattle.sheet.proofs.write.Tie as tie
 

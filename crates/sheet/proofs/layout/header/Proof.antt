@@ -4,7 +4,7 @@ use native.Mathlib.Omega.{arith}
 use borrow.Author.Needs.{needs}
 use lib.ListN.{length}
 use Rattle.octets.specs.Octets.{bigEndian}
-use Rattle.sheet.proofs.LayoutLaws.{header-laid, header-length}
+use Rattle.sheet.specs.LayoutLaws.{header-laid, header-length}
 use Rattle.sheet.proofs.layout.header.Statement.{statement}
 use Rattle.sheet.proofs.layout.header.Tie as tie
 

@@ -23,7 +23,7 @@ abbrev μ-loop : tie.MeasureT-loop
 loop-holds : tie.Need-loop-holds Inv-loop μ-loop
 loop-holds c =
     let a = c .before .before .args in
-    (refl, omega arith, rw (joined-none (bigEndian 8)) (sym (take-append-drop 5 (a .sheet .now))))
+    (refl, omega arith, rw joined-none (sym (take-append-drop 5 (a .sheet .now))))
 
 mul-write-big-endian : tie.Need-mul-write-big-endian Inv-loop μ-loop
 mul-write-big-endian c = search needs

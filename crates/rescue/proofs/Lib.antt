@@ -1,0 +1,2 @@
+-- What the proofs of the loops over entries cite.
+pub mod EntryLaws

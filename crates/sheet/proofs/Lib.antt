@@ -1,2 +1,0 @@
--- What the proofs of the writer's functions cite.
-pub mod LayoutLaws
