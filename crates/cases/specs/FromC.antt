@@ -188,6 +188,14 @@ unfolding stepArrays W.steppedAfter W.taken R.turned R.fresh R.scaled R.finished
     magnitude negative nearestFloat ofBits toBits add sub mul le eq
 rounds-of-33-bits = refl
 
+-- rule R19: under sigma = 2^102 the 2^100 at place 0 is above 2^-M sigma, and place 0 is 19 + 32
+abbrev lowered : List ℕ
+lowered = 1 ∷ 0x4650000000000000 ∷ 0 ∷ 0 ∷ 3 ∷ 1 ∷ 0 ∷ 0 ∷ 0 ∷ 0 ∷ []
+
+pub work-at-place-0 : stepArrays lowered copied 0 ≡ returned 51 copied lowered
+unfolding stepArrays W.steppedAfter N.soundSigma N.atMost N.soundNumbers N.soundPending N.badPlace N.gated ceil magnitude negative ofBits toBits le eq
+work-at-place-0 = refl
+
 -- 2^54 + 1 in two parts adds up
 pub in-two-parts : partsArrays (0x4350000000000000 ∷ 0x3FF0000000000000 ∷ []) (replicate 2 (ofBits binary64 0)) (7 ∷ [])
     ≡ returned 0 (ofBits binary64 0x4350000000000000 ∷ one ∷ []) (1 ∷ [])

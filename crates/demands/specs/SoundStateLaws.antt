@@ -108,7 +108,7 @@ module _ (W : Width) (s : State) where
   unfolding badPlace
   first-bad [] i F = absurd (omega (arith, F .inside))
   first-bad (x ∷ xs) zero F = rw (place-false (F .bad))
-  first-bad (x ∷ xs) (suc i) F = rw (place-true (F .before 0 (omega arith))) (rw (first-bad xs i behind) (add-one i))
+  first-bad (x ∷ xs) (suc i) F = rw (place-true (F .before 0 (omega arith)), first-bad xs i behind) (add-one i)
     where
       behind : FirstUnsound W s xs i
       behind = record { inside = omega (arith, F .inside); bad = F .bad; before = λ j l. F .before (suc j) (omega arith) }
@@ -137,7 +137,13 @@ module _ (W : Width) (s : State) where
   -- ---- the pending set
   pub sound-set : (soundPending W s ≡ true) ↔ SoundSet W s
   unfolding soundPending
-  sound-set = (there, λ S. simp (lt-ltb _ _ (has-some (s .pending) (S .some .0) (S .some .1)), lt-ltb _ _ (all-below (blocksOf W (s .n)) (s .pending) (λ b h. S .inside b (omega arith)))))
+  sound-set = (
+    there,
+    λ S. simp (
+      lt-ltb _ _ (has-some (s .pending) (S .some .0) (S .some .1)),
+      lt-ltb _ _ (all-below (blocksOf W (s .n)) (s .pending) (λ b h. S .inside b (omega arith))),
+    ),
+  )
     where
       there : soundPending W s ≡ true → SoundSet W s
       there h =
