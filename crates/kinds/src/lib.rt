@@ -116,7 +116,7 @@ impl State {
     }
 }
 
-// ---- answers. A refusal holds its number (rules R1 to R17) and the place, 0 where none is told.
+// ---- answers. A refusal holds its number (rules R1 to R20) and the place, 0 where none is told.
 
 // Rule A5: whether a refusal with this number tells a place: 2, 3, 14 and 19 do.
 pub fn tells(number: u32) -> bool
