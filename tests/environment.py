@@ -89,6 +89,7 @@ def uses():
         "kewohiata_refusal(34) == KEWOHIATA_NOT_FINITE && kewohiata_tells_place(34) && kewohiata_place(34) == 0",
         "kewohiata_refusal(131011) == KEWOHIATA_TOO_LARGE && kewohiata_place(131011) == 4093",
         "kewohiata_refusal(131022) == KEWOHIATA_NOT_A_WEIGHT && kewohiata_place(131022) == 4093",
+        "kewohiata_refusal(131027) == KEWOHIATA_UNSOUND_WORK && kewohiata_place(131027) == 4093",
         "kewohiata_blocks(0) == 0 && kewohiata_blocks(1) == 1 && kewohiata_blocks(64) == 1 && kewohiata_blocks(65) == 2 && kewohiata_blocks(4094) == 64",
         "kewohiata_environment()",
     ):
