@@ -1,15 +1,18 @@
 /* A faithful sum block by block, in the order in which an operator gets the racks' readings: the last rack first, then as they come. Whatever the order, the
- * sum and the rounds are those of the undivided call. Between two calls the work area and ten numbers are all there is to keep.
+ * sum and the rounds are those of the undivided call. Between two calls the work area and ten numbers are all there is to keep; what a step says where the two
+ * were mixed up is shown on the way.
  *
  *     scripts/example blocks        builds and runs it with the Rattle kit alone, on either machine
  */
 #include "kewohiata.h"
 #include <stdio.h>
+#include <string.h>
 
 enum { N = 200 };
 
 static uint64_t list[N];
-static double work[N];
+static double work[N], opened[N], other[N], copy[N];
+static uint64_t first[KEWOHIATA_STATE]; /* the state that the opening gave out */
 
 /* Readings of some microseconds; two failing clocks, an enormous one and one in its shadow, join and leave. */
 static void fill(void)
@@ -34,6 +37,39 @@ static size_t next_block(const uint64_t *state, size_t blocks)
     return blocks;
 }
 
+/* A step that is refused changes neither the state nor the area, so that the walk can go on with the right ones. */
+static void told(const char *what, uint64_t *state, double *area)
+{
+    uint32_t code = kewohiata_walk_step(state, KEWOHIATA_STATE, area, N, 0);
+    printf("  %s: ", what);
+    if (code == KEWOHIATA_ACCEPTED)
+        printf("not noticed");
+    else
+        printf("refusal %u", (unsigned)kewohiata_refusal(code));
+    if (kewohiata_tells_place(code))
+        printf(" at place %u", (unsigned)kewohiata_place(code));
+    printf("\n");
+}
+
+/* An operator's session with the wrong pieces, in the second round: sigma is small by then. */
+static void mixed_up(const uint64_t *state)
+{
+    uint64_t wrong[KEWOHIATA_STATE];
+    memcpy(wrong, state, sizeof wrong);
+    for (int i = 0; i < N; i++)
+        other[i] = 1.0 + i;
+    told("another ensemble's work area", wrong, other);
+    told("the work area as it was at the opening", wrong, opened);
+    memcpy(wrong, first, sizeof wrong); /* any older state of this walk is sound over the newer area: keep one state for each area */
+    memcpy(copy, work, sizeof copy);
+    told("the stale state of the opening, on copies of both", wrong, copy);
+    memcpy(wrong, state, sizeof wrong);
+    wrong[KEWOHIATA_STATE_PENDING] = 1u << kewohiata_blocks(N);
+    told("the pending set of a longer list", wrong, work);
+    wrong[KEWOHIATA_STATE_SIGMA] += 1;
+    told("a bit of sigma turned over, besides", wrong, work);
+}
+
 int main(void)
 {
     uint64_t state[KEWOHIATA_STATE], sum[KEWOHIATA_FAITHFUL];
@@ -47,6 +83,8 @@ int main(void)
     fill();
     uint32_t code = kewohiata_walk_open(list, N, work, N, state, KEWOHIATA_STATE);
     printf("opened: code %u, %u blocks\n", (unsigned)code, (unsigned)blocks);
+    memcpy(opened, work, sizeof opened);
+    memcpy(first, state, sizeof first);
     while (code == KEWOHIATA_ACCEPTED && state[KEWOHIATA_STATE_KIND] == KEWOHIATA_MORE) {
         size_t block = next_block(state, blocks);
         code = kewohiata_walk_step(state, KEWOHIATA_STATE, work, N, block);
@@ -54,9 +92,12 @@ int main(void)
         steps++;
         if (steps == 2) /* a block twice in a round is refused, and nothing changes */
             printf("the same again: refusal %u\n", (unsigned)kewohiata_refusal(kewohiata_walk_step(state, KEWOHIATA_STATE, work, N, block)));
+        if (steps == blocks)
+            mixed_up(state);
     }
     printf("by blocks: pattern %016llX, rounds %u, %u steps\n", (unsigned long long)state[KEWOHIATA_DONE_SUM], (unsigned)state[KEWOHIATA_DONE_ROUNDS],
            steps);
+    told("a step behind the finish", state, work);
     code |= kewohiata_walk_faithful(list, N, work, N, sum, KEWOHIATA_FAITHFUL);
     printf("undivided: pattern %016llX, rounds %u, code %u\n", (unsigned long long)sum[0], (unsigned)sum[1], (unsigned)code);
     return code != 0 || sum[0] != state[KEWOHIATA_DONE_SUM] || sum[1] != state[KEWOHIATA_DONE_ROUNDS];

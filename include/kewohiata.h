@@ -34,10 +34,10 @@ extern "C" {
 #endif
 
 /* Below 1.0.0 calls may be added, and their forms and answers may still change; the second number tells it. */
-#define KEWOHIATA_VERSION "0.7.0"
-enum { KEWOHIATA_VERSION_MAJOR = 0, KEWOHIATA_VERSION_MINOR = 7, KEWOHIATA_VERSION_PATCH = 0 };
+#define KEWOHIATA_VERSION "0.8.0"
+enum { KEWOHIATA_VERSION_MAJOR = 0, KEWOHIATA_VERSION_MINOR = 8, KEWOHIATA_VERSION_PATCH = 0 };
 
-/* The refusals, rules R1 to R17 and R20. A code has room for numbers up to 31; 18, 19 and those above 20 are kept for later ones. */
+/* The refusals, rules R1 to R20. A code has room for numbers up to 31; those above 20 are kept for later ones. */
 enum kewohiata_refusals {
     KEWOHIATA_ACCEPTED = 0,
     KEWOHIATA_TOO_MANY = 1,          /* more than 4,094 numbers */
@@ -47,7 +47,7 @@ enum kewohiata_refusals {
     KEWOHIATA_WRONG_PARTS = 5,       /* no part, or more than 8 */
     KEWOHIATA_NO_SUCH_BLOCK = 6,     /* the list has no block of that number */
     KEWOHIATA_BLOCK_NOT_PENDING = 7, /* this round has had the block */
-    KEWOHIATA_UNSOUND_STATE = 8,     /* the state and its work area are none that a walk can have */
+    KEWOHIATA_UNSOUND_NUMBERS = 8,   /* the state's n, rounds, sigma, t or tau is none that a walk can have */
     KEWOHIATA_REGISTER_FULL = 9,     /* the register's number would leave 2112 signed bits */
     KEWOHIATA_NO_FINITE_DOUBLE = 10, /* the register's number is beyond the doubles */
     KEWOHIATA_SHEET_TOO_SHORT = 11,  /* no whole header, or fewer numbers than it counts */
@@ -57,6 +57,8 @@ enum kewohiata_refusals {
     KEWOHIATA_WRONG_TOTAL = 15,      /* the weights' exact sum isn't 1 */
     KEWOHIATA_NO_SUCH_CLOCK = 16,    /* the leaver's place is none of the list */
     KEWOHIATA_NO_OTHER_WEIGHT = 17,  /* all weights but the leaver's are zero */
+    KEWOHIATA_UNSOUND_SET = 18,      /* the state's pending set is empty, or has a block that the list hasn't */
+    KEWOHIATA_UNSOUND_WORK = 19,     /* a work number that isn't finite, or too large for the state's sigma; its place is told, the lowest */
     KEWOHIATA_CLAIM_NOT_FINITE = 20  /* the claim is a NaN or infinity */
 };
 
@@ -180,8 +182,10 @@ uint32_t kewohiata_walk_open(const uint64_t *list, size_t list_length, double *w
 /* Takes one block (rule WB1). In a run from an opening any pending block may be the next; the step that takes the last one closes the round, and either ends
  * the walk (the state's first number is KEWOHIATA_DONE) or makes all blocks pending again. The sum and the rounds are those of kewohiata_walk_faithful in
  * any order.
- * state, work: as the opening or the last accepted step left them. block: 0 to kewohiata_blocks(n) - 1.
- * Refusals: 4; 8; 6; 7. Needs the environment above. Time: n at each step, since the whole work area is looked at, and as much again where a round closes. */
+ * state, work: as the opening or the last accepted step left them. Others are stepped too where they are sound, and no sum is promised of them: every older
+ * state of the same walk is sound over a newer area, and gives a wrong sum. block: 0 to kewohiata_blocks(n) - 1.
+ * Refusals: 4; 8; 18; 19 of the lowest place at fault; 6; 7. Needs the environment above. Time: n at each step, since the whole work area is looked at, and as
+ * much again where a round closes. */
 uint32_t kewohiata_walk_step(uint64_t *state, size_t state_length, double *work, size_t work_length, size_t block);
 
 /* The faithful sum (rule S1): no double lies strictly between it and the exact sum, and where the exact sum is a double it is that one.

@@ -53,13 +53,13 @@ WEIGHTS = [0x3E28000000000000, 0, 0x3E10000000000000, 0x3E10000000000000, 0x3FEF
 
 # the header's names: a refusal's number, a length, a place in a walk's ten numbers, the version
 NAMES = {
-    "TOO_MANY": 1, "NOT_FINITE": 2, "TOO_LARGE": 3, "WRONG_LENGTH": 4, "WRONG_PARTS": 5, "NO_SUCH_BLOCK": 6, "BLOCK_NOT_PENDING": 7, "UNSOUND_STATE": 8,
+    "TOO_MANY": 1, "NOT_FINITE": 2, "TOO_LARGE": 3, "WRONG_LENGTH": 4, "WRONG_PARTS": 5, "NO_SUCH_BLOCK": 6, "BLOCK_NOT_PENDING": 7, "UNSOUND_NUMBERS": 8,
     "REGISTER_FULL": 9, "NO_FINITE_DOUBLE": 10, "SHEET_TOO_SHORT": 11, "OTHER_VERSION": 12, "SHEET_TOO_LONG": 13, "NOT_A_WEIGHT": 14,
-    "WRONG_TOTAL": 15, "NO_SUCH_CLOCK": 16, "NO_OTHER_WEIGHT": 17, "CLAIM_NOT_FINITE": 20, "GRADE_EXACT": 0, "GRADE_NEAREST": 1, "GRADE_FAITHFUL": 2,
-    "GRADE_WRONG": 3, "LIST_MOST": 4094,
+    "WRONG_TOTAL": 15, "NO_SUCH_CLOCK": 16, "NO_OTHER_WEIGHT": 17, "UNSOUND_SET": 18, "UNSOUND_WORK": 19, "CLAIM_NOT_FINITE": 20, "GRADE_EXACT": 0,
+    "GRADE_NEAREST": 1, "GRADE_FAITHFUL": 2, "GRADE_WRONG": 3, "LIST_MOST": 4094,
     "LIST_BYTES_MOST": 32752, "BLOCK": 64, "STATE": 10, "FAITHFUL": 2, "VALUE": 1, "SUM_BYTES": 16, "WORDS": 33, "REGISTER_BYTES": 264, "PARTS_MOST": 8,
     "ROUNDS_MOST": 51, "SHEET_HEADER": 5, "SHEET_BYTES_MOST": 32757, "ACCEPTED": 0, "MORE": 1, "DONE": 2, "STATE_KIND": 0, "STATE_SIGMA": 1, "STATE_T": 2,
-    "STATE_TAU": 3, "STATE_N": 4, "STATE_PENDING": 5, "STATE_ROUNDS": 6, "DONE_SUM": 1, "DONE_ROUNDS": 2, "VERSION_MAJOR": 0, "VERSION_MINOR": 7,
+    "STATE_TAU": 3, "STATE_N": 4, "STATE_PENDING": 5, "STATE_ROUNDS": 6, "DONE_SUM": 1, "DONE_ROUNDS": 2, "VERSION_MAJOR": 0, "VERSION_MINOR": 8,
     "VERSION_PATCH": 0, "REPORT": 4, "REPORT_WRITTEN": 0, "REPORT_TAKEN": 1, "REPORT_MISSING": 2, "REPORT_OVER": 3, "MARK_KEPT": 0, "MARK_NOT_FINITE": 1,
     "MARK_TOO_LARGE": 2,
 }  # fmt: skip
@@ -90,6 +90,7 @@ def uses():
         "kewohiata_refusal(34) == KEWOHIATA_NOT_FINITE && kewohiata_tells_place(34) && kewohiata_place(34) == 0",
         "kewohiata_refusal(131011) == KEWOHIATA_TOO_LARGE && kewohiata_place(131011) == 4093",
         "kewohiata_refusal(131022) == KEWOHIATA_NOT_A_WEIGHT && kewohiata_place(131022) == 4093",
+        "kewohiata_refusal(131027) == KEWOHIATA_UNSOUND_WORK && kewohiata_place(131027) == 4093",
         "kewohiata_blocks(0) == 0 && kewohiata_blocks(1) == 1 && kewohiata_blocks(64) == 1 && kewohiata_blocks(65) == 2 && kewohiata_blocks(4094) == 64",
         "kewohiata_environment()",
     ):

@@ -57,7 +57,7 @@ REFUSALS = {
     "kewohiata_register_add": ENTRIES,
     "kewohiata_register_withdraw": ENTRIES,
     "kewohiata_walk_open": SUMS,
-    "kewohiata_walk_step": {0, 4, 6, 7, 8},
+    "kewohiata_walk_step": {0, 4, 6, 7, 8, 18, 19},
     "kewohiata_walk_faithful": SUMS,
     "kewohiata_list_nearest": SUMS,
     "kewohiata_list_parts": SUMS | {5},

@@ -21,6 +21,7 @@ import command  # noqa: E402
 LENGTH, MAGNITUDE, BLOCK, CARRIED, ROUNDS = 4094, 0x7E70000000000000, 64, 0x7F30000000000000, 50
 SIGN, INFINITY, ONE = 1 << 63, 0x7FF << 52, 0x3FF << 52
 LEAST_NORMAL = 1 << 52  # 2^-1022 in units
+UNSOUND = (8, 18, 19)  # the refusals of a state that isn't sound
 
 State = collections.namedtuple("State", "sigma t tau n pending rounds")
 
@@ -137,6 +138,7 @@ def plus_opening(patterns, area):
 
 
 def sound(s, area):
+    """The test as it was when one refusal, 8, was given for all of it; what is sound hasn't changed since."""
     if not (1 <= s.n <= LENGTH and 0 <= s.rounds <= ROUNDS and 0 < s.pending < 1 << blocks_of(s.n)):
         return False
     if s.sigma >= INFINITY or s.t % SIGN > CARRIED or s.tau % SIGN > CARRIED:
@@ -147,12 +149,32 @@ def sound(s, area):
     return largest(area) <= pattern_of(sigma >> m)
 
 
+def sound_numbers(s):
+    """Rules WS3, WS4, WS6 and WS7."""
+    if not (0 < s.n <= LENGTH and s.rounds <= ROUNDS and 0 < s.sigma < INFINITY):
+        return False
+    m = exponent_of(s.n)
+    k = units(s.sigma).bit_length() - 1
+    return units(s.sigma) == 2**k and m <= k <= m + 2074 and s.t & SIGN - 1 <= CARRIED and s.tau & SIGN - 1 <= CARRIED
+
+
+def unsound(s, area):
+    """The refusal of a state that isn't sound, and its place: 8 for its numbers, 18 for its set, 19 for the lowest work number that is too large or none."""
+    if not sound_numbers(s):
+        return 8, 0
+    if not s.pending or s.pending >> blocks_of(s.n):
+        return 18, 0
+    most = pattern_of(units(s.sigma) >> exponent_of(s.n))
+    return (19, [p % SIGN <= most for p in area].index(False)) if largest(area) > most else None
+
+
 def step(s, area, block):
-    """Refusals in the order 4, 8, 6, 7."""
+    """Refusals in the order 4, 8, 18, 19, 6, 7."""
     if len(area) != s.n:
         return "refused", 4, 0
-    if not sound(s, area):
-        return "refused", 8, 0
+    fault = unsound(s, area)
+    if fault:
+        return "refused", *fault
     if block >= blocks_of(s.n):
         return "refused", 6, 0
     if not s.pending >> block & 1:
@@ -240,11 +262,22 @@ class Doubles:
             return False
         return abs(self.t) <= 2.0**1012 and abs(self.tau) <= 2.0**1012 and all(abs(x) <= math.ldexp(sigma, -m) for x in self.area)
 
+    def fault(self):
+        """Of a state that isn't sound: the first of the three that would not be sound with the others mended."""
+        whole = Doubles(State(bits(1.0), 0, 0, self.n, 1, 0), [])
+        whole.sigma, whole.t, whole.tau, whole.rounds = self.sigma, self.t, self.tau, self.rounds
+        if not whole.sound():
+            return "refused", 8, 0
+        whole.pending = self.pending
+        if not whole.sound():
+            return "refused", 18, 0
+        return "refused", 19, [abs(x) <= math.ldexp(self.sigma, -self.m) for x in self.area].index(False)
+
     def step(self, block):
         if len(self.area) != self.n:
             return "refused", 4, 0
         if not self.sound():
-            return "refused", 8, 0
+            return self.fault()
         if block >= math.ceil(self.n / 64):
             return "refused", 6, 0
         if not self.pending & 2**block:
@@ -443,6 +476,7 @@ def both_steps(s, area, block):
     COUNTS["step", answer[0] if answer[0] != "refused" else answer[1]] += 1
     expect("step", held == answer and other.patterns() == area, s, block, answer, held)
     expect("refusal writes nothing", answer[0] != "refused" or before == area, s, block)
+    expect("8, 18 and 19", (answer[0] == "refused" and answer[1] in UNSOUND) == (len(before) == s.n and not sound(s, before)), s, block, answer)
     return answer
 
 
@@ -466,7 +500,7 @@ def check_foreign(chance):
         expect("sound", sound(s, area), s)
         for _ in range(chance.choice([1, 3, 8])):
             answer = both_steps(s, area, seeded(s.pending, chance.getrandbits(64)) if chance.random() < 0.9 else chance.randint(0, 66))
-            if answer[0] == "done" or answer[:2] == ("refused", 8):
+            if answer[0] == "done" or answer[0] == "refused" and answer[1] in UNSOUND:
                 break
             s = answer[1] if answer[0] == "more" else s
 
@@ -495,7 +529,7 @@ def check_foreign_witnesses():
     s, area = State(sigma, bits(2.0**-43), 0, 65, 1, 0), [0] * 64 + [ONE]
     answer = both_steps(s, area, 0)
     expect("rule W4", answer == ("more", State(bits(2.0**-38), bits(2.0**-43), 0, 65, 3, 1)), answer)
-    expect("rule W4, next", both_steps(answer[1], area, 0) == ("refused", 8, 0))
+    expect("rule W4, next", both_steps(answer[1], area, 0) == ("refused", 19, 64))
     # a finish by rule W3 that answers +0
     answer = both_steps(State(sigma, ONE, 0, 65, 1, 0), [0] * 64 + [SIGN | ONE], 0)
     expect("+0 by rule W3", answer == ("done", 0, 1), answer)
@@ -510,15 +544,21 @@ def check_refusals():
     nan, s = INFINITY + 1, State(bits(2.0**8), SIGN, SIGN, 65, 2, 0)
     m, area = 7, [SIGN] * 64 + [bits(2.0)]
     for change, block, number in [
-        ({}, 0, 7), ({}, 2, 6), ({}, 63, 6), ({}, 64, 6), ({}, 2**63, 6), ({"pending": 1}, 1, 7), ({"pending": 0}, 1, 8), ({"pending": 4}, 1, 8),
-        ({"pending": 2**64 - 1}, 1, 8), ({"n": 64}, 9, 4), ({"n": 66}, 9, 4), ({"n": 0}, 9, 4), ({"n": 2**64 - 1}, 9, 4), ({"rounds": 51}, 9, 8),
-        ({"sigma": bits(2.0**7)}, 9, 8), ({"sigma": bits(2.0**8) + 1}, 1, 8), ({"sigma": SIGN | bits(2.0**8)}, 1, 8), ({"sigma": 0}, 1, 8),
+        ({}, 0, 7), ({}, 2, 6), ({}, 63, 6), ({}, 64, 6), ({}, 2**63, 6), ({"pending": 1}, 1, 7), ({"pending": 0}, 1, 18), ({"pending": 4}, 1, 18),
+        ({"pending": 2**64 - 1}, 1, 18), ({"pending": 0, "rounds": 51}, 1, 8), ({"n": 64}, 9, 4), ({"n": 66}, 9, 4), ({"n": 0}, 9, 4),
+        ({"n": 2**64 - 1}, 9, 4), ({"rounds": 51}, 9, 8), ({"sigma": bits(2.0**8) + 1}, 1, 8), ({"sigma": SIGN | bits(2.0**8)}, 1, 8), ({"sigma": 0}, 1, 8),
         ({"sigma": nan}, 1, 8), ({"sigma": INFINITY}, 1, 8), ({"sigma": bits(2.0 ** (1001 + m))}, 1, 8), ({"t": CARRIED + 1}, 1, 8),
         ({"t": SIGN | nan}, 1, 8), ({"t": SIGN | INFINITY}, 1, 8), ({"tau": SIGN | CARRIED + 1}, 1, 8), ({"tau": nan}, 1, 8), ({"tau": INFINITY}, 1, 8),
     ]:
         expect("refusal", both_steps(s._replace(**change), list(area), block) == ("refused", number, 0), change, block, number)
+    expect("refusal", both_steps(s._replace(sigma=bits(2.0**7)), area, 9) == ("refused", 19, 64))
     for place, p in ((0, nan), (0, SIGN | INFINITY), (64, nan), (63, bits(2.0) + 1), (64, SIGN | bits(2.0) + 1)):
-        expect("refusal", both_steps(s, area[:place] + [p] + area[place + 1 :], 1) == ("refused", 8, 0), place, p)
+        bad = area[:place] + [p] + [nan] * (64 - place)
+        for last in (bad, bad[: place + 1] + area[place + 1 :]):  # the lowest of several, and one alone
+            for block in (1, 0, 2):
+                expect("refusal", both_steps(s, last, block) == ("refused", 19, place), place, p)
+            expect("refusal", both_steps(s._replace(pending=0), last, 0) == ("refused", 18, 0), place, p)
+            expect("refusal", both_steps(s._replace(rounds=51), last, 0) == ("refused", 8, 0), place, p)
     for n in (0, 4095):
         expect("refusal", both_steps(s._replace(n=n), [0] * n, 0) == ("refused", 8, 0), n)
     low = pattern_of(1 << m)

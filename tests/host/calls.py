@@ -61,7 +61,7 @@ def unpacked(data):
 
 def heard(number, place):
     """A refusal's code, rule C3."""
-    return number + 32 * (place + 1) if number in (2, 3, 14) else number
+    return number + 32 * (place + 1) if number in (2, 3, 14, 19) else number
 
 
 # ---- what goes through the pipes

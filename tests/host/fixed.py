@@ -200,7 +200,7 @@ def changed(what, number):
 
 
 def state_refusals(chance):
-    """Each thing that makes a state unsound, with blocks that would be refused by 6 or 7; and lengths that no list has."""
+    """Each thing that makes a state unsound, alone, with blocks that would be refused by 6 or 7; and lengths that no list has."""
     for what, number, block in CHANGES:
         for b in (block, 0, 2, ONES):
             yield stepped(*changed(what, number), b, unread(chance))[0]
@@ -208,6 +208,23 @@ def state_refusals(chance):
         for m in (0, 1, LENGTH, LENGTH + 1):
             for pending in (1, 2):
                 yield stepped(BASE._replace(n=n, pending=pending), [SIGN] * m, pending - 1)[0]
+
+
+# of a state of 65 numbers: its own, and five times one that isn't sound; two sets, and three that aren't; places at fault, in the block taken before and in
+# the other
+NUMBERS = [{}, {"rounds": 51}, {"sigma": SIGMA + 1}, {"t": NAN}, {"tau": walk.CARRIED + 1}, {"rounds": 2**32}]
+SETS = [2, 3, 0, 4, ONES]
+PLACES = [[], [0], [63], [64], [0, 64], [5, 6, 63, 64], list(range(65))]
+
+
+def state_faults(chance):
+    """Each refusal of a step beside every later one: 4, 8, 18, 19 with the lowest of several places, 6, 7."""
+    for n, numbers, pending, places in itertools.product((65, 66), NUMBERS, SETS, PLACES):
+        area = list(BASE_AREA)
+        for place in places:
+            area[place] = chance.choice([0x4000000000000001, SIGN | MAGNITUDE, INFINITY, *NANS])
+        for block in (0, 1, 2):
+            yield stepped(BASE._replace(n=n, pending=pending, **numbers), area, block, unread(chance))[0]
 
 
 def many_rounds(chance):
@@ -349,6 +366,6 @@ def walk_witnesses(chance):
 
 GROUPS = [
     walk_witnesses, list_witnesses, sum_lengths, walk_lengths, nearest_lengths, parts_lengths, register_lengths, sheet_lengths, there_and_back,
-    register_examples, register_rounds, largest_powers, scaled_powers, state_witnesses, state_refusals, many_rounds, state_lengths, ended_states, sound_states,
-    held_before,
+    register_examples, register_rounds, largest_powers, scaled_powers, state_witnesses, state_refusals, state_faults, many_rounds, state_lengths, ended_states,
+    sound_states, held_before,
 ]  # fmt: skip

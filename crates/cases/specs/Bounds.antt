@@ -62,22 +62,22 @@ bounds =
     ∷ record { call = step (sized 0x7EA0000000000000) (0 ∷ []) 0; expected = outcome (refused 8 nowhere) (0 ∷ []) }
     ∷ record { call = step (sized 0x4078000000000000) (0 ∷ []) 0; expected = outcome (refused 8 nowhere) (0 ∷ []) }
     ∷ record { call = step (sized 0xC070000000000000) (0 ∷ []) 0; expected = outcome (refused 8 nowhere) (0 ∷ []) }
-    -- rule WS8: -64 is 2^-M sigma, and the number below it and an infinity are too large; the second place counts too
+    -- rules WS8 and R19: -64 is 2^-M sigma, and the number below it and an infinity are too large; the second place counts too
     ∷ record {
       call = step (opened 1 1 0) (0xC050000000000000 ∷ []) 0;
       expected = outcome (done 0xC050000000000000 1) (0 ∷ []);
     }
     ∷ record {
       call = step (opened 1 1 0) (0xC050000000000001 ∷ []) 0;
-      expected = outcome (refused 8 nowhere) (0xC050000000000001 ∷ []);
+      expected = outcome (refused 19 (at 0)) (0xC050000000000001 ∷ []);
     }
     ∷ record {
       call = step (opened 1 1 0) (0x7FF0000000000000 ∷ []) 0;
-      expected = outcome (refused 8 nowhere) (0x7FF0000000000000 ∷ []);
+      expected = outcome (refused 19 (at 0)) (0x7FF0000000000000 ∷ []);
     }
     ∷ record {
       call = step (opened 2 1 0) (0 ∷ 0x4050000000000001 ∷ []) 0;
-      expected = outcome (refused 8 nowhere) (0 ∷ 0x4050000000000001 ∷ []);
+      expected = outcome (refused 19 (at 1)) (0 ∷ 0x4050000000000001 ∷ []);
     }
     -- rule WS3: no number at all; the last of 64 blocks; and one number more, in an area of that length
     ∷ record { call = step (opened 0 1 0) [] 0; expected = outcome (refused 8 nowhere) [] }
@@ -166,7 +166,7 @@ bounds =
       call = step (half 1 0) ((0x3FF0000000000000 ∷ 0x3CA0000000000000 ∷ []) ++ tiny) 0;
       expected = outcome (done 0x3FF0000000000000 1) chained;
     }
-    -- rule L8: 64 numbers are one block, 65 are two; block 1 of 64 is none
+    -- rule L8: 64 numbers are one block, 65 are two; block 1 of 64 is none, and in no sound set (rule R18)
     ∷ record {
       call = opening (replicate 64 0x3FF0000000000000);
       expected = outcome (more 0x4060000000000000 0 0 64 1 0) (replicate 64 0x3FF0000000000000);
@@ -176,7 +176,7 @@ bounds =
       expected = outcome (more 0x4060000000000000 0 0 65 3 0) (replicate 65 0x3FF0000000000000);
     }
     ∷ record { call = step (opened 64 1 0) (replicate 64 0) 1; expected = outcome (refused 6 nowhere) (replicate 64 0) }
-    ∷ record { call = step (opened 64 3 0) (replicate 64 0) 0; expected = outcome (refused 8 nowhere) (replicate 64 0) }
+    ∷ record { call = step (opened 64 3 0) (replicate 64 0) 0; expected = outcome (refused 18 nowhere) (replicate 64 0) }
     -- rule L7: M is 3 for three numbers, the first power of two that isn't below 5
     ∷ record {
       call = opening (replicate 3 0x3FF0000000000000);

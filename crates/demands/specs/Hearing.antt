@@ -1,13 +1,13 @@
--- What is heard of the nine calls of walk, sums and register: a refusal with its number is heard exactly when its row says, with the place for 2 and 3 and
--- nothing more for the others. Assumes nothing.
+-- What is heard of the nine calls of walk, sums and register: a refusal with its number is heard exactly when its row says, with the place for 2, 3 and
+-- 19 and nothing more for the others. Assumes nothing.
 use mathlib.Core.Path.{_≡_, refl}
-use mathlib.Core.Logic.{inl, _↔_}
+use mathlib.Core.Logic.{inl, inr, _↔_}
 use mathlib.Core.Bool.{true}
 use mathlib.Core.List.{List}
 use Prim.Native.Nat.{ℕ}
 use lib.IntN.{ℤ, _+ℤ_, _-ℤ_}
 use lib.Ieee.{Float}
-use Rattle.kinds.specs.Heard.{Place, refused, Row, stepHeard, nearestHeard, partedHeard, entryHeard}
+use Rattle.kinds.specs.Heard.{Place, refused, placeOf, told, Row, stepHeard, nearestHeard, partedHeard, entryHeard}
 use Rattle.kinds.specs.Hearing.{step-is, nearest-is, parted-is, entry-is, hears, placed}
 use Rattle.kinds.specs.Limits.{doubles}
 use Rattle.kinds.specs.declared.State.{State}
@@ -53,18 +53,22 @@ module _ (ps : List ℕ) where
     faithful-heard = hears (stepHeard doubles) steps.Refused (λ k i. refl) _ (step-is doubles (faithfulOf doubles ps work .answer))
         (λ k i. WalkWhen doubles ps work (verdicts.Refused k i)) (faithful-refused ps work) (λ k i h. list-refusal h .as-told)
 
--- ---- the other tables give every number with place 0, or 2 and 3 at place 0
+-- ---- a step: 19 has its place, and any other number place 0
 
 pub step-heard : (s : State) (b : ℕ) (work : List Float) (k : ℕ) (p : Place) → (stepHeard doubles (stepped doubles s b work .answer) ≡ refused k p)
     ↔ Row (λ k i. StepWhen doubles s b work (verdicts.Refused k i)) k p
 step-heard s b work = hears (stepHeard doubles) steps.Refused (λ k i. refl) _ (step-is doubles (stepped doubles s b work .answer))
-    (λ k i. StepWhen doubles s b work (verdicts.Refused k i)) (step-refused s b work) (λ k i h. placed k i (inl (zeros h)))
+    (λ k i. StepWhen doubles s b work (verdicts.Refused k i)) (step-refused s b work) (λ k i h. as-told h)
   where
-    zeros : {k i : ℕ} → StepWhen doubles s b work (verdicts.Refused k i) → i ≡ 0
-    zeros (tables.wrong-length n) = refl
-    zeros (tables.not-sound l n) = refl
-    zeros (tables.no-block l S h) = refl
-    zeros (tables.taken-before l S h p) = refl
+    as-told : {k i : ℕ} → StepWhen doubles s b work (verdicts.Refused k i) → placeOf k i ≡ told k i
+    as-told (tables.wrong-length n) = refl
+    as-told (tables.unsound-numbers l n) = refl
+    as-told (tables.unsound-set l N n) = refl
+    as-told (tables.unsound-place l N S i F) = placed 19 i (inr tt)
+    as-told (tables.no-block l S h) = refl
+    as-told (tables.taken-before l S h p) = refl
+
+-- ---- the other tables give every number with place 0
 
 pub round-heard : (ws : List ℕ) (k : ℕ) (p : Place) → (nearestHeard doubles (rounded ws) ≡ refused k p) ↔ Row (λ k i. RoundWhen ws (nearests.Refused k i)) k p
 round-heard ws = hears (nearestHeard doubles) nearests.Refused (λ k i. refl) (rounded ws) (nearest-is doubles (rounded ws))

@@ -2,6 +2,7 @@
 -- Definitions only.
 use mathlib.Core.Path.{_≡_}
 use mathlib.Core.Bool.{true, false}
+use mathlib.Core.Logic.{_⊎_}
 use mathlib.Core.List.{List}
 use Prim.Native.Nat.{ℕ, _≤_, _<_}
 use lib.Dec.{eqb}
@@ -18,19 +19,28 @@ use Rattle.kinds.specs.declared.Nearest.{Nearest}
 use Rattle.kinds.specs.declared.Nearest.the-variants as nearests
 use Rattle.judge.specs.Table.{ListWhen}
 use Rattle.words.specs.Words.{wordCount, wholeOf}
-use Rattle.demands.specs.SoundState.{SoundState}
+use Rattle.sound.specs.Numbers.{Numbers}
+use Rattle.demands.specs.SoundState.{SoundSet, SoundState, FirstUnsound}
 
--- rule O2, each where none before it holds. None tells a place.
+-- rule O2, each where none before it holds. 19 tells the place, and no other does.
 pub data StepWhen (W : Width) (s : State) (b : ℕ) (work : List Float) : Verdict → Type 0 where
   -- rules R4 and A2
   wrong-length : (length work ≡ s .n → ⊥) → StepWhen W s b work (Refused 4 0)
   -- rule R8
-  not-sound : length work ≡ s .n → (SoundState W s work → ⊥) → StepWhen W s b work (Refused 8 0)
+  unsound-numbers : length work ≡ s .n → (Numbers W s → ⊥) → StepWhen W s b work (Refused 8 0)
+  -- rule R18
+  unsound-set : length work ≡ s .n → Numbers W s → (SoundSet W s → ⊥) → StepWhen W s b work (Refused 18 0)
+  -- rule R19
+  unsound-place : length work ≡ s .n → Numbers W s → SoundSet W s → (i : ℕ) → FirstUnsound W s work i → StepWhen W s b work (Refused 19 i)
   -- rule R6
   no-block : length work ≡ s .n → SoundState W s work → blocksOf W (s .n) ≤ b → StepWhen W s b work (Refused 6 0)
   -- rule R7
   taken-before : length work ≡ s .n → SoundState W s work → b < blocksOf W (s .n) → has (s .pending) b ≡ false → StepWhen W s b work (Refused 7 0)
   accepted : length work ≡ s .n → SoundState W s work → b < blocksOf W (s .n) → has (s .pending) b ≡ true → StepWhen W s b work Good
+
+-- the refusals that are the state's: it isn't sound
+abbrev pub OfState : ℕ → Type 0
+OfState k = (k ≡ 8) ⊎ ((k ≡ 18) ⊎ (k ≡ 19))
 
 -- opening and the undivided call: a list with a work area, and no parts slice
 abbrev pub WalkWhen : Width → List ℕ → List Float → Verdict → Type 0

@@ -1,5 +1,5 @@
 -- The gate of a block step gives each verdict exactly when its row says (rule O6), and so does rounding a register. Assumes nothing.
-use mathlib.Core.Path.{_≡_, refl}
+use mathlib.Core.Path.{_≡_, refl, ap, _∙_}
 use mathlib.Core.Logic.{_↔_, inl, inr}
 use mathlib.Core.Bool.{Bool, true, false}
 use mathlib.Core.List.{List}
@@ -8,10 +8,11 @@ use native.Mathlib.Decide.{ℕ-discrete}
 use native.Mathlib.Omega.{arith}
 use lib.IntN.{natAbs}
 use lib.ListN.{length}
-use lib.Ieee.{Float, binary64}
+use lib.Ieee.{Float, nan, binary64}
 use Rattle.units.specs.Powers.{le-or-lt}
 use Rattle.ieee.specs.Units.{limit}
 use Rattle.lists.specs.Bitset.{has}
+use Rattle.lists.specs.Each.{each-at}
 use Rattle.kinds.specs.Hearing.{exactly}
 use Rattle.kinds.specs.Limits.{Width, blocksOf}
 use Rattle.kinds.specs.declared.State.{State}
@@ -22,27 +23,36 @@ use Rattle.words.specs.Words.{wordCount, wholeOf}
 use Rattle.register.specs.Register.{rounded}
 use Rattle.register.specs.RoundedLaws.{rounded-length, rounded-beyond, rounded-sum}
 use Rattle.judge.specs.Table.{sizeOf}
-use Rattle.sound.specs.Sound.{sound, gated}
-use Rattle.sound.specs.GateLaws.{gated-4, gated-8, gated-6, gated-7, gated-good}
-use Rattle.demands.specs.SoundState.{SoundState}
-use Rattle.demands.specs.SoundStateLaws.{sound-state}
-use Rattle.demands.specs.Tables.{StepWhen, wrong-length, not-sound, no-block, taken-before, accepted, RoundWhen, wrong-words, beyond, nearest}
+use Rattle.sound.specs.Sound.{soundNumbers, soundPending, badPlace, sound, gated}
+use Rattle.sound.specs.Numbers.{Numbers}
+use Rattle.sound.specs.PlacesLaws.{bad-within}
+use Rattle.sound.specs.SoundLaws.{sound-all}
+use Rattle.sound.specs.GateLaws.{gated-4, gated-8, gated-18, gated-19, gated-6, gated-7, gated-good}
+use Rattle.demands.specs.SoundState.{SoundPlace, SoundSet, SoundState}
+use Rattle.demands.specs.SoundStateLaws.{sound-numbers, sound-set, sound-state, first-bad, bad-first}
+use Rattle.demands.specs.Tables.{StepWhen, wrong-length, unsound-numbers, unsound-set, unsound-place, no-block, taken-before, accepted, OfState}
+use Rattle.demands.specs.Tables.{RoundWhen, wrong-words, beyond, nearest}
 
 -- ---- a block step, where the largest magnitude is 2^top units
 module _ (W : Width) (top : ℕ) (is : sizeOf W (W .magnitude) ≡ 2 ^ top) (s : State) (b : ℕ) (work : List Float) where
   tested : SoundState W s work → sound W s work ≡ true
   tested = sound-state W s top is work .1
 
-  untested : (SoundState W s work → ⊥) → sound W s work ≡ false
-  untested n = go (sound W s work) refl
-    where
-      go : (t : Bool) → sound W s work ≡ t → sound W s work ≡ false
-      go true e = absurd (n (sound-state W s top is work .0 e))
-      go false e = e
+  numbers : (soundNumbers W s ≡ true) ↔ Numbers W s
+  numbers = sound-numbers W s top is
+
+  -- a test is false where what it tests for doesn't hold
+  untested : {A : Type 0} (t : Bool) → (t ≡ true → A) → (A → ⊥) → t ≡ false
+  untested true h n = absurd (n (h refl))
+  untested false h n = refl
 
   row : {v : Verdict} → StepWhen W s b work v → gated W s b work ≡ v
   row (wrong-length n) = gated-4 W s b work n
-  row (not-sound l n) = gated-8 W s b work l (untested n)
+  row (unsound-numbers l n) = gated-8 W s b work l (untested (soundNumbers W s) (numbers .0) n)
+  row (unsound-set l N n) = gated-18 W s b work l (numbers .1 N) (untested (soundPending W s) (sound-set W s .0) n)
+  row (unsound-place l N S i F) =
+      let e : badPlace W s work ≡ i = first-bad W s work i F in
+      gated-19 W s b work l (numbers .1 N) (sound-set W s .1 S) (omega (arith, F .inside)) ∙ ap (Refused 19) e
   row (no-block l S h) = gated-6 W s b work l (tested S) h
   row (taken-before l S h p) = gated-7 W s b work l (tested S) h p
   row (accepted l S h p) = gated-good W s b work l (tested S) h p
@@ -50,25 +60,65 @@ module _ (W : Width) (top : ℕ) (is : sizeOf W (W .magnitude) ≡ 2 ^ top) (s :
   some-row : (v : Verdict) × StepWhen W s b work v
   some-row = elim (ℕ-discrete (length work) (s .n)) [
     | no n ↦ (Refused 4 0, wrong-length n)
-    | yes l ↦ by-state l (sound W s work) refl
+    | yes l ↦ by-numbers l (soundNumbers W s) refl
   ]
     where
+      -- a test that is false, and what would make it true
+      failed : {A : Type 0} {t : Bool} → t ≡ false → (A → t ≡ true) → A → ⊥
+      failed e h a = let f = h a in let z : _≡_ {A = ℕ} 0 1 = cc in omega arith
+
       by-set : length work ≡ s .n → SoundState W s work → b < blocksOf W (s .n) → (t : Bool) → has (s .pending) b ≡ t
           → (v : Verdict) × StepWhen W s b work v
       by-set l S h true p = (Good, accepted l S h p)
       by-set l S h false p = (Refused 7 0, taken-before l S h p)
 
-      by-state : length work ≡ s .n → (t : Bool) → sound W s work ≡ t → (v : Verdict) × StepWhen W s b work v
-      by-state l false e = (Refused 8 0, not-sound l (λ S. let f = tested S in let z : _≡_ {A = ℕ} 0 1 = cc in omega arith))
-      by-state l true e =
-          let S = sound-state W s top is work .0 e in
-          elim (le-or-lt (blocksOf W (s .n)) b) [
-            | inl h ↦ (Refused 6 0, no-block l S h)
-            | inr h ↦ by-set l S h (has (s .pending) b) refl
-          ]
+      by-block : length work ≡ s .n → SoundState W s work → (v : Verdict) × StepWhen W s b work v
+      by-block l S = elim (le-or-lt (blocksOf W (s .n)) b) [
+        | inl h ↦ (Refused 6 0, no-block l S h)
+        | inr h ↦ by-set l S h (has (s .pending) b) refl
+      ]
+
+      by-place : length work ≡ s .n → Numbers W s → SoundSet W s → soundNumbers W s ≡ true → soundPending W s ≡ true
+          → (v : Verdict) × StepWhen W s b work v
+      by-place l N S e f = elim (le-or-lt (length work) (badPlace W s work)) [
+        | inl h ↦ by-block l (sound-state W s top is work .0 (sound-all W s work e f (omega (arith, bad-within W s work))))
+        | inr h ↦ (Refused 19 (badPlace W s work), unsound-place l N S (badPlace W s work) (bad-first W s work h))
+      ]
+
+      by-pending : length work ≡ s .n → soundNumbers W s ≡ true → (t : Bool) → soundPending W s ≡ t → (v : Verdict) × StepWhen W s b work v
+      by-pending l e false f = (Refused 18 0, unsound-set l (numbers .0 e) (failed f (sound-set W s .1)))
+      by-pending l e true f = by-place l (numbers .0 e) (sound-set W s .0 f) e f
+
+      by-numbers : length work ≡ s .n → (t : Bool) → soundNumbers W s ≡ t → (v : Verdict) × StepWhen W s b work v
+      by-numbers l false e = (Refused 8 0, unsound-numbers l (failed e (numbers .1)))
+      by-numbers l true e = by-pending l e (soundPending W s) refl
 
   pub step-when : (v : Verdict) → (gated W s b work ≡ v) ↔ StepWhen W s b work v
   step-when = exactly (gated W s b work) (StepWhen W s b work) (λ v. row) some-row
+
+  -- of an area of n numbers: the state is sound exactly where none of its own refusals is given
+  of-state : {k i : ℕ} → StepWhen W s b work (Refused k i) → OfState k → SoundState W s work → ⊥
+  of-state (wrong-length n) o S = elim o [ inl e ↦ omega arith | inr q ↦ elim q [ inl e ↦ omega arith | inr e ↦ omega arith ] ]
+  of-state (unsound-numbers l n) o S = n (S .numbers)
+  of-state (unsound-set l N n) o S = n (S .set)
+  of-state (unsound-place l N P i F) o S = F .bad (each-at (SoundPlace W s) work i nan (S .work) (F .inside))
+  of-state (no-block l P h) o S = elim o [ inl e ↦ omega arith | inr q ↦ elim q [ inl e ↦ omega arith | inr e ↦ omega arith ] ]
+  of-state (taken-before l P h p) o S = elim o [ inl e ↦ omega arith | inr q ↦ elim q [ inl e ↦ omega arith | inr e ↦ omega arith ] ]
+
+  none-given : {v : Verdict} → StepWhen W s b work v → length work ≡ s .n → ((k i : ℕ) → OfState k → v ≡ Refused k i → ⊥) → SoundState W s work
+  none-given (wrong-length n) l none = absurd (n l)
+  none-given (unsound-numbers l n) l₀ none = absurd (none 8 0 (inl refl) refl)
+  none-given (unsound-set l N n) l₀ none = absurd (none 18 0 (inr (inl refl)) refl)
+  none-given (unsound-place l N P i F) l₀ none = absurd (none 19 i (inr (inr refl)) refl)
+  none-given (no-block l S h) l₀ none = S
+  none-given (taken-before l S h p) l₀ none = S
+  none-given (accepted l S h p) l₀ none = S
+
+  pub sound-when : length work ≡ s .n → SoundState W s work ↔ ((k i : ℕ) → OfState k → gated W s b work ≡ Refused k i → ⊥)
+  sound-when l = (
+    λ S k i o e. of-state (step-when (Refused k i) .0 e) o S,
+    λ none. none-given (some-row .1) l (λ k i o e. none k i o (row (some-row .1) ∙ e)),
+  )
 
 -- ---- rounding a register
 module _ (ws : List ℕ) where

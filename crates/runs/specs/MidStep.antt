@@ -4,7 +4,7 @@ use mathlib.Core.Bool.{Bool, true, false, cond}
 use mathlib.Core.List.{List, map}
 use Prim.Native.Nat.{ℕ, _+_, _^_, _/_, _≤_, _<_}
 use native.Mathlib.Omega.{arith}
-use borrow.Author.Tests.{eq-eqb}
+use borrow.Author.Tests.{leb-true, leb-false}
 use lib.Dec.{leb}
 use lib.IntN.{natAbs}
 use lib.ListN.{length, length-map}
@@ -26,13 +26,14 @@ use Rattle.kinds.specs.declared.Step.the-variants.{More}
 use Rattle.kinds.specs.declared.Verdict.the-variants.{Good, Refused}
 use Rattle.extract.specs.Extract.{gathered}
 use Rattle.sound.specs.Sound.{gated}
+use Rattle.sound.specs.GateLaws.{gated-6, gated-7}
 use Rattle.rounds.specs.Round.{blockOf, inRound, takenState, allTaken, allLeft, closed}
 use Rattle.rounds.specs.Fitting.{Fitting}
 use Rattle.rounds.specs.InUnits.{Tau, wholes, all-ready, gathers}
 use Rattle.rounds.specs.Begun.{Begun, first-tau}
 use Rattle.walk.specs.Walk.{stepped}
 use Rattle.walk.specs.StepLaws.{stepped-good, taken-closes, taken-goes}
-use Rattle.walk.specs.Stepping.{stepping-sound, stepping-accepted}
+use Rattle.walk.specs.Stepping.{Stepping, stepping-sound, stepping-accepted}
 use Rattle.runs.specs.CloseUnits.{zero-whole}
 use Rattle.runs.specs.Taken.{pendingAt, takenOf, midArea}
 use Rattle.runs.specs.TakenLaws.{taken-all, mixed-all}
@@ -116,11 +117,11 @@ module _ {W : Width} {F : Fitting W} {e : ℕ} {s : State} {xs : List Float} (B 
   pub mid-refused : {P : ℕ} {tau : Float} → Mid B P tau → 0 < P → (b : ℕ) → has P b ≡ false
       → gated W (inRound s tau P) b (midArea W s P xs)
       ≡ Refused (cond (leb (blocksOf W (s .n)) b) 6 7) 0
-  unfolding gated
-  mid-refused {P} T l b h =
-      let I = mid-stepping B T l in
-      simp (eq-eqb _ _ (I .count), stepping-sound I, h) (go (leb (blocksOf W (s .n)) b))
+  mid-refused {P} {tau} T l b h = go (leb (blocksOf W (s .n)) b) refl
     where
-      go : (c : Bool) → cond c (Refused 6 0) (Refused 7 0) ≡ Refused (cond c 6 7) 0
-      go true = refl
-      go false = refl
+      I : Stepping W F e (inRound s tau P) (midArea W s P xs)
+      I = mid-stepping B T l
+
+      go : (c : Bool) → leb (blocksOf W (s .n)) b ≡ c → gated W (inRound s tau P) b (midArea W s P xs) ≡ Refused (cond c 6 7) 0
+      go true i = gated-6 W (inRound s tau P) b (midArea W s P xs) (I .count) (stepping-sound I) (leb-true _ _ i)
+      go false i = gated-7 W (inRound s tau P) b (midArea W s P xs) (I .count) (stepping-sound I) (leb-false _ _ i) h

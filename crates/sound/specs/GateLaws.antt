@@ -18,11 +18,12 @@ use Rattle.kinds.specs.Limits.{Width, exponentOf, blocksOf}
 use Rattle.kinds.specs.declared.State.{State}
 use Rattle.kinds.specs.declared.Verdict.the-variants.{Good, Refused}
 use Rattle.judge.specs.Table.{sizeOf}
-use Rattle.sound.specs.Sound.{badPlace, sound, gated}
+use Rattle.sound.specs.Sound.{soundNumbers, soundPending, badPlace, sound, gated}
 use Rattle.sound.specs.Places.{firstAbove}
 use Rattle.sound.specs.PlacesLaws.{places-same}
 use Rattle.sound.specs.SigmaLaws.{Sigma, sigma-holds, sigma-exponent, sigma-true}
 use Rattle.sound.specs.Numbers.{Numbers}
+use Rattle.sound.specs.SoundLaws.{sound-tests, sound-all}
 
 -- ---- rule O2, case by case
 module _ (W : Width) (s : State) (b : ℕ) (xs : List Float) where
@@ -31,21 +32,34 @@ module _ (W : Width) (s : State) (b : ℕ) (xs : List Float) where
   gated-4 h = rw (ne-eqb (length xs) (s .n) h)
 
   module _ (l : length xs ≡ s .n) where
-    pub gated-8 : sound W s xs ≡ false → gated W s b xs ≡ Refused 8 0
+    pub gated-8 : soundNumbers W s ≡ false → gated W s b xs ≡ Refused 8 0
     unfolding gated
     gated-8 h = rw (eq-eqb (length xs) (s .n) l, h)
 
-    pub gated-6 : sound W s xs ≡ true → blocksOf W (s .n) ≤ b → gated W s b xs ≡ Refused 6 0
+    pub gated-18 : soundNumbers W s ≡ true → soundPending W s ≡ false → gated W s b xs ≡ Refused 18 0
     unfolding gated
-    gated-6 h k = rw (eq-eqb (length xs) (s .n) l, h, le-leb (blocksOf W (s .n)) b k)
+    gated-18 h k = rw (eq-eqb (length xs) (s .n) l, h, k)
 
-    pub gated-7 : sound W s xs ≡ true → b < blocksOf W (s .n) → has (s .pending) b ≡ false → gated W s b xs ≡ Refused 7 0
+    pub gated-19 : soundNumbers W s ≡ true → soundPending W s ≡ true → badPlace W s xs < length xs → gated W s b xs ≡ Refused 19 (badPlace W s xs)
     unfolding gated
-    gated-7 h k p = rw (eq-eqb (length xs) (s .n) l, h, lt-leb (blocksOf W (s .n)) b k, p)
+    gated-19 h k p = rw (eq-eqb (length xs) (s .n) l, h, k, ne-eqb (badPlace W s xs) (length xs) (λ e. omega arith))
 
-    pub gated-good : sound W s xs ≡ true → b < blocksOf W (s .n) → has (s .pending) b ≡ true → gated W s b xs ≡ Good
-    unfolding gated
-    gated-good h k p = rw (eq-eqb (length xs) (s .n) l, h, lt-leb (blocksOf W (s .n)) b k, p)
+    -- a sound state: the block decides
+    module _ (S : sound W s xs ≡ true) where
+      by-block : gated W s b xs ≡ cond (leb (blocksOf W (s .n)) b) (Refused 6 0) (cond (not (has (s .pending) b)) (Refused 7 0) Good)
+      unfolding gated
+      by-block =
+          let t = sound-tests W s xs S in
+          rw (eq-eqb (length xs) (s .n) l, t .0, t .1, eq-eqb (badPlace W s xs) (length xs) (t .2))
+
+      pub gated-6 : blocksOf W (s .n) ≤ b → gated W s b xs ≡ Refused 6 0
+      gated-6 k = rw (by-block, le-leb (blocksOf W (s .n)) b k)
+
+      pub gated-7 : b < blocksOf W (s .n) → has (s .pending) b ≡ false → gated W s b xs ≡ Refused 7 0
+      gated-7 k p = rw (by-block, lt-leb (blocksOf W (s .n)) b k, p)
+
+      pub gated-good : b < blocksOf W (s .n) → has (s .pending) b ≡ true → gated W s b xs ≡ Good
+      gated-good k p = rw (by-block, lt-leb (blocksOf W (s .n)) b k, p)
 
   pub record Open : Type 0 where
     pub long : length xs ≡ s .n
@@ -55,21 +69,33 @@ module _ (W : Width) (s : State) (b : ℕ) (xs : List Float) where
 
   pub gated-open : gated W s b xs ≡ Good → Open
   unfolding gated
-  gated-open h = go (eqb (length xs) (s .n)) (sound W s xs) (leb (blocksOf W (s .n)) b) (has (s .pending) b) refl refl refl refl h
+  gated-open h =
+      go (eqb (length xs) (s .n)) (soundNumbers W s) (soundPending W s) (eqb (badPlace W s xs) (length xs)) (leb (blocksOf W (s .n)) b) (has (s .pending) b)
+      refl refl refl refl refl refl h
     where
-      go : (p q r t : Bool) → eqb (length xs) (s .n) ≡ p → sound W s xs ≡ q → leb (blocksOf W (s .n)) b ≡ r → has (s .pending) b ≡ t
-          → cond (not p) (Refused 4 0) (cond (not q) (Refused 8 0) (cond r (Refused 6 0) (cond (not t) (Refused 7 0) Good))) ≡ Good
+      go : (l n p w r t : Bool) → eqb (length xs) (s .n) ≡ l → soundNumbers W s ≡ n → soundPending W s ≡ p → eqb (badPlace W s xs) (length xs) ≡ w
+          → leb (blocksOf W (s .n)) b ≡ r → has (s .pending) b ≡ t
+          → cond (not l) (Refused 4 0)
+          (cond (not n) (Refused 8 0)
+          (cond (not p) (Refused 18 0)
+          (cond (not w) (Refused 19 (badPlace W s xs))
+          (cond r (Refused 6 0)
+          (cond (not t) (Refused 7 0)
+          Good)))))
+          ≡ Good
           → Open
-      go true true false true P Q R S e = record {
-        long = eqb-true (length xs) (s .n) P;
-        sound = Q;
+      go true true true true false true L N P W₀ R S e = record {
+        long = eqb-true (length xs) (s .n) L;
+        sound = sound-all W s xs N P (eqb-true (badPlace W s xs) (length xs) W₀);
         inside = leb-false (blocksOf W (s .n)) b R;
         pending = S;
       }
-      go true true false false P Q R S e = apart (cc)
-      go true true true t P Q R S e = apart (cc)
-      go true false r t P Q R S e = apart (cc)
-      go false q r t P Q R S e = apart (cc)
+      go true true true true false false L N P W₀ R S e = apart (cc)
+      go true true true true true t L N P W₀ R S e = apart (cc)
+      go true true true false r t L N P W₀ R S e = apart (cc)
+      go true true false w r t L N P W₀ R S e = apart (cc)
+      go true false p w r t L N P W₀ R S e = apart (cc)
+      go false n p w r t L N P W₀ R S e = apart (cc)
 
 -- ---- 2^-M sigma as a float. 2^top is the largest magnitude in units
 module _ (W : Width) (top : ℕ) (is : sizeOf W (W .magnitude) ≡ 2 ^ top) (s : State) (N : Numbers W s) (room : exponentOf (s .n) + top < powers (W .format))

@@ -20,7 +20,7 @@ use Rattle.ieee.specs.Fractions.{same-test, eqb-same}
 use Rattle.lists.specs.Every.{every}
 use Rattle.kinds.specs.Limits.{Width, exponentOf}
 use Rattle.kinds.specs.declared.State.{State}
-use Rattle.sound.specs.Sound.{atMost, badPlace}
+use Rattle.sound.specs.Sound.{atMost, soundPlace, badPlace}
 use Rattle.sound.specs.Places.{firstAbove}
 
 -- ---- no place before i is above the limit
@@ -48,6 +48,16 @@ module _ {W : Width} {most : ℕ} {xs : List Float} where
   before-end {i} P h =
       let e : firstAbove W most (drop i xs) ≡ 0 = rw (drop-of-length-le xs {i = i} h) in
       omega (arith, P .rest)
+
+-- ---- the first bad place is one of the list, or its length
+pub bad-within : (W : Width) (s : State) (xs : List Float) → badPlace W s xs ≤ length xs
+unfolding badPlace
+bad-within W s [] = omega arith
+bad-within W s (x ∷ xs) = go (soundPlace W s x) (bad-within W s xs)
+  where
+    go : (c : Bool) → badPlace W s xs ≤ length xs → cond c (badPlace W s xs + 1) 0 ≤ suc (length xs)
+    go true h = omega arith
+    go false h = omega arith
 
 -- ---- no place is above the limit
 counts : (t : Bool) (n m : ℕ) → eqb (cond t (n + 1) 0) (suc m) ≡ (t && eqb n m)

@@ -1,4 +1,4 @@
--- A sound state, in three tests: the numbers, the pending set, the first bad work place; and the gate of a step. Definitions only.
+-- A sound state, in three tests: the numbers, the pending set, the first bad work place; and the gate of a step, with a refusal for each. Definitions only.
 use mathlib.Core.Bool.{Bool, cond, not, _&&_}
 use mathlib.Core.List.{List, [], _∷_}
 use Prim.Native.Nat.{ℕ, _+_, _*_, _^_}
@@ -44,6 +44,7 @@ unfoldable pub badPlace : Width → State → List Float → ℕ
 badPlace W s [] = 0
 badPlace W s (x ∷ xs) = cond (soundPlace W s x) (badPlace W s xs + 1) 0
 
+-- rules WS3 to WS8
 unfoldable pub sound : Width → State → List Float → Bool
 sound W s xs = soundNumbers W s && soundPending W s && eqb (badPlace W s xs) (length xs)
 
@@ -51,7 +52,9 @@ sound W s xs = soundNumbers W s && soundPending W s && eqb (badPlace W s xs) (le
 unfoldable pub gated : Width → State → ℕ → List Float → Verdict
 gated W s b work =
     cond (not (eqb (length work) (s .n))) (Refused 4 0)
-    (cond (not (sound W s work)) (Refused 8 0)
+    (cond (not (soundNumbers W s)) (Refused 8 0)
+    (cond (not (soundPending W s)) (Refused 18 0)
+    (cond (not (eqb (badPlace W s work) (length work))) (Refused 19 (badPlace W s work))
     (cond (leb (blocksOf W (s .n)) b) (Refused 6 0)
     (cond (not (has (s .pending) b)) (Refused 7 0)
-    Good)))
+    Good)))))

@@ -4,7 +4,7 @@ use mathlib.Core.Bool.{Bool, true, false, _&&_, and-false}
 use mathlib.Core.List.{List}
 use Prim.Native.Nat.{ℕ, _-_, _^_, _≤_, _<_}
 use native.Mathlib.Omega.{arith}
-use borrow.Author.Tests.{leb-true, ltb-true, eqb-true, le-leb, lt-leb}
+use borrow.Author.Tests.{leb-true, ltb-true, eqb-true, eq-eqb, le-leb, lt-leb}
 use lib.Dec.{leb, ltb, eqb, leb→le, le→leb, ltb→lt, lt→ltb}
 use lib.ListN.{length}
 use lib.Pow.{pow-pos}
@@ -67,17 +67,16 @@ module _ (W : Width) (s : State) where
 
   -- ---- all three
   module _ (xs : List Float) where
-    pub sound-numbers : soundNumbers W s ≡ false → sound W s xs ≡ false
+    pub sound-tests : sound W s xs ≡ true → (soundNumbers W s ≡ true) × (soundPending W s ≡ true) × (badPlace W s xs ≡ length xs)
     unfolding sound
-    sound-numbers h = rw h
+    sound-tests h =
+        let b = both-true (soundNumbers W s && soundPending W s) (eqb (badPlace W s xs) (length xs)) h in
+        let a = both-true (soundNumbers W s) (soundPending W s) (b .0) in
+        (a .0, a .1, eqb-true (badPlace W s xs) (length xs) (b .1))
 
-    pub sound-pending : soundPending W s ≡ false → sound W s xs ≡ false
+    pub sound-all : soundNumbers W s ≡ true → soundPending W s ≡ true → badPlace W s xs ≡ length xs → sound W s xs ≡ true
     unfolding sound
-    sound-pending h = rw (h, and-false (soundNumbers W s))
-
-    pub sound-places : soundNumbers W s ≡ true → soundPending W s ≡ true → sound W s xs ≡ eqb (badPlace W s xs) (length xs)
-    unfolding sound
-    sound-places h k = rw (h, k)
+    sound-all h k l = rw (h, k, eq-eqb (badPlace W s xs) (length xs) l)
 
 -- ---- the tests are what they say, where the largest magnitude is 2^top units
 module _ (W : Width) (top : ℕ) (is : sizeOf W (W .magnitude) ≡ 2 ^ top) (s : State) where
@@ -119,8 +118,4 @@ module _ (W : Width) (top : ℕ) (is : sizeOf W (W .magnitude) ≡ 2 ^ top) (s :
       )
 
   pub sound-holds : (xs : List Float) → sound W s xs ≡ true → Numbers W s × (soundPending W s ≡ true) × (badPlace W s xs ≡ length xs)
-  unfolding sound
-  sound-holds xs h =
-      let b = both-true (soundNumbers W s && soundPending W s) (eqb (badPlace W s xs) (length xs)) h in
-      let a = both-true (soundNumbers W s) (soundPending W s) (b .0) in
-      (numbers-hold (a .0), a .1, eqb-true (badPlace W s xs) (length xs) (b .1))
+  sound-holds xs h = let S = sound-tests W s xs h in (numbers-hold (S .0), S .1, S .2)

@@ -12,30 +12,24 @@ pub mod places;
 
 ghost use mathlib.Core.Path.{_≡_};
 ghost use Rattle.kinds.specs.Limits.{doubles};
-ghost use Rattle.sound.specs.Sound.{sound, gated};
+ghost use Rattle.sound.specs.Sound.{gated};
 
-// The whole work area is looked at, blocks already taken too.
-pub fn is_sound(s: State, work: &[f64]) -> bool
-    ensures { λ r. ⌜ r ≡ sound doubles s (now (work .entry)) ⌝ }
-{
-    if !numbers(s) {
-        return false;
-    }
-    if !pending(s) {
-        return false;
-    }
-    bad_place(work, limit(s)) == work.len()
-}
-
-// Rule O2. The block number is compared with B before any shift.
+// Rule O2. The whole work area is looked at, blocks already taken too; the block number is compared with B before any shift.
 pub fn gate(s: State, work: &[f64], block: usize) -> Verdict
     ensures { λ r. ⌜ r ≡ gated doubles s block (now (work .entry)) ⌝ }
 {
     if work.len() != s.n {
         return Verdict::Refused(4, 0);
     }
-    if !is_sound(s, work) {
+    if !numbers(s) {
         return Verdict::Refused(8, 0);
+    }
+    if !pending(s) {
+        return Verdict::Refused(18, 0);
+    }
+    let place = bad_place(work, limit(s));
+    if place < work.len() {
+        return Verdict::Refused(19, place as u32);
     }
     if Doubles::of(s.n).blocks() <= block {
         return Verdict::Refused(6, 0);

@@ -2,6 +2,7 @@
 -- refusals is one of the table. Assumes nothing.
 use mathlib.Core.Path.{_≡_, refl, sym, ap, _∙_}
 use mathlib.Core.Bool.{true, false}
+use mathlib.Core.Logic.{inr}
 use mathlib.Core.List.{List}
 use Prim.Native.Nat.{ℕ}
 use native.Mathlib.Omega.{arith}
@@ -12,13 +13,14 @@ use Rattle.lists.specs.Apart.{apart}
 use Rattle.kinds.specs.Limits.{doubles}
 use Rattle.kinds.specs.Outcome.{Outcome, outcome}
 use Rattle.kinds.specs.Heard.{Refusal, stepHeard}
+use Rattle.kinds.specs.Hearing.{at-place-0, placed}
 use Rattle.kinds.specs.declared.State.{State}
 use Rattle.kinds.specs.declared.Verdict.the-variants as verdicts
 use Rattle.kinds.specs.declared.Step.{Step}
 use Rattle.kinds.specs.declared.Step.the-variants as steps
 use Rattle.judge.specs.JudgeLaws.{list-refusal}
 use Rattle.walk.specs.Walk.{Walked, opened, stepped}
-use Rattle.demands.specs.Tables.{StepWhen, wrong-length, not-sound, no-block, taken-before}
+use Rattle.demands.specs.Tables.{StepWhen, wrong-length, unsound-numbers, unsound-set, unsound-place, no-block, taken-before}
 use Rattle.demands.specs.Refusals.{open-refused, step-refused, step-leaves}
 use Rattle.arrays.specs.Arrays.{codeOf, returned, tooManyOr4}
 use Rattle.step_calls.specs.StepArrays.{walkNumbers, walkValues, stateIn, walkReturned, openArrays, stepArrays}
@@ -63,8 +65,8 @@ module _ (numbers : List ℕ) (work : List Float) (b : ℕ) where
 
     pub step-unreadable : length work ≡ getD numbers 4 0 → readable numbers ≡ false → returned 8 work numbers ≡ stepArrays numbers work b
     step-unreadable h r =
-        walk-refused 8 (step-refused (stateIn numbers) b work 8 0 .1 (not-sound h
-        (λ S. let z : true ≡ false = sym (sound-readable numbers (S .numbers)) ∙ r in apart (cc))))
+        walk-refused 8 (step-refused (stateIn numbers) b work 8 0 .1 (unsound-numbers h
+        (λ N. let z : true ≡ false = sym (sound-readable numbers N) ∙ r in apart (cc))))
 
 -- ---- what is refused is refused with a number of the table
 step-by : (a : Step) → ((k i : ℕ) → a ≡ steps.Refused k i → Refusal (doubles .length) k i) → StepRefusal a
@@ -76,10 +78,12 @@ pub open-refusal : (ps : List ℕ) (work : List Float) → StepRefusal (opened d
 open-refusal ps work = step-by (opened doubles ps work .answer) (λ k i e. list-refusal (open-refused ps work k i .0 e))
 
 step-row : {s : State} {b : ℕ} {work : List Float} {k i : ℕ} → StepWhen doubles s b work (verdicts.Refused k i) → Refusal (doubles .length) k i
-step-row (wrong-length l) = record { number = omega arith; place = omega arith; as-told = refl }
-step-row (not-sound l s) = record { number = omega arith; place = omega arith; as-told = refl }
-step-row (no-block l s b) = record { number = omega arith; place = omega arith; as-told = refl }
-step-row (taken-before l s b t) = record { number = omega arith; place = omega arith; as-told = refl }
+step-row (wrong-length l) = at-place-0 (omega arith)
+step-row (unsound-numbers l n) = at-place-0 (omega arith)
+step-row (unsound-set l N n) = at-place-0 (omega arith)
+step-row (unsound-place l N S i F) = record { number = omega arith; place = omega (arith, F .inside, N .counts .few); as-told = placed 19 i (inr tt) }
+step-row (no-block l s b) = at-place-0 (omega arith)
+step-row (taken-before l s b t) = at-place-0 (omega arith)
 
 pub step-refusal : (s : State) (b : ℕ) (work : List Float) → StepRefusal (stepped doubles s b work .answer)
 step-refusal s b work = step-by (stepped doubles s b work .answer) (λ k i e. step-row (step-refused s b work k i .0 e))

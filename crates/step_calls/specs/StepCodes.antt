@@ -17,7 +17,7 @@ use Rattle.kinds.specs.declared.State.{State}
 use Rattle.kinds.specs.declared.Step.the-variants as steps
 use Rattle.kinds.specs.declared.Verdict.the-variants as verdicts
 use Rattle.walk.specs.Walk.{opened, stepped}
-use Rattle.demands.specs.Tables.{StepWhen, wrong-length, not-sound, no-block, taken-before}
+use Rattle.demands.specs.Tables.{StepWhen, wrong-length, unsound-numbers, unsound-set, unsound-place, no-block, taken-before}
 use Rattle.demands.specs.Hearing.{open-heard, step-heard}
 use Rattle.demands.specs.Refusals as refusals
 use Rattle.arrays.specs.Arrays.{codeOf, Returned, returned, tooManyOr4}
@@ -29,7 +29,9 @@ use Rattle.step_calls.specs.StepArraysLaws.{open-other, open-walked, ste
 -- ---- exactly when
 step-some : {s : State} {b : ℕ} {work : List Float} {k i : ℕ} → StepWhen doubles s b work (verdicts.Refused k i) → k ≡ 0 → ⊥
 step-some (wrong-length l) z = omega arith
-step-some (not-sound l s) z = omega arith
+step-some (unsound-numbers l n) z = omega arith
+step-some (unsound-set l N n) z = omega arith
+step-some (unsound-place l N S i F) z = omega arith
 step-some (no-block l s b) z = omega arith
 step-some (taken-before l s b t) z = omega arith
 

@@ -6,7 +6,7 @@ use Prim.Native.Nat.{ℕ, _+_, _*_, _^_, _≤_, _<_}
 use native.Mathlib.Nat.{mul-le-mul-left}
 use native.Mathlib.Numerals.{add-one}
 use native.Mathlib.Omega.{arith}
-use borrow.Author.Tests.{eq-eqb, le-leb, lt-ltb, lt-leb}
+use borrow.Author.Tests.{le-leb, lt-ltb}
 use lib.ListN.{length, take, drop}
 use lib.Seq.{length-front}
 use lib.Pow.{pow-add}
@@ -25,7 +25,8 @@ use Rattle.extract.specs.LargestLaws.{Positive}
 use Rattle.sound.specs.Sound.{soundPending, badPlace, sound, gated}
 use Rattle.sound.specs.Numbers.{SigmaBetween, Numbers}
 use Rattle.sound.specs.SigmaLaws.{limit-is}
-use Rattle.sound.specs.SoundLaws.{numbers-true}
+use Rattle.sound.specs.SoundLaws.{numbers-true, sound-all}
+use Rattle.sound.specs.GateLaws.{gated-good}
 use Rattle.rounds.specs.Round.{inRound}
 use Rattle.rounds.specs.Fitting.{Fitting}
 use Rattle.rounds.specs.InUnits.{Small, remainders-small}
@@ -67,12 +68,10 @@ module _ {W : Width} {F : Fitting W} {e : ℕ} {s : State} {xs : List Float} (I 
       below = rw (pow-add 2 (exponentOf (s .n)) e) (mul-le-mul-left (2 ^ exponentOf (s .n)) (h .0 .within))
 
   pub stepping-sound : sound W s xs ≡ true
-  unfolding sound
-  stepping-sound = simp (numbers-true W (F .top) (F .top-is) s (I .numbers), pending-sound, eq-eqb _ _ (places-sound xs (I .work)))
+  stepping-sound = sound-all W s xs (numbers-true W (F .top) (F .top-is) s (I .numbers)) pending-sound (places-sound xs (I .work))
 
   pub stepping-accepted : (b : ℕ) → b < blocksOf W (s .n) → has (s .pending) b ≡ true → gated W s b xs ≡ Good
-  unfolding gated
-  stepping-accepted b h p = simp (eq-eqb _ _ (I .count), stepping-sound, lt-leb _ _ h, p)
+  stepping-accepted b h p = gated-good W s b xs (I .count) stepping-sound h p
 
 module _ {W : Width} {F : Fitting W} {e : ℕ} {s : State} {xs : List Float} (B : Begun W F e s xs) where
   -- the numbers of a round that has begun are sound, whatever blocks are pending

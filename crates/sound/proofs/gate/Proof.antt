@@ -1,15 +1,22 @@
--- `sound::gate` meets its contract, a law for each answer. Assumes nothing.
+-- `sound::gate` meets its contract, a law for each answer; with sound numbers, the first work number above 2^-M sigma is the first bad place. Assumes nothing.
 use borrow.Author.Needs.{needs}
 use borrow.Author.Tests.{not-true, not-false}
 use mathlib.Core.Path.{_≡_, sym, ap, _∙_}
 use mathlib.Core.Bool.{true}
+use Prim.Native.Nat.{ℕ, _+_, _≤_, _<_}
 use native.Mathlib.Omega.{arith}
-use Rattle.kinds.specs.Limits.{doubles, blocksOf}
-use Rattle.sound.specs.Sound.{sound}
+use lib.ListN.{length}
+use lib.Ieee.{Float, binary64}
+use Rattle.ieee.specs.Units.{magnitude}
+use Rattle.exponent.specs.Power.{powers}
+use Rattle.kinds.specs.Limits.{doubles, exponentOf, blocksOf}
+use Rattle.sound.specs.Sound.{soundNumbers, soundPending, badPlace, sound}
+use Rattle.sound.specs.Places.{firstAbove}
 use Rattle.sound.specs.Numbers.{Numbers}
-use Rattle.sound.specs.DoublesLaws.{magnitude-units}
-use Rattle.sound.specs.SoundLaws.{sound-holds}
-use Rattle.sound.specs.GateLaws.{gated-4, gated-8, gated-6, gated-7, gated-good}
+use Rattle.sound.specs.DoublesLaws.{magnitude-units, sigma-room}
+use Rattle.sound.specs.PlacesLaws.{bad-within}
+use Rattle.sound.specs.SoundLaws.{numbers-hold, sound-all}
+use Rattle.sound.specs.GateLaws.{gated-4, gated-8, gated-18, gated-19, gated-6, gated-7, gated-good, limit-number, limit-negative, limit-places}
 use Rattle.sound.proofs.gate.Statement.{statement}
 use Rattle.sound.proofs.gate.Tie as tie
 
@@ -18,68 +25,132 @@ returns c =
     let a = c .before .before .before .args in
     sym (gated-4 doubles (a .s) (a .block) (a .work .now) (omega arith))
 
-is-sound-requires : tie.Need-is-sound-requires
-is-sound-requires c κs = search needs
-
+-- ---- the numbers
 returns-2 : tie.Need-returns-2
 returns-2 c =
     let a = c .before .before .before .before .before .args in
-    sym (gated-8 doubles (a .s) (a .block) (a .work .now) (omega arith) (sym (c .before .is-sound .ensures) ∙ not-true _ (c .if2 .taken)))
+    sym (gated-8 doubles (a .s) (a .block) (a .work .now) (omega arith) (sym (c .before .numbers .ensures) ∙ not-true _ (c .if2 .taken)))
 
-good : (c : tie.Else2)
-    → sound doubles (c .before .before .before .before .before .args .s) (c .before .before .before .before .before .args .work .now) ≡ true
-good c = sym (c .before .is-sound .ensures) ∙ not-false _ (c .if2 .left)
+good : (c : tie.Else2) → soundNumbers doubles (c .before .before .before .before .before .args .s) ≡ true
+good c = sym (c .before .numbers .ensures) ∙ not-false _ (c .if2 .left)
 
 numbers : (c : tie.Else2) → Numbers doubles (c .before .before .before .before .before .args .s)
-numbers c = let a = c .before .before .before .before .before .args in sound-holds doubles 2074 magnitude-units (a .s) (a .work .now) (good c) .0
+numbers c = numbers-hold doubles 2074 magnitude-units (c .before .before .before .before .before .args .s) (good c)
 
-of-requires : tie.Need-of-requires
-of-requires c κs = search needs
-
-blocks-requires : tie.Need-blocks-requires
-blocks-requires c κs = rw (c .of .ensures) (numbers (c .before) .counts .few)
-
--- B
-count : (c : tie.After-blocks2) → c .blocks2 .result ≡ blocksOf doubles (c .before .before .before .before .before .before .before .args .s .n)
-count c = c .blocks2 .ensures ∙ ap (blocksOf doubles) (c .before .of .ensures)
+-- ---- the pending set
+pending-requires : tie.Need-pending-requires
+pending-requires c κs = (numbers c .counts .some, numbers c .counts .few)
 
 returns-3 : tie.Need-returns-3
 returns-3 c =
-    let g = c .before .before .before in
+    let g = c .before .before in
     let a = g .before .before .before .before .before .args in
-    sym (gated-6 doubles (a .s) (a .block) (a .work .now) (omega arith) (good g) (omega (arith, count (c .before))))
+    sym
+    (gated-18 doubles (a .s) (a .block) (a .work .now) (omega arith) (good g) (sym (c .before .pending .ensures) ∙ not-true _ (c .if3 .taken)))
 
-has-requires : tie.Need-has-requires
-has-requires c κs = omega (arith, count (c .before), numbers (c .before .before .before) .counts .few)
+-- ---- the work area
+limit-requires : tie.Need-limit-requires
+limit-requires c κs = good (c .before .before)
+
+room : (c : tie.Else2) → exponentOf (c .before .before .before .before .before .args .s .n) + 2074 < powers binary64
+room c = sigma-room (c .before .before .before .before .before .args .s .n) (numbers c .counts .few)
+
+bad-place-requires : tie.Need-bad-place-requires
+bad-place-requires c κs =
+    let g = c .before .before .before in
+    let s = g .before .before .before .before .before .args .s in
+    rw (c .limit .ensures)
+    (limit-number doubles 2074 magnitude-units s (numbers g) (room g) .fini, limit-negative doubles 2074 magnitude-units s (numbers g) (room g))
+
+place : (c : tie.After-bad-place) → let a = c .before .before .before .before .before .before .before .before .before .args in
+    c .bad-place .result ≡ badPlace doubles (a .s) (a .work .now)
+place c =
+    let l = c .before in
+    let g = l .before .before .before in
+    let a = g .before .before .before .before .before .args in
+    c .bad-place .ensures
+    ∙ ap (λ (x : Float). firstAbove doubles (magnitude binary64 x) (a .work .now)) (l .limit .ensures)
+    ∙ limit-places doubles 2074 magnitude-units (a .s) (numbers g) (room g) (a .work .now)
+
+cast-t9 : tie.Need-cast-t9
+cast-t9 c = let g = c .before .before .before .before .before in omega (arith, numbers g .counts .few)
 
 returns-4 : tie.Need-returns-4
 returns-4 c =
-    let b = c .before .before in
-    let g = b .before .before .before in
+    let p = c .before in
+    let h = p .before .before in
+    let g = h .before .before in
     let a = g .before .before .before .before .before .args in
-    sym
-    (gated-7 doubles (a .s) (a .block) (a .work .now) (omega arith) (good g) (omega (arith, count (b .before)))
-    (sym (c .before .has .ensures) ∙ not-true _ (c .if4 .taken)))
+    rw (place p)
+    (sym
+    (gated-19 doubles (a .s) (a .block) (a .work .now) (omega arith) (good g) (sym (h .before .pending .ensures) ∙ not-false _ (h .if3 .left))
+    (omega (arith, place p))))
+
+-- ---- a sound state: the block
+all-sound : (c : tie.Else4) → let a = c .before .before .before .before .before .before .before .before .before .before .args in
+    sound doubles (a .s) (a .work .now) ≡ true
+all-sound c =
+    let p = c .before in
+    let h = p .before .before in
+    let g = h .before .before in
+    let a = g .before .before .before .before .before .args in
+    sound-all doubles (a .s) (a .work .now) (good g) (sym (h .before .pending .ensures) ∙ not-false _ (h .if3 .left))
+    (omega (arith, place p, bad-within doubles (a .s) (a .work .now)))
+
+few : (c : tie.Else4) → c .before .before .before .before .before .before .before .before .before .before .args .s .n ≤ doubles .length
+few c = numbers (c .before .before .before .before .before) .counts .few
+
+blocks-requires : tie.Need-blocks-requires
+blocks-requires c κs = rw (c .of .ensures) (few (c .before))
+
+-- B
+count : (c : tie.After-blocks2) → let a = c .before .before .before .before .before .before .before .before .before .before .before .before .args in
+    c .blocks2 .result ≡ blocksOf doubles (a .s .n)
+count c = c .blocks2 .ensures ∙ ap (blocksOf doubles) (c .before .of .ensures)
 
 returns-5 : tie.Need-returns-5
 returns-5 c =
+    let g = c .before .before .before in
+    let a = g .before .before .before .before .before .before .before .before .before .before .args in
+    sym (gated-6 doubles (a .s) (a .block) (a .work .now) (omega arith) (all-sound g) (omega (arith, count (c .before))))
+
+has-requires : tie.Need-has-requires
+has-requires c κs = omega (arith, count (c .before), few (c .before .before .before))
+
+returns-6 : tie.Need-returns-6
+returns-6 c =
     let b = c .before .before in
     let g = b .before .before .before in
-    let a = g .before .before .before .before .before .args in
+    let a = g .before .before .before .before .before .before .before .before .before .before .args in
     sym
-    (gated-good doubles (a .s) (a .block) (a .work .now) (omega arith) (good g) (omega (arith, count (b .before)))
-    (sym (c .before .has .ensures) ∙ not-false _ (c .if4 .left)))
+    (gated-7 doubles (a .s) (a .block) (a .work .now) (omega arith) (all-sound g) (omega (arith, count (b .before)))
+    (sym (c .before .has .ensures) ∙ not-true _ (c .if6 .taken)))
+
+returns-7 : tie.Need-returns-7
+returns-7 c =
+    let b = c .before .before in
+    let g = b .before .before .before in
+    let a = g .before .before .before .before .before .before .before .before .before .before .args in
+    sym
+    (gated-good doubles (a .s) (a .block) (a .work .now) (omega arith) (all-sound g) (omega (arith, count (b .before)))
+    (sym (c .before .has .ensures) ∙ not-false _ (c .if6 .left)))
 
 pub gate-spec : {M : Type 1} → statement M
 gate-spec =
     tie.close
     (tie.spec
     returns
-    is-sound-requires
+    (λ c κs. search needs)
     returns-2
-    of-requires
-    blocks-requires
+    pending-requires
     returns-3
-    has-requires
+    limit-requires
+    bad-place-requires
+    cast-t9
     returns-4
-    returns-5)
+    (λ c κs. search needs)
+    blocks-requires
+    returns-5
+    has-requires
+    returns-6
+    returns-7)
