@@ -90,7 +90,7 @@ impl Doubles {
     }
 }
 
-// Rules WS1 and F1: the state of a walk, a value with three f64 fields.
+// Rules WS1 and F1: the state of a walk, a value with three f64 fields. Rule WS12: the ensemble's number is the one given at the opening.
 pub struct State {
     pub sigma: f64,
     pub t: f64,
@@ -98,12 +98,13 @@ pub struct State {
     pub n: usize,
     pub pending: u64,
     pub rounds: u32,
+    pub ensemble: u32,
 }
 
 impl State {
     // Every state is built here.
-    pub fn of(n: usize, sigma: f64, t: f64, tau: f64, pending: u64, rounds: u32) -> Self
-        ensures { λ r. ⌜ r ≡ stateOf n sigma t tau pending rounds ⌝ }
+    pub fn of(n: usize, sigma: f64, t: f64, tau: f64, pending: u64, rounds: u32, ensemble: u32) -> Self
+        ensures { λ r. ⌜ r ≡ stateOf n sigma t tau pending rounds ensemble ⌝ }
     {
         State {
             sigma,
@@ -112,6 +113,7 @@ impl State {
             n,
             pending,
             rounds,
+            ensemble,
         }
     }
 }
