@@ -31,7 +31,7 @@ answered (refused k p) before words = outcome (k + placeCode p) before
 answered (done x rounds) before words = outcome 0 (packed (x ∷ rounds ∷ []))
 answered (nearest x) before words = outcome 0 (packed (x ∷ 0 ∷ []))
 answered accepted before words = outcome 0 (packed words)
-answered (more sigma t tau n pending rounds) before words = outcome 0 before
+answered (more sigma t tau n pending rounds ensemble) before words = outcome 0 before
 answered (parts b) before words = outcome 0 before
 answered (count n) before words = outcome 0 before
 

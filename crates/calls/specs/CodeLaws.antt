@@ -23,7 +23,7 @@ answer-leaves (refused k p) before words n = refl
 answer-leaves (done x r) before words n = absurd (n refl)
 answer-leaves (nearest x) before words n = absurd (n refl)
 answer-leaves accepted before words n = absurd (n refl)
-answer-leaves (more a b c d e f) before words n = absurd (n refl)
+answer-leaves (more a b c d e f g) before words n = absurd (n refl)
 answer-leaves (parts b) before words n = absurd (n refl)
 answer-leaves (count m) before words n = absurd (n refl)
 

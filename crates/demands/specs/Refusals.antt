@@ -89,11 +89,11 @@ module _ (us vs out : List ℕ) (k i : ℕ) where
 -- ---- walk::open, walk::faithful
 
 module _ (ps : List ℕ) (work : List Float) (k i : ℕ) where
-  pub open-refused : (opened doubles ps work .answer ≡ steps.Refused k i) ↔ WalkWhen doubles ps work (verdicts.Refused k i)
-  open-refused = walks.open-refused doubles ps work k i
+  pub open-refused : (e : ℕ) → (opened doubles e ps work .answer ≡ steps.Refused k i) ↔ WalkWhen doubles ps work (verdicts.Refused k i)
+  open-refused e = walks.open-refused doubles ps work e k i
 
-  pub open-leaves : opened doubles ps work .answer ≡ steps.Refused k i → opened doubles ps work .area ≡ work
-  open-leaves = walks.open-leaves doubles ps work k i
+  pub open-leaves : (e : ℕ) → opened doubles e ps work .answer ≡ steps.Refused k i → opened doubles e ps work .area ≡ work
+  open-leaves e = walks.open-leaves doubles ps work e k i
 
   pub faithful-refused : (faithfulOf doubles ps work .answer ≡ steps.Refused k i) ↔ WalkWhen doubles ps work (verdicts.Refused k i)
   faithful-refused = walks.faithful-refused doubles ps work doubles-fit k i
@@ -103,9 +103,9 @@ module _ (ps : List ℕ) (work : List Float) (k i : ℕ) where
 
 -- ---- walk::step
 
-module _ (s : State) (b : ℕ) (work : List Float) (k i : ℕ) where
-  pub step-refused : (stepped doubles s b work .answer ≡ steps.Refused k i) ↔ StepWhen doubles s b work (verdicts.Refused k i)
-  step-refused = walks.step-refused doubles s b work (doubles-fit .top) (doubles-fit .top-is) k i
+module _ (s : State) (e b : ℕ) (work : List Float) (k i : ℕ) where
+  pub step-refused : (stepped doubles s e b work .answer ≡ steps.Refused k i) ↔ StepWhen doubles s e b work (verdicts.Refused k i)
+  step-refused = walks.step-refused doubles s e b work (doubles-fit .top) (doubles-fit .top-is) k i
 
-  pub step-leaves : stepped doubles s b work .answer ≡ steps.Refused k i → stepped doubles s b work .area ≡ work
-  step-leaves = walks.step-leaves doubles s b work k i
+  pub step-leaves : stepped doubles s e b work .answer ≡ steps.Refused k i → stepped doubles s e b work .area ≡ work
+  step-leaves = walks.step-leaves doubles s e b work k i

@@ -13,6 +13,7 @@ pub mod TakenLaws
 pub mod OneBlock
 pub mod Places
 pub mod Runs
+pub mod Numbered
 pub mod MembersLaws
 pub mod MidRound
 pub mod Conserved

@@ -1,5 +1,5 @@
 -- The number of an ensemble decides nothing but which steps are refused with 21: a walk under one number is the walk under another, but for the number that its
--- states have. Assumes nothing.
+-- states have; and that number stays through steps, closes and restarts. Assumes nothing.
 use mathlib.Core.Path.{_≡_, refl, sym, ap, _∙_}
 use mathlib.Core.Bool.{Bool, true, false, cond}
 use mathlib.Core.List.{List, [], _∷_, foldl}
@@ -22,7 +22,7 @@ use Rattle.judge.specs.Judge.{judged, floats, zeroSign}
 use Rattle.extract.specs.Extract.{plusZero, largest}
 use Rattle.sound.specs.Sound.{soundNumbers, soundPending, soundPlace, badPlace, gated}
 use Rattle.rounds.specs.Round.{turned, takenState, freshRound, fresh, finished, closed, closedBy}
-use Rattle.rounds.specs.ClosedLaws.{tau1Of, finishes, furtherRound}
+use Rattle.rounds.specs.ClosedLaws.{tau1Of, finishes, furtherRound, fresh-each, closed-each}
 use Rattle.walk.specs.Walk.{Walked, openedAfter, opened, taken, steppedAfter, stepped, onward, rising, roundsFrom, undividedOf}
 
 -- the same state, answer and walk under the number k
@@ -37,6 +37,46 @@ answerUnder k (Refused l p) = Refused l p
 abbrev pub walkUnder : ℕ → Walked → Walked
 walkUnder k w = outcome (answerUnder k (w .answer)) (w .area)
 
+-- ---- the number stays: an answer's state, if it has one, is of the ensemble k
+abbrev pub Named : ℕ → Step → Type 0
+Named k (More s) = s .ensemble ≡ k
+Named k (Done x r) = Unit {0}
+Named k (Refused l p) = Unit {0}
+
+module _ (W : Width) where
+  fresh-named : (none : Float) (n mu rounds k : ℕ) → Named k (fresh W none n mu rounds k)
+  fresh-named none n mu rounds k = fresh-each (Named k) W none n mu rounds k (λ a. tt) (λ a. refl)
+
+  closed-named : (s : State) (xs : List Float) → Named (s .ensemble) (closed W s xs)
+  closed-named s xs =
+      closed-each (Named (s .ensemble)) W (largest (W .format) xs) s xs (λ z. fresh-named (plusZero (W .format)) (s .n) _ (s .rounds + 1) (s .ensemble))
+      (λ z r. tt) (λ z r. refl)
+
+  taken-named : (s : State) (b : ℕ) (xs : List Float) → Named (s .ensemble) (taken W s b xs .answer)
+  unfolding taken
+  taken-named s b xs = by (eqb (takenState W s b xs .pending) 0)
+    where
+      by : (c : Bool) → Named (s .ensemble) (cond c (closed W (takenState W s b xs) (turned W (s .sigma) b xs)) (More (takenState W s b xs)))
+      by true = closed-named (takenState W s b xs) (turned W (s .sigma) b xs)
+      by false = refl
+
+  pub stepped-named : (s : State) (k b : ℕ) (xs : List Float) → Named (s .ensemble) (stepped W s k b xs .answer)
+  unfolding steppedAfter
+  stepped-named s k b xs = by (gated W s k b xs)
+    where
+      by : (v : Verdict) → Named (s .ensemble) (steppedAfter W v s b xs .answer)
+      by verdicts.Good = taken-named s b xs
+      by (verdicts.Refused l p) = tt
+
+  pub opened-named : (k : ℕ) (ps : List ℕ) (work : List Float) → Named k (opened W k ps work .answer)
+  unfolding openedAfter
+  opened-named k ps work = by (judged W (eqb (length work) (length ps)) true ps)
+    where
+      by : (v : Verdict) → Named k (openedAfter W k v ps work .answer)
+      by verdicts.Good = fresh-named (nearestFloat (W .format) (zeroSign W ps) (pos 0)) (length ps) _ 0 k
+      by (verdicts.Refused l p) = tt
+
+-- ---- the walk under another number
 module _ (W : Width) (k : ℕ) where
   -- a sum or a state, by a test; and by another one which of two such
   either : (c : Bool) (x : Float) (r : ℕ) (s : State) → cond c (Done x r) (More (under k s)) ≡ answerUnder k (cond c (Done x r) (More s))
@@ -75,7 +115,7 @@ module _ (W : Width) (k : ℕ) where
       let ys = turned W (s .sigma) b xs in
       ap (λ (a : Step). outcome a ys) (any (eqb (next .pending) 0) (closed W next ys) (More next) _ _ (closed-under next ys) refl)
 
-  stepped-under : (s : State) (b : ℕ) (xs : List Float) → stepped W (under k s) k b xs ≡ walkUnder k (stepped W s (s .ensemble) b xs)
+  pub stepped-under : (s : State) (b : ℕ) (xs : List Float) → stepped W (under k s) k b xs ≡ walkUnder k (stepped W s (s .ensemble) b xs)
   unfolding steppedAfter
   stepped-under s b xs = ap (λ (v : Verdict). steppedAfter W v (under k s) b xs) (gated-under s b xs) ∙ by (gated W s (s .ensemble) b xs)
     where
