@@ -8,7 +8,7 @@
 #include <stdio.h>
 #include <string.h>
 
-enum { N = 200 };
+enum { N = 200, OURS = 17, THEIRS = 18 }; /* two ensembles that an operator has open, by the numbers that the lab gives them */
 
 static uint64_t list[N];
 static double work[N], opened[N], other[N];
@@ -37,9 +37,9 @@ static size_t next_block(const uint64_t *state, size_t blocks)
 }
 
 /* A step that is refused changes neither the state nor the area, so that the walk can go on with the right ones. */
-static void told(const char *what, uint64_t *state, double *area)
+static void told(const char *what, uint64_t *state, double *area, uint32_t ensemble)
 {
-    uint32_t code = kewohiata_walk_step(state, KEWOHIATA_STATE, area, N, 0);
+    uint32_t code = kewohiata_walk_step(state, KEWOHIATA_STATE, area, N, 0, ensemble);
     printf("  %s: refusal %u", what, (unsigned)kewohiata_refusal(code));
     if (kewohiata_tells_place(code))
         printf(" at place %u", (unsigned)kewohiata_place(code));
@@ -53,12 +53,13 @@ static void mixed_up(const uint64_t *state)
     memcpy(wrong, state, sizeof wrong);
     for (int i = 0; i < N; i++)
         other[i] = 1.0 + i;
-    told("another ensemble's work area", wrong, other);
-    told("the work area as it was at the opening", wrong, opened);
+    told("our state in a step meant for the other ensemble", wrong, other, THEIRS);
+    told("the other ensemble's work area", wrong, other, OURS);
+    told("the work area as it was at the opening", wrong, opened, OURS);
     wrong[KEWOHIATA_STATE_PENDING] = 1u << kewohiata_blocks(N);
-    told("the pending set of a longer list", wrong, work);
+    told("the pending set of a longer list", wrong, work, OURS);
     wrong[KEWOHIATA_STATE_SIGMA] += 1;
-    told("a bit of sigma turned over, besides", wrong, work);
+    told("a bit of sigma turned over, besides", wrong, work, OURS);
 }
 
 int main(void)
@@ -72,16 +73,16 @@ int main(void)
         return 1;
     }
     fill();
-    uint32_t code = kewohiata_walk_open(list, N, work, N, state, KEWOHIATA_STATE);
+    uint32_t code = kewohiata_walk_open(list, N, work, N, state, KEWOHIATA_STATE, OURS);
     printf("opened: code %u, %u blocks\n", (unsigned)code, (unsigned)blocks);
     memcpy(opened, work, sizeof opened);
     while (code == KEWOHIATA_ACCEPTED && state[KEWOHIATA_STATE_KIND] == KEWOHIATA_MORE) {
         size_t block = next_block(state, blocks);
-        code = kewohiata_walk_step(state, KEWOHIATA_STATE, work, N, block);
+        code = kewohiata_walk_step(state, KEWOHIATA_STATE, work, N, block, OURS);
         printf("block %u: code %u\n", (unsigned)block, (unsigned)code);
         steps++;
         if (steps == 2) /* a block twice in a round is refused, and nothing changes */
-            printf("the same again: refusal %u\n", (unsigned)kewohiata_refusal(kewohiata_walk_step(state, KEWOHIATA_STATE, work, N, block)));
+            printf("the same again: refusal %u\n", (unsigned)kewohiata_refusal(kewohiata_walk_step(state, KEWOHIATA_STATE, work, N, block, OURS)));
         if (steps == blocks)
             mixed_up(state);
     }

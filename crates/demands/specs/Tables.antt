@@ -37,7 +37,8 @@ pub data StepWhen (W : Width) (s : State) (k b : ℕ) (work : List Float) : Verd
   -- rule R6
   no-block : length work ≡ s .n → k ≡ s .ensemble → SoundState W s work → blocksOf W (s .n) ≤ b → StepWhen W s k b work (Refused 6 0)
   -- rule R7
-  taken-before : length work ≡ s .n → k ≡ s .ensemble → SoundState W s work → b < blocksOf W (s .n) → has (s .pending) b ≡ false → StepWhen W s k b work (Refused 7 0)
+  taken-before : length work ≡ s .n → k ≡ s .ensemble → SoundState W s work → b < blocksOf W (s .n) → has (s .pending) b ≡ false
+      → StepWhen W s k b work (Refused 7 0)
   accepted : length work ≡ s .n → k ≡ s .ensemble → SoundState W s work → b < blocksOf W (s .n) → has (s .pending) b ≡ true → StepWhen W s k b work Good
 
 -- the refusals that are the state's: it isn't sound

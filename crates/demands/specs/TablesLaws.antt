@@ -30,7 +30,8 @@ use Rattle.sound.specs.SoundLaws.{sound-all}
 use Rattle.sound.specs.GateLaws.{gated-4, gated-21, gated-8, gated-18, gated-19, gated-6, gated-7, gated-good}
 use Rattle.demands.specs.SoundState.{SoundPlace, SoundSet, SoundState}
 use Rattle.demands.specs.SoundStateLaws.{sound-numbers, sound-set, sound-state, first-bad, bad-first}
-use Rattle.demands.specs.Tables.{StepWhen, wrong-length, other-ensemble, unsound-numbers, unsound-set, unsound-place, no-block, taken-before, accepted, OfState}
+use Rattle.demands.specs.Tables.{StepWhen, wrong-length, other-ensemble, unsound-numbers, unsound-set, unsound-place, no-block, taken-before}
+use Rattle.demands.specs.Tables.{accepted, OfState}
 use Rattle.demands.specs.Tables.{RoundWhen, wrong-words, beyond, nearest}
 
 -- ---- a block step, where the largest magnitude is 2^top units
@@ -110,7 +111,8 @@ module _ (W : Width) (top : ℕ) (is : sizeOf W (W .magnitude) ≡ 2 ^ top) (s :
   of-state (no-block l m P h) o S = elim o [ inl e ↦ omega arith | inr q ↦ elim q [ inl e ↦ omega arith | inr e ↦ omega arith ] ]
   of-state (taken-before l m P h p) o S = elim o [ inl e ↦ omega arith | inr q ↦ elim q [ inl e ↦ omega arith | inr e ↦ omega arith ] ]
 
-  none-given : {v : Verdict} → StepWhen W s k b work v → length work ≡ s .n → k ≡ s .ensemble → ((l i : ℕ) → OfState l → v ≡ Refused l i → ⊥) → SoundState W s work
+  none-given : {v : Verdict} → StepWhen W s k b work v → length work ≡ s .n → k ≡ s .ensemble → ((l i : ℕ) → OfState l → v ≡ Refused l i → ⊥)
+      → SoundState W s work
   none-given (wrong-length n) l m none = absurd (n l)
   none-given (other-ensemble l n) l₀ m none = absurd (n m)
   none-given (unsound-numbers l m n) l₀ m₀ none = absurd (none 8 0 (inl refl) refl)

@@ -103,7 +103,15 @@ pub struct State {
 
 impl State {
     // Every state is built here.
-    pub fn of(n: usize, sigma: f64, t: f64, tau: f64, pending: u64, rounds: u32, ensemble: u32) -> Self
+    pub fn of(
+        n: usize,
+        sigma: f64,
+        t: f64,
+        tau: f64,
+        pending: u64,
+        rounds: u32,
+        ensemble: u32,
+    ) -> Self
         ensures { λ r. ⌜ r ≡ stateOf n sigma t tau pending rounds ensemble ⌝ }
     {
         State {
@@ -118,7 +126,7 @@ impl State {
     }
 }
 
-// ---- answers. A refusal holds its number (rules R1 to R20) and the place, 0 where none is told.
+// ---- answers. A refusal holds its number (rules R1 to R21) and the place, 0 where none is told.
 
 // Rule A5: whether a refusal with this number tells a place: 2, 3, 14 and 19 do.
 pub fn tells(number: u32) -> bool

@@ -38,7 +38,8 @@ furtherRound W s = roundOf W (s .n) (scaled (W .format) (exponentOf (s .n)) (s .
 
 -- what holds of each answer that a fresh start or a close may have holds of the one that it has
 module _ (P : Step → Type 0) (W : Width) where
-  pub fresh-each : (zero : Float) (n mu rounds ensemble : ℕ) → (eqb mu 0 ≡ true → P (Done zero rounds)) → (eqb mu 0 ≡ false → P (More (freshRound W n mu rounds ensemble)))
+  pub fresh-each : (zero : Float) (n mu rounds ensemble : ℕ) → (eqb mu 0 ≡ true → P (Done zero rounds))
+      → (eqb mu 0 ≡ false → P (More (freshRound W n mu rounds ensemble)))
       → P (fresh W zero n mu rounds ensemble)
   unfolding fresh
   fresh-each zero n mu rounds ensemble none some = go (eqb mu 0) refl

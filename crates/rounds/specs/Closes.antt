@@ -138,7 +138,8 @@ module _ {W : Width} {F : Fitting W} {e : ℕ} {s : State} {xs : List Float} (B 
   lower c h = rw (add-one (s .rounds), suc-mul (s .rounds) (prec (W .format) - exponentOf (s .n))) (omega (arith, B .lowered))
 
   pub restarts : allZero (W .format) (allLeft W s xs) ≡ false
-      → Begun W F (ceil (largest (W .format) (allLeft W s xs))) (freshRound W (s .n) (largest (W .format) (allLeft W s xs)) (s .rounds + 1) (s .ensemble)) (allLeft W s xs)
+      → Begun W F (ceil (largest (W .format) (allLeft W s xs)))
+      (freshRound W (s .n) (largest (W .format) (allLeft W s xs)) (s .rounds + 1) (s .ensemble)) (allLeft W s xs)
   restarts z = go (le-or-lt (prec (W .format)) (exponentOf (s .n) + e))
     where
       f : Format

@@ -118,10 +118,12 @@ module _ (e : ℕ) (ps : List ℕ) (work : List Float) (bs : List ℕ) where
   pub bounded-32 : Accepted singles ps work → runOf singles e ps work bs .steps ≤ 20 * blocksOf singles (length ps)
   bounded-32 G = run-bounded singles-fit e ps work G bs
 
-  pub at-once-64 : Accepted doubles ps work → (x : Float) (k : ℕ) → opened doubles e ps work .answer ≡ Done x k → (k ≡ 0) × (runOf doubles e ps work bs .steps ≡ 0)
+  pub at-once-64 : Accepted doubles ps work → (x : Float) (k : ℕ) → opened doubles e ps work .answer ≡ Done x k
+      → (k ≡ 0) × (runOf doubles e ps work bs .steps ≡ 0)
   at-once-64 G = run-at-once doubles-fit e ps work G bs
 
-  pub at-once-32 : Accepted singles ps work → (x : Float) (k : ℕ) → opened singles e ps work .answer ≡ Done x k → (k ≡ 0) × (runOf singles e ps work bs .steps ≡ 0)
+  pub at-once-32 : Accepted singles ps work → (x : Float) (k : ℕ) → opened singles e ps work .answer ≡ Done x k
+      → (k ≡ 0) × (runOf singles e ps work bs .steps ≡ 0)
   at-once-32 G = run-at-once singles-fit e ps work G bs
 
   pub left-64 : Accepted doubles ps work → (s : State) → runOf doubles e ps work bs .walk .answer ≡ More s → (cs : List ℕ)

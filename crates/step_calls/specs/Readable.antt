@@ -1,5 +1,5 @@
--- Numbers that can be read: what they are, and that a sound state's are such where its ensemble is one of 32 bits, since its rounds are few and its patterns are
--- finite doubles'. Assumes nothing.
+-- Numbers that can be read: what they are, and that a sound state's are such where its ensemble is one of 32 bits, since its rounds are few and its patterns
+-- are finite doubles'. Assumes nothing.
 use mathlib.Core.Path.{_≡_, sym, subst, _∙_}
 use mathlib.Core.Bool.{Bool, true, not}
 use mathlib.Core.Logic.{inl, inr}

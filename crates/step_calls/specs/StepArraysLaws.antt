@@ -66,7 +66,8 @@ module _ (numbers : List ℕ) (work : List Float) (e b : ℕ) where
     pub step-stranger : length work ≡ getD numbers 4 0 → (e ≡ getD numbers 7 0 → ⊥) → returned 21 work numbers ≡ stepArrays numbers work e b
     step-stranger h n = walk-refused 21 (step-refused (stateIn numbers) e b work 21 0 .1 (other-ensemble h n))
 
-    pub step-unreadable : length work ≡ getD numbers 4 0 → e ≡ getD numbers 7 0 → e < 2 ^ 32 → readable numbers ≡ false → returned 8 work numbers ≡ stepArrays numbers work e b
+    pub step-unreadable : length work ≡ getD numbers 4 0 → e ≡ getD numbers 7 0 → e < 2 ^ 32 → readable numbers ≡ false
+        → returned 8 work numbers ≡ stepArrays numbers work e b
     step-unreadable h m small r =
         walk-refused 8 (step-refused (stateIn numbers) e b work 8 0 .1 (unsound-numbers h m
         (λ N. let z : true ≡ false = sym (sound-readable numbers (omega arith) N) ∙ r in apart (cc))))

@@ -37,13 +37,15 @@ step-some (no-block l m s b) z = omega arith
 step-some (taken-before l m s b t) z = omega arith
 
 module _ (e : ℕ) (ps : List ℕ) (work : List Float) (numbers : List ℕ) where
-  pub open-coded : Coded walkNumbers (length numbers) (tooManyOr4 ps) (stepHeard doubles (opened doubles e ps work .answer)) (openArrays e ps work numbers .code)
+  pub open-coded : Coded walkNumbers (length numbers) (tooManyOr4 ps) (stepHeard doubles (opened doubles e ps work .answer))
+      (openArrays e ps work numbers .code)
   open-coded = coded walkNumbers (length numbers) (tooManyOr4 ps) (stepHeard doubles (opened doubles e ps work .answer))
       (λ l. ap codeIn (open-walked e ps work numbers l)) (λ l. ap codeIn (open-other e ps work numbers l))
       (λ p h. list-some (open-heard ps work e 0 p .0 h .1) refl) (list-nonzero ps)
 
 module _ (numbers : List ℕ) (work : List Float) (e b : ℕ) where
-  pub step-coded : Coded walkNumbers (length numbers) 4 (stepHeard doubles (stepped doubles (stateIn numbers) e b work .answer)) (stepArrays numbers work e b .code)
+  pub step-coded : Coded walkNumbers (length numbers) 4 (stepHeard doubles (stepped doubles (stateIn numbers) e b work .answer))
+      (stepArrays numbers work e b .code)
   step-coded = coded walkNumbers (length numbers) 4 (stepHeard doubles (stepped doubles (stateIn numbers) e b work .answer))
       (λ l. ap codeIn (step-walked numbers work e b l)) (λ l. ap codeIn (step-other numbers work e b l))
       (λ p h. step-some (step-heard (stateIn numbers) e b work 0 p .0 h .1) refl) (λ z. omega arith)

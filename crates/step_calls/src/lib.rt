@@ -8,7 +8,12 @@ mod numbers;
 
 // Opens the walk of a list, as `walk::open` does. The state is ten numbers.
 #[no_mangle]
-pub extern "C" fn kewohiata_walk_open(list: &[u64], work: &mut [f64], state: &mut [u64], ensemble: u32) -> u32
+pub extern "C" fn kewohiata_walk_open(
+    list: &[u64],
+    work: &mut [f64],
+    state: &mut [u64],
+    ensemble: u32,
+) -> u32
     ensures { λ r. ⌜ returned r (now (work .exit)) (now (state .exit)) ≡ openArrays ensemble (now (list .entry)) (now (work .entry)) (now (state .entry)) ⌝ }
 {
     if state.len() != NUMBERS {
@@ -19,14 +24,22 @@ pub extern "C" fn kewohiata_walk_open(list: &[u64], work: &mut [f64], state: &mu
 
 // Takes one block of a walk, as `walk::step` does. Of numbers that are no state's an eighth above 32 bits is another ensemble's; any other is 8, after 4 and 21.
 #[no_mangle]
-pub extern "C" fn kewohiata_walk_step(state: &mut [u64], work: &mut [f64], block: usize, ensemble: u32) -> u32
+pub extern "C" fn kewohiata_walk_step(
+    state: &mut [u64],
+    work: &mut [f64],
+    block: usize,
+    ensemble: u32,
+) -> u32
     ensures { λ r. ⌜ returned r (now (work .exit)) (now (state .exit)) ≡ stepArrays (now (state .entry)) (now (work .entry)) ensemble block ⌝ }
 {
     if state.len() != NUMBERS {
         return 4;
     }
     if numbers::readable(state) {
-        return numbers::told(walk::step(numbers::state(state), work, block, ensemble), state);
+        return numbers::told(
+            walk::step(numbers::state(state), work, block, ensemble),
+            state,
+        );
     }
     if work.len() != state[4] as usize {
         return 4;

@@ -35,7 +35,9 @@ returns-2 c =
 returns-3 : tie.Need-returns-3
 returns-3 c =
     let a = c .before .before .before .before .before .before .before .args in
-    sym (gated-8 doubles (a .s) (a .ensemble) (a .block) (a .work .now) (omega arith) (omega arith) (sym (c .before .numbers .ensures) ∙ not-true _ (c .if3 .taken)))
+    sym
+    (gated-8 doubles (a .s) (a .ensemble) (a .block) (a .work .now) (omega arith) (omega arith)
+    (sym (c .before .numbers .ensures) ∙ not-true _ (c .if3 .taken)))
 
 good : (c : tie.Else3) → soundNumbers doubles (c .before .before .before .before .before .before .before .args .s) ≡ true
 good c = sym (c .before .numbers .ensures) ∙ not-false _ (c .if3 .left)
@@ -52,7 +54,8 @@ returns-4 c =
     let g = c .before .before in
     let a = g .before .before .before .before .before .before .before .args in
     sym
-    (gated-18 doubles (a .s) (a .ensemble) (a .block) (a .work .now) (omega arith) (omega arith) (good g) (sym (c .before .pending .ensures) ∙ not-true _ (c .if4 .taken)))
+    (gated-18 doubles (a .s) (a .ensemble) (a .block) (a .work .now) (omega arith) (omega arith) (good g)
+    (sym (c .before .pending .ensures) ∙ not-true _ (c .if4 .taken)))
 
 -- ---- the work area
 limit-requires : tie.Need-limit-requires
@@ -89,7 +92,8 @@ returns-5 c =
     let a = g .before .before .before .before .before .before .before .args in
     rw (place p)
     (sym
-    (gated-19 doubles (a .s) (a .ensemble) (a .block) (a .work .now) (omega arith) (omega arith) (good g) (sym (h .before .pending .ensures) ∙ not-false _ (h .if4 .left))
+    (gated-19 doubles (a .s) (a .ensemble) (a .block) (a .work .now) (omega arith) (omega arith) (good g)
+    (sym (h .before .pending .ensures) ∙ not-false _ (h .if4 .left))
     (omega (arith, place p))))
 
 -- ---- a sound state: the block
@@ -110,7 +114,8 @@ blocks-requires : tie.Need-blocks-requires
 blocks-requires c κs = rw (c .of .ensures) (few (c .before))
 
 -- B
-count : (c : tie.After-blocks2) → let a = c .before .before .before .before .before .before .before .before .before .before .before .before .before .before .args in
+count : (c : tie.After-blocks2) →
+    let a = c .before .before .before .before .before .before .before .before .before .before .before .before .before .before .args in
     c .blocks2 .result ≡ blocksOf doubles (a .s .n)
 count c = c .blocks2 .ensures ∙ ap (blocksOf doubles) (c .before .of .ensures)
 

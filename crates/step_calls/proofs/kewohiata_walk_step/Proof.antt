@@ -40,7 +40,8 @@ returns-2 c =
     let after-if1 = after-if2 .before .before .before in
     let a = after-if1 .before .before .before .args in
     let walked = after-step .step .ensures ∙ ap (λ (s : State). stepped doubles s (a .ensemble) (a .block) (a .work .now)) (after-state .state .ensures) in
-    walk-returned (a .state .now) (after-told .told .ensures) walked ∙ sym (step-walked (a .state .now) (a .work .now) (a .ensemble) (a .block) (after-if1 .if1 .left))
+    walk-returned (a .state .now) (after-told .told .ensures) walked
+    ∙ sym (step-walked (a .state .now) (a .work .now) (a .ensemble) (a .block) (after-if1 .if1 .left))
 
 returns-3 : tie.Need-returns-3
 returns-3 c =
