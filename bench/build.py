@@ -1,6 +1,6 @@
 """Builds what bench/run times: the library's code for this machine, the walk in C by two compilers, and the driver.
 
-On x86-64 the library is the archive that `rt staticlib` makes. The kit compiles for x86-64 only; on another machine tests/native.py has its LLVM module
+On x86-64 the library is the archive that `rt staticlib` makes. The kit compiles for x86-64 only; on another machine tests/archive.py has its LLVM modules
 compiled by another back end, and the table says so."""
 import os
 import shutil

@@ -11,7 +11,8 @@
 enum { N = 200, OURS = 17, THEIRS = 18 }; /* two ensembles that an operator has open, by the numbers that the lab gives them */
 
 static uint64_t list[N];
-static double work[N], opened[N], other[N];
+static double work[N], opened[N], other[N], copy[N];
+static uint64_t first[KEWOHIATA_STATE]; /* the state that the opening gave out */
 
 /* Readings of some microseconds; two failing clocks, an enormous one and one in its shadow, join and leave. */
 static void fill(void)
@@ -40,7 +41,11 @@ static size_t next_block(const uint64_t *state, size_t blocks)
 static void told(const char *what, uint64_t *state, double *area, uint32_t ensemble)
 {
     uint32_t code = kewohiata_walk_step(state, KEWOHIATA_STATE, area, N, 0, ensemble);
-    printf("  %s: refusal %u", what, (unsigned)kewohiata_refusal(code));
+    printf("  %s: ", what);
+    if (code == KEWOHIATA_ACCEPTED)
+        printf("not noticed");
+    else
+        printf("refusal %u", (unsigned)kewohiata_refusal(code));
     if (kewohiata_tells_place(code))
         printf(" at place %u", (unsigned)kewohiata_place(code));
     printf("\n");
@@ -56,6 +61,10 @@ static void mixed_up(const uint64_t *state)
     told("our state in a step meant for the other ensemble", wrong, other, THEIRS);
     told("the other ensemble's work area", wrong, other, OURS);
     told("the work area as it was at the opening", wrong, opened, OURS);
+    memcpy(wrong, first, sizeof wrong); /* any older state of this walk is sound over the newer area: keep one state for each area */
+    memcpy(copy, work, sizeof copy);
+    told("the stale state of the opening, on copies of both", wrong, copy, OURS);
+    memcpy(wrong, state, sizeof wrong);
     wrong[KEWOHIATA_STATE_PENDING] = 1u << kewohiata_blocks(N);
     told("the pending set of a longer list", wrong, work, OURS);
     wrong[KEWOHIATA_STATE_SIGMA] += 1;
@@ -76,6 +85,7 @@ int main(void)
     uint32_t code = kewohiata_walk_open(list, N, work, N, state, KEWOHIATA_STATE, OURS);
     printf("opened: code %u, %u blocks\n", (unsigned)code, (unsigned)blocks);
     memcpy(opened, work, sizeof opened);
+    memcpy(first, state, sizeof first);
     while (code == KEWOHIATA_ACCEPTED && state[KEWOHIATA_STATE_KIND] == KEWOHIATA_MORE) {
         size_t block = next_block(state, blocks);
         code = kewohiata_walk_step(state, KEWOHIATA_STATE, work, N, block, OURS);
@@ -88,6 +98,7 @@ int main(void)
     }
     printf("by blocks: pattern %016llX, rounds %u, %u steps\n", (unsigned long long)state[KEWOHIATA_DONE_SUM], (unsigned)state[KEWOHIATA_DONE_ROUNDS],
            steps);
+    told("a step behind the finish", state, work, OURS);
     code |= kewohiata_walk_faithful(list, N, work, N, sum, KEWOHIATA_FAITHFUL);
     printf("undivided: pattern %016llX, rounds %u, code %u\n", (unsigned long long)sum[0], (unsigned)sum[1], (unsigned)code);
     return code != 0 || sum[0] != state[KEWOHIATA_DONE_SUM] || sum[1] != state[KEWOHIATA_DONE_ROUNDS];

@@ -173,11 +173,11 @@ uint32_t kewohiata_walk_open(const uint64_t *list, size_t list_length, double *w
 /* Takes one block (rule WB1). In a run from an opening any pending block may be the next; the step that takes the last one closes the round, and either ends
  * the walk (the state's first number is KEWOHIATA_DONE) or makes all blocks pending again. The sum and the rounds are those of kewohiata_walk_faithful in
  * any order.
- * state, work: as the opening or the last accepted step left them. Others are stepped too where they are sound, and no sum is promised of them: a state that
- * is some steps of its round older than the area can't be told from the right one. block: 0 to kewohiata_blocks(n) - 1. ensemble: the number given at the
- * opening (rule WS12).
- * Refusals: 4; 21; 8; 18; 19 of the lowest place at fault; 6; 7. Needs the environment above. Time: n at each step, since the whole work area is looked at, and as
- * much again where a round closes. */
+ * state, work: as the opening or the last accepted step left them. Others are stepped too where they are sound, and no sum is promised of them: every older
+ * state of the same walk is sound over a newer area, and gives a wrong sum. block: 0 to kewohiata_blocks(n) - 1. ensemble: the number given at the opening
+ * (rule WS12).
+ * Refusals: 4; 21; 8; 18; 19 of the lowest place at fault; 6; 7. Needs the environment above. Time: n at each step, since the whole work area is looked at, and
+ * as much again where a round closes. */
 uint32_t kewohiata_walk_step(uint64_t *state, size_t state_length, double *work, size_t work_length, size_t block, uint32_t ensemble);
 
 /* The faithful sum (rule S1): no double lies strictly between it and the exact sum, and where the exact sum is a double it is that one.

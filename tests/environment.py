@@ -59,7 +59,8 @@ NAMES = {
     "OTHER_ENSEMBLE": 21, "GRADE_EXACT": 0, "GRADE_NEAREST": 1, "GRADE_FAITHFUL": 2, "GRADE_WRONG": 3, "LIST_MOST": 4094,
     "LIST_BYTES_MOST": 32752, "BLOCK": 64, "STATE": 10, "FAITHFUL": 2, "VALUE": 1, "SUM_BYTES": 16, "WORDS": 33, "REGISTER_BYTES": 264, "PARTS_MOST": 8,
     "ROUNDS_MOST": 51, "SHEET_HEADER": 5, "SHEET_BYTES_MOST": 32757, "ACCEPTED": 0, "MORE": 1, "DONE": 2, "STATE_KIND": 0, "STATE_SIGMA": 1, "STATE_T": 2,
-    "STATE_TAU": 3, "STATE_N": 4, "STATE_PENDING": 5, "STATE_ROUNDS": 6, "STATE_ENSEMBLE": 7, "DONE_SUM": 1, "DONE_ROUNDS": 2, "VERSION_MAJOR": 0, "VERSION_MINOR": 9,
+    "STATE_TAU": 3, "STATE_N": 4, "STATE_PENDING": 5, "STATE_ROUNDS": 6, "STATE_ENSEMBLE": 7, "DONE_SUM": 1, "DONE_ROUNDS": 2, "VERSION_MAJOR": 0,
+    "VERSION_MINOR": 9,
     "VERSION_PATCH": 0,
 }  # fmt: skip
 
@@ -89,6 +90,7 @@ def uses():
         "kewohiata_refusal(34) == KEWOHIATA_NOT_FINITE && kewohiata_tells_place(34) && kewohiata_place(34) == 0",
         "kewohiata_refusal(131011) == KEWOHIATA_TOO_LARGE && kewohiata_place(131011) == 4093",
         "kewohiata_refusal(131022) == KEWOHIATA_NOT_A_WEIGHT && kewohiata_place(131022) == 4093",
+        "kewohiata_refusal(131027) == KEWOHIATA_UNSOUND_WORK && kewohiata_place(131027) == 4093",
         "kewohiata_blocks(0) == 0 && kewohiata_blocks(1) == 1 && kewohiata_blocks(64) == 1 && kewohiata_blocks(65) == 2 && kewohiata_blocks(4094) == 64",
         "kewohiata_environment()",
     ):

@@ -210,7 +210,8 @@ def state_refusals(chance):
                 yield stepped(BASE._replace(n=n, pending=pending), [SIGN] * m, pending - 1)[0]
 
 
-# of a state of 65 numbers: its own numbers, and one that isn't sound; sets, and two that aren't; places at fault, in the block taken before and in the other
+# of a state of 65 numbers: its own, and five times one that isn't sound; two sets, and three that aren't; places at fault, in the block taken before and in
+# the other
 NUMBERS = [{}, {"rounds": 51}, {"sigma": SIGMA + 1}, {"t": NAN}, {"tau": walk.CARRIED + 1}, {"rounds": 2**32}]
 SETS = [2, 3, 0, 4, ONES]
 PLACES = [[], [0], [63], [64], [0, 64], [5, 6, 63, 64], list(range(65))]
