@@ -87,8 +87,8 @@ enum kewohiata_states {
     KEWOHIATA_STATE_T = 2,
     KEWOHIATA_STATE_TAU = 3, /* these three are patterns */
     KEWOHIATA_STATE_N = 4,
-    KEWOHIATA_STATE_PENDING = 5, /* bit b is 1 while block b is to be taken in this round */
-    KEWOHIATA_STATE_ROUNDS = 6,  /* rounds closed */
+    KEWOHIATA_STATE_PENDING = 5,  /* bit b is 1 while block b is to be taken in this round */
+    KEWOHIATA_STATE_ROUNDS = 6,   /* rounds closed */
     KEWOHIATA_STATE_ENSEMBLE = 7, /* the number given at the opening */
     KEWOHIATA_DONE_SUM = 1,
     KEWOHIATA_DONE_ROUNDS = 2 /* of a finished walk: the sum's pattern and the rounds; the rest is 0 */
@@ -175,7 +175,7 @@ uint32_t kewohiata_walk_open(const uint64_t *list, size_t list_length, double *w
  * any order.
  * state, work: as the opening or the last accepted step left them. Others are stepped too where they are sound, and no sum is promised of them: every older
  * state of the same walk is sound over a newer area, and gives a wrong sum. block: 0 to kewohiata_blocks(n) - 1. ensemble: the number given at the opening
- * (rule WS12).
+ * (rule WS12). It tells a state of another ensemble; whose the work area is, nothing tells.
  * Refusals: 4; 21; 8; 18; 19 of the lowest place at fault; 6; 7. Needs the environment above. Time: n at each step, since the whole work area is looked at, and
  * as much again where a round closes. */
 uint32_t kewohiata_walk_step(uint64_t *state, size_t state_length, double *work, size_t work_length, size_t block, uint32_t ensemble);

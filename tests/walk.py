@@ -475,9 +475,8 @@ def numberless(answer):
 
 
 def both_steps(s, area, block, ensemble=None):
-    """By both walks, of which only one knows ensembles. A step names the state's own, unless it is told another."""
+    """A step in integers, held to the same in doubles, which know no ensembles. It names the state's own, unless it is told another."""
     named = s.ensemble if ensemble is None else ensemble
-    """A step in integers, held to the same in doubles."""
     other = Doubles(s, area)
     held, before = other.step(block) if named == s.ensemble or len(area) != s.n else ("refused", 21, 0), list(area)
     answer = step(s, area, block, named)

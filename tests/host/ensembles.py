@@ -2,7 +2,7 @@
 import itertools
 
 import walk
-from calls import SIZE, TEN, packed, started, step_of, total_of, undivided
+from calls import SIZE, TEN, VALUES, packed, started, step_of, total_of, undivided
 from exact import ONES
 from fixed import BASE, BASE_AREA, NANS, NUMBERS, PLACES, SETS
 from sequences import ORDERS, number, turn, unread
@@ -40,6 +40,10 @@ class Ensemble:
     def opened(self, chance):
         return started("kewohiata_walk_open", packed(self.patterns), chance.randbytes(SIZE * len(self.patterns)), chance.randbytes(SIZE * TEN), self.ensemble)
 
+    def undivided(self, chance):
+        data, n = packed(self.patterns), len(self.patterns)
+        return started("kewohiata_walk_faithful", data, chance.randbytes(SIZE * n), chance.randbytes(SIZE * VALUES["kewohiata_walk_faithful"]))
+
     def goes_on(self):
         return self.answer[0] == "more"
 
@@ -74,6 +78,7 @@ def side_by_side(chance, one, other):
     for walked in (one, other):
         assert (walked.answer, walked.area) == undivided(tuple(walked.patterns)), f"side by side: {walked.patterns}"
         assert walked.steps == walked.answer[2] * walk.blocks_of(len(walked.patterns)), f"{walked.steps} steps: {walked.patterns}"
+        yield walked.undivided(chance)
 
 
 def pair(chance, n, m):

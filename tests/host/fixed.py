@@ -218,7 +218,8 @@ PLACES = [[], [0], [63], [64], [0, 64], [5, 6, 63, 64], list(range(65))]
 
 
 def state_faults(chance):
-    """Each refusal of a step beside every later one: 4, 8, 18, 19 with the lowest of several places, 6, 7."""
+    """Of steps that name the state's own ensemble each refusal beside every later one: 4, 8, 18, 19 with the lowest of several places, 6, 7. The ensembles' file
+    has 21."""
     for n, numbers, pending, places in itertools.product((65, 66), NUMBERS, SETS, PLACES):
         area = list(BASE_AREA)
         for place in places:
@@ -253,7 +254,7 @@ def ended_states(chance):
     for total, rounds in ((0, 0), (ONE, 1), (SIGMA, 0), (1, 51), (SIGN | ONE, 2)):
         for m in (0, 1, 2, 65, LENGTH):
             for block in (0, 1, ONES):
-                yield step_of([2, total, rounds, *[0] * 7], [SIGN] * m, block, 0)[0]
+                yield from (step_of([2, total, rounds, *[0] * 7], [SIGN] * m, block, named)[0] for named in (0, 7))
     yield from (stepped(BASE, BASE_AREA, block, (2, 0, 0))[0] for block in (1, 0, 9))
 
 

@@ -30,7 +30,7 @@ faults =
     ∷ record { call = nearestSum (0x7FF0000000000000 ∷ 0x7E70000000000001 ∷ []); expected = outcome (refused 2 (at 0)) [] }
     ∷ record { call = nearestSum (0 ∷ 0xFFF8000000000000 ∷ 0x7E70000000000001 ∷ []); expected = outcome (refused 2 (at 1)) [] }
     ∷ record { call = nearestSum (0xFFF0000000000000 ∷ 0x7E70000000000001 ∷ []); expected = outcome (refused 2 (at 0)) [] }
-    -- rule O2: 4 before 21 and 8, 18 and 19; 21 before all that follow; 8 before 18 and 19; 18 before 19, 6 and 7; 19, at its lowest place, before 6 and 7
+    -- rule O2: 4 before 21, 8, 18 and 19; 21 before all that follow; 8 before 18 and 19; 18 before 19, 6 and 7; 19, at its lowest place, before 6 and 7
     ∷ record { call = step (numbered 4095 1) (replicate 4094 0) 7 0; expected = outcome (refused 4 nowhere) (replicate 4094 0) }
     ∷ record { call = step (numbered 2 0) (0x7FF0000000000000 ∷ []) 7 0; expected = outcome (refused 4 nowhere) (0x7FF0000000000000 ∷ []) }
     ∷ record { call = step (numbered 2 1) (0 ∷ []) 8 0; expected = outcome (refused 4 nowhere) (0 ∷ []) }

@@ -168,7 +168,7 @@ unfolding stepArrays W.steppedAfter W.taken R.turned R.fresh R.scaled R.finished
     magnitude negative nearestFloat ofBits toBits add sub mul le eq
 rounds-of-33-bits = refl
 
--- rule R21: an eighth number of 33 bits is another ensemble, whatever its lower 32 are
+-- rule R21: an eighth number of 33 bits is another ensemble, whatever its lower 32 are, and is told before rounds of 33 bits, which are 8
 abbrev elsewhere : List ℕ
 elsewhere = 1 ∷ 0x4660000000000000 ∷ 0 ∷ 0 ∷ 3 ∷ 1 ∷ 0x100000000 ∷ 0x100000007 ∷ 0 ∷ 0 ∷ []
 

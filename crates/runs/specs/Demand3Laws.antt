@@ -131,3 +131,9 @@ module _ {W : Width} (F : Fitting W) (e : ℕ) (ps : List ℕ) (work : List Floa
       let r : suc (W .rounds) ≡ suc (s .rounds) + k = omega (arith, g .rounds) in
       let m : suc (W .rounds) * B ≡ suc (s .rounds) * B + k * B = rw r (add-mul (suc (s .rounds)) k B) in
       omega (arith, run-bounded F e ps work G (bs ++ cs), rw (g .count) at (g .steps), m, suc-mul (s .rounds) B)
+
+-- rule DR5: two runs that have ended, under any two numbers and in any two orders, have the same sum, rounds and remainders
+module _ {W : Width} (F : Fitting W) (j k : ℕ) (ps : List ℕ) (work : List Float) (G : ListWhen W (eqb (length work) (length ps)) true ps Good) where
+  pub ends-alike : (bs cs : List ℕ) (x y : Float) (m n : ℕ) → runOf W j ps work bs .walk .answer ≡ Done x m → runOf W k ps work cs .walk .answer ≡ Done y n
+      → runOf W j ps work bs .walk ≡ runOf W k ps work cs .walk
+  ends-alike bs cs x y m n g h = run-finishes F j ps work G bs x m g .undivided ∙ sym (run-finishes F k ps work G cs y n h .undivided)

@@ -31,7 +31,7 @@ use Rattle.runs.specs.ZeroSum.{opened-minus, faithful-minus, faithful-on
 use Rattle.runs.specs.Runs.{runOf, inTurn, members}
 use Rattle.runs.specs.AnyRun.{any-run}
 use Rattle.runs.specs.Demand3.{Going, Finished}
-use Rattle.runs.specs.Demand3Laws.{run-goes, run-finishes, run-bounded, run-at-once, run-left}
+use Rattle.runs.specs.Demand3Laws.{run-goes, run-finishes, run-bounded, run-at-once, run-left, ends-alike}
 use Rattle.runs.specs.Reordering.{Summed}
 use Rattle.runs.specs.Reordered.{summed-close, summed-reordered, summed-rounds}
 
@@ -135,6 +135,17 @@ module _ (e : ℕ) (ps : List ℕ) (work : List Float) (bs : List ℕ) where
       → runOf singles e ps work (bs ++ cs) .steps
       ≤ runOf singles e ps work bs .steps + ((19 - s .rounds) * blocksOf singles (length ps) + members (s .pending) (blocksOf singles (length ps)))
   left-32 G = run-left singles-fit e ps work G bs
+
+-- ---- rule DR5: two runs that have ended, under any two numbers
+pub ends-alike-64 : (j k : ℕ) (ps : List ℕ) (work : List Float) → Accepted doubles ps work → (bs cs : List ℕ) (x y : Float) (m n : ℕ)
+    → runOf doubles j ps work bs .walk .answer ≡ Done x m → runOf doubles k ps work cs .walk .answer ≡ Done y n
+    → runOf doubles j ps work bs .walk ≡ runOf doubles k ps work cs .walk
+ends-alike-64 = ends-alike doubles-fit
+
+pub ends-alike-32 : (j k : ℕ) (ps : List ℕ) (work : List Float) → Accepted singles ps work → (bs cs : List ℕ) (x y : Float) (m n : ℕ)
+    → runOf singles j ps work bs .walk .answer ≡ Done x m → runOf singles k ps work cs .walk .answer ≡ Done y n
+    → runOf singles j ps work bs .walk ≡ runOf singles k ps work cs .walk
+ends-alike-32 = ends-alike singles-fit
 
 -- ---- rule S8, faithful sums in any order; rule S9, how far off they are
 module _ {ps qs : List ℕ} (π : Perm ps qs) {x y : Float} {j k : ℕ} {xs ys : List Float} where

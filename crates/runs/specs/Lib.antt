@@ -13,12 +13,12 @@ pub mod TakenLaws
 pub mod OneBlock
 pub mod Places
 pub mod Runs
-pub mod Numbered
 pub mod MembersLaws
 pub mod MidRound
 pub mod Conserved
 pub mod MidStep
 pub mod Reached
+pub mod Numbered
 pub mod OrderLaws
 pub mod AnyOrder
 pub mod Demand3

@@ -1,9 +1,10 @@
 -- Rule DR5: under any number a run of a list is the same run, with the same areas and steps, and its states are the same but for the number; so that every run
--- finishes as the undivided call does, which is given none. Assumes nothing.
+-- finishes as the undivided call does, which is given none; and steps that name another number are as if they had not been. Assumes nothing.
 use mathlib.Core.Path.{_≡_, refl, sym, ap, subst, _∙_}
-use mathlib.Core.Bool.{true}
+use mathlib.Core.Bool.{Bool, true, false, cond}
 use mathlib.Core.List.{List, [], _∷_, foldl}
 use Prim.Native.Nat.{ℕ}
+use borrow.Author.Tests.{eqb-true, eqb-false}
 use lib.Dec.{eqb}
 use lib.ListN.{length}
 use lib.Ieee.{Float}
@@ -14,11 +15,13 @@ use Rattle.kinds.specs.declared.Step.{Step}
 use Rattle.kinds.specs.declared.Step.the-variants.{More, Done, Refused}
 use Rattle.kinds.specs.declared.Verdict.the-variants.{Good}
 use Rattle.judge.specs.Table.{ListWhen}
+use Rattle.sound.specs.GateLaws.{gated-4, gated-21}
 use Rattle.rounds.specs.Fitting.{Fitting}
 use Rattle.walk.specs.Walk.{Walked, opened, stepped, undividedOf, faithfulOf}
 use Rattle.walk.specs.Ensembles.{under, walkUnder, Named, stepped-named, opened-named, stepped-under, opened-under, undivided-under}
-use Rattle.runs.specs.Runs.{Ran, heeded, tried, runOf}
+use Rattle.runs.specs.Runs.{Ran, heeded, tried, runOf, Asked, asked, own}
 use Rattle.runs.specs.Faithful.{faithful-promised}
+use Rattle.runs.specs.Reached.{tried-refused}
 
 -- the undivided walk of an accepted list ends, and so its number is nowhere to be seen
 pub undivided-same : {W : Width} (F : Fitting W) (k : ℕ) (ps : List ℕ) (work : List Float) → ListWhen W (eqb (length work) (length ps)) true ps Good
@@ -85,3 +88,39 @@ module _ (W : Width) (k j : ℕ) where
   runs-alike ps work bs =
       ap (λ (w : Walked). foldl (tried W k) (record { walk = w; steps = 0 }) bs) (opened-under W k j ps work)
       ∙ all-under bs (record { walk = opened W j ps work; steps = 0 }) (opened-named W j ps work)
+
+-- ---- steps that name another number than the opening was given
+stranger : (W : Width) (k j : ℕ) (r : Ran) (b : ℕ) → Named k (r .walk .answer) → (j ≡ k → ⊥) → tried W j r b ≡ r
+stranger W k j r b N n = by (r .walk .answer) (r .walk .area) (r .steps) N
+  where
+    by : (a : Step) (xs : List Float) (m : ℕ) → Named k a
+        → tried W j (record { walk = outcome a xs; steps = m }) b ≡ record { walk = outcome a xs; steps = m }
+    by (More s) xs m N = heard (eqb (length xs) (s .n)) refl
+      where
+        before : Ran
+        before = record { walk = outcome (More s) xs; steps = m }
+
+        heard : (c : Bool) → eqb (length xs) (s .n) ≡ c → tried W j before b ≡ before
+        heard true l = tried-refused W j before b s xs refl 21 0 (gated-21 W s j b xs (eqb-true (length xs) (s .n) l) (λ e. n (e ∙ N)))
+        heard false l = tried-refused W j before b s xs refl 4 0 (gated-4 W s j b xs (eqb-false (length xs) (s .n) l))
+    by (Done x l) xs m N = refl
+    by (Refused l p) xs m N = refl
+
+module _ (W : Width) (k : ℕ) where
+  between : (all : List Asked) (r : Ran) → Named k (r .walk .answer) → foldl (asked W) r all ≡ foldl (tried W k) r (own k all)
+  unfolding own
+  between [] r N = refl
+  between (a ∷ rest) r N = by (eqb (a .named) k) refl (λ q. between rest q)
+    where
+      by : (c : Bool) → eqb (a .named) k ≡ c → ((q : Ran) → Named k (q .walk .answer) → foldl (asked W) q rest ≡ foldl (tried W k) q (own k rest))
+          → foldl (asked W) (asked W r a) rest ≡ foldl (tried W k) r (cond c (a .block ∷ own k rest) (own k rest))
+      by true e on =
+          ap (λ (j : ℕ). foldl (asked W) (tried W j r (a .block)) rest) (eqb-true (a .named) k e)
+          ∙ on (tried W k r (a .block)) (tried-named W k k r (a .block) N)
+      by false e on =
+          ap (λ (q : Ran). foldl (asked W) q rest) (stranger W k (a .named) r (a .block) N (eqb-false (a .named) k e)) ∙ on r N
+
+  -- of any list, a run with such steps anywhere in it is the run without them
+  pub strangers-between : (ps : List ℕ) (work : List Float) (all : List Asked)
+      → foldl (asked W) (record { walk = opened W k ps work; steps = 0 }) all ≡ runOf W k ps work (own k all)
+  strangers-between ps work all = between all (record { walk = opened W k ps work; steps = 0 }) (opened-named W k ps work)

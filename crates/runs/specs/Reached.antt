@@ -58,7 +58,7 @@ tried-refused W k r b s xs w l p g =
 
 module _ (W : Width) (F : Fitting W) (k : ℕ) (ps : List ℕ) (work : List Float) where
   -- in a round of the walk over the list: the state that opened it and the area then, whose numbers sum to S, what of it was taken since, and that what
-  -- follows from its opening is the undivided call
+  -- follows from its opening is the undivided walk under k
   pub record During (r : Ran) : Type 0 where
     pub e : ℕ
     pub first : State
@@ -74,7 +74,7 @@ module _ (W : Width) (F : Fitting W) (k : ℕ) (ps : List ℕ) (work : List Floa
     pub steps : r .steps + members pending (blocksOf W (first .n)) ≡ first .rounds * blocksOf W (first .n) + blocksOf W (first .n)
     pub rest : roundsFrom W (blocksOf W (length ps)) (suc (W .rounds) - first .rounds) (outcome (More first) xs) ≡ undividedOf W k ps work
 
-  -- ended, as the undivided call does
+  -- ended, as the undivided walk under k does
   pub record Over (r : Ran) : Type 0 where
     pub sum : Float
     pub rounds : ℕ

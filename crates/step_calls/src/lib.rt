@@ -22,7 +22,8 @@ pub extern "C" fn kewohiata_walk_open(
     numbers::told(walk::open(list, work, ensemble), state)
 }
 
-// Takes one block of a walk, as `walk::step` does. Of numbers that are no state's an eighth above 32 bits is another ensemble's; any other is 8, after 4 and 21.
+// Takes one block of a walk, as `walk::step` does. Numbers that are no state's are refused in the same order: 4; 21 where the eighth isn't the number named, as
+// none above 32 bits is; else 8.
 #[no_mangle]
 pub extern "C" fn kewohiata_walk_step(
     state: &mut [u64],

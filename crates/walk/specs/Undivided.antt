@@ -1,5 +1,5 @@
--- The undivided call from its opening: a state that an opening answers opens a round of a run, and any other answer is the walk's. (That every walk ends is
--- Run.run-finishes.) Assumes nothing.
+-- The undivided walk from its opening, under any number: a state that an opening answers opens a round of a run, and any other answer is the walk's. (That
+-- every walk ends is Run.run-finishes.) Assumes nothing.
 use mathlib.Core.Path.{_≡_, refl, sym, ap, _∙_, subst}
 use mathlib.Core.Bool.{Bool, true, false, cond}
 use mathlib.Core.List.{List}
