@@ -37,7 +37,7 @@ double nearest(const struct list *l) { return sum_in_values(kewohiata_list_neare
 /* what the undivided call begins with; its sigma is answered */
 double opening(const struct list *l)
 {
-    kewohiata_walk_open(l->patterns, l->n, work, l->n, values, STATE);
+    kewohiata_walk_open(l->patterns, l->n, work, l->n, values, STATE, 0);
     return kewohiata_double(values[KEWOHIATA_STATE_SIGMA]);
 }
 
@@ -45,9 +45,9 @@ double opening(const struct list *l)
 double by_blocks(const struct list *l)
 {
     size_t last = (l->n + 63) / 64 - 1, block = 0;
-    uint32_t code = kewohiata_walk_open(l->patterns, l->n, work, l->n, values, STATE);
+    uint32_t code = kewohiata_walk_open(l->patterns, l->n, work, l->n, values, STATE, 0);
     while (code == 0 && values[KEWOHIATA_STATE_KIND] == KEWOHIATA_MORE) {
-        code = kewohiata_walk_step(values, STATE, work, l->n, block);
+        code = kewohiata_walk_step(values, STATE, work, l->n, block, 0);
         block = block == last ? 0 : block + 1;
     }
     return kewohiata_double(code == 0 ? values[KEWOHIATA_DONE_SUM] : UINT64_MAX);

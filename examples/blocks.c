@@ -8,7 +8,7 @@
 #include <stdio.h>
 #include <string.h>
 
-enum { N = 200 };
+enum { N = 200, OURS = 17, THEIRS = 18 }; /* two ensembles that an operator has open, by the numbers that the lab gives them */
 
 static uint64_t list[N];
 static double work[N], opened[N], other[N], copy[N];
@@ -38,9 +38,9 @@ static size_t next_block(const uint64_t *state, size_t blocks)
 }
 
 /* A step that is refused changes neither the state nor the area, so that the walk can go on with the right ones. */
-static void told(const char *what, uint64_t *state, double *area)
+static void told(const char *what, uint64_t *state, double *area, uint32_t ensemble)
 {
-    uint32_t code = kewohiata_walk_step(state, KEWOHIATA_STATE, area, N, 0);
+    uint32_t code = kewohiata_walk_step(state, KEWOHIATA_STATE, area, N, 0, ensemble);
     printf("  %s: ", what);
     if (code == KEWOHIATA_ACCEPTED)
         printf("not noticed");
@@ -58,16 +58,17 @@ static void mixed_up(const uint64_t *state)
     memcpy(wrong, state, sizeof wrong);
     for (int i = 0; i < N; i++)
         other[i] = 1.0 + i;
-    told("another ensemble's work area", wrong, other);
-    told("the work area as it was at the opening", wrong, opened);
+    told("our state in a step meant for the other ensemble", wrong, other, THEIRS);
+    told("the other ensemble's work area", wrong, other, OURS);
+    told("the work area as it was at the opening", wrong, opened, OURS);
     memcpy(wrong, first, sizeof wrong); /* any older state of this walk is sound over the newer area: keep one state for each area */
     memcpy(copy, work, sizeof copy);
-    told("the stale state of the opening, on copies of both", wrong, copy);
+    told("the stale state of the opening, on copies of both", wrong, copy, OURS);
     memcpy(wrong, state, sizeof wrong);
     wrong[KEWOHIATA_STATE_PENDING] = 1u << kewohiata_blocks(N);
-    told("the pending set of a longer list", wrong, work);
+    told("the pending set of a longer list", wrong, work, OURS);
     wrong[KEWOHIATA_STATE_SIGMA] += 1;
-    told("a bit of sigma turned over, besides", wrong, work);
+    told("a bit of sigma turned over, besides", wrong, work, OURS);
 }
 
 int main(void)
@@ -81,23 +82,23 @@ int main(void)
         return 1;
     }
     fill();
-    uint32_t code = kewohiata_walk_open(list, N, work, N, state, KEWOHIATA_STATE);
+    uint32_t code = kewohiata_walk_open(list, N, work, N, state, KEWOHIATA_STATE, OURS);
     printf("opened: code %u, %u blocks\n", (unsigned)code, (unsigned)blocks);
     memcpy(opened, work, sizeof opened);
     memcpy(first, state, sizeof first);
     while (code == KEWOHIATA_ACCEPTED && state[KEWOHIATA_STATE_KIND] == KEWOHIATA_MORE) {
         size_t block = next_block(state, blocks);
-        code = kewohiata_walk_step(state, KEWOHIATA_STATE, work, N, block);
+        code = kewohiata_walk_step(state, KEWOHIATA_STATE, work, N, block, OURS);
         printf("block %u: code %u\n", (unsigned)block, (unsigned)code);
         steps++;
         if (steps == 2) /* a block twice in a round is refused, and nothing changes */
-            printf("the same again: refusal %u\n", (unsigned)kewohiata_refusal(kewohiata_walk_step(state, KEWOHIATA_STATE, work, N, block)));
+            printf("the same again: refusal %u\n", (unsigned)kewohiata_refusal(kewohiata_walk_step(state, KEWOHIATA_STATE, work, N, block, OURS)));
         if (steps == blocks)
             mixed_up(state);
     }
     printf("by blocks: pattern %016llX, rounds %u, %u steps\n", (unsigned long long)state[KEWOHIATA_DONE_SUM], (unsigned)state[KEWOHIATA_DONE_ROUNDS],
            steps);
-    told("a step behind the finish", state, work);
+    told("a step behind the finish", state, work, OURS);
     code |= kewohiata_walk_faithful(list, N, work, N, sum, KEWOHIATA_FAITHFUL);
     printf("undivided: pattern %016llX, rounds %u, code %u\n", (unsigned long long)sum[0], (unsigned)sum[1], (unsigned)code);
     return code != 0 || sum[0] != state[KEWOHIATA_DONE_SUM] || sum[1] != state[KEWOHIATA_DONE_ROUNDS];

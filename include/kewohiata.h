@@ -34,10 +34,10 @@ extern "C" {
 #endif
 
 /* Below 1.0.0 calls may be added, and their forms and answers may still change; the second number tells it. */
-#define KEWOHIATA_VERSION "0.8.0"
-enum { KEWOHIATA_VERSION_MAJOR = 0, KEWOHIATA_VERSION_MINOR = 8, KEWOHIATA_VERSION_PATCH = 0 };
+#define KEWOHIATA_VERSION "0.9.0"
+enum { KEWOHIATA_VERSION_MAJOR = 0, KEWOHIATA_VERSION_MINOR = 9, KEWOHIATA_VERSION_PATCH = 0 };
 
-/* The refusals, rules R1 to R20. A code has room for numbers up to 31; those above 20 are kept for later ones. */
+/* The refusals, rules R1 to R21. A code has room for numbers up to 31; those above 21 are kept for later ones. */
 enum kewohiata_refusals {
     KEWOHIATA_ACCEPTED = 0,
     KEWOHIATA_TOO_MANY = 1,          /* more than 4,094 numbers */
@@ -59,7 +59,8 @@ enum kewohiata_refusals {
     KEWOHIATA_NO_OTHER_WEIGHT = 17,  /* all weights but the leaver's are zero */
     KEWOHIATA_UNSOUND_SET = 18,      /* the state's pending set is empty, or has a block that the list hasn't */
     KEWOHIATA_UNSOUND_WORK = 19,     /* a work number that isn't finite, or too large for the state's sigma; its place is told, the lowest */
-    KEWOHIATA_CLAIM_NOT_FINITE = 20  /* the claim is a NaN or infinity */
+    KEWOHIATA_CLAIM_NOT_FINITE = 20, /* the claim is a NaN or infinity */
+    KEWOHIATA_OTHER_ENSEMBLE = 21    /* the state is of another ensemble than the step names */
 };
 
 /* The lengths. */
@@ -80,15 +81,16 @@ enum kewohiata_lengths {
     KEWOHIATA_SHEET_BYTES_MOST = 32757  /* bytes of a sheet, at most */
 };
 
-/* What a state's numbers are, by their places. The last three are kept for later requests, and 0. */
+/* What a state's numbers are, by their places. The last two are kept for later requests, and 0. */
 enum kewohiata_states {
     KEWOHIATA_STATE_KIND = 0, /* KEWOHIATA_MORE or KEWOHIATA_DONE */
     KEWOHIATA_STATE_SIGMA = 1,
     KEWOHIATA_STATE_T = 2,
     KEWOHIATA_STATE_TAU = 3, /* these three are patterns */
     KEWOHIATA_STATE_N = 4,
-    KEWOHIATA_STATE_PENDING = 5, /* bit b is 1 while block b is to be taken in this round */
-    KEWOHIATA_STATE_ROUNDS = 6,  /* rounds closed */
+    KEWOHIATA_STATE_PENDING = 5,  /* bit b is 1 while block b is to be taken in this round */
+    KEWOHIATA_STATE_ROUNDS = 6,   /* rounds closed */
+    KEWOHIATA_STATE_ENSEMBLE = 7, /* the number given at the opening */
     KEWOHIATA_DONE_SUM = 1,
     KEWOHIATA_DONE_ROUNDS = 2 /* of a finished walk: the sum's pattern and the rounds; the rest is 0 */
 };
@@ -175,18 +177,20 @@ static inline int kewohiata_environment(void)
 
 /* Opens a walk by blocks (rules WO1 and C11): the list's numbers go to `work`, and the first state to `state`; or, where every number is zero, the finished
  * sum, which is rule S3's zero.
- * work: n doubles. state: 10 numbers, all of which are written.
+ * work: n doubles. state: 10 numbers, all of which are written. ensemble: any number that the caller knows these clocks by; every state of the walk has it.
  * Refusals: 1; 4; 2 or 3 of the lowest bad place. Needs the environment above. */
-uint32_t kewohiata_walk_open(const uint64_t *list, size_t list_length, double *work, size_t work_length, uint64_t *state, size_t state_length);
+uint32_t kewohiata_walk_open(const uint64_t *list, size_t list_length, double *work, size_t work_length, uint64_t *state, size_t state_length,
+                             uint32_t ensemble);
 
 /* Takes one block (rule WB1). In a run from an opening any pending block may be the next; the step that takes the last one closes the round, and either ends
  * the walk (the state's first number is KEWOHIATA_DONE) or makes all blocks pending again. The sum and the rounds are those of kewohiata_walk_faithful in
  * any order.
  * state, work: as the opening or the last accepted step left them. Others are stepped too where they are sound, and no sum is promised of them: every older
- * state of the same walk is sound over a newer area, and gives a wrong sum. block: 0 to kewohiata_blocks(n) - 1.
- * Refusals: 4; 8; 18; 19 of the lowest place at fault; 6; 7. Needs the environment above. Time: n at each step, since the whole work area is looked at, and as
- * much again where a round closes. */
-uint32_t kewohiata_walk_step(uint64_t *state, size_t state_length, double *work, size_t work_length, size_t block);
+ * state of the same walk is sound over a newer area, and gives a wrong sum. block: 0 to kewohiata_blocks(n) - 1. ensemble: the number given at the opening
+ * (rule WS12). It tells a state of another ensemble; whose the work area is, nothing tells.
+ * Refusals: 4; 21; 8; 18; 19 of the lowest place at fault; 6; 7. Needs the environment above. Time: n at each step, since the whole work area is looked at, and
+ * as much again where a round closes. */
+uint32_t kewohiata_walk_step(uint64_t *state, size_t state_length, double *work, size_t work_length, size_t block, uint32_t ensemble);
 
 /* The faithful sum (rule S1): no double lies strictly between it and the exact sum, and where the exact sum is a double it is that one.
  * work: n doubles, which hold remainders afterwards. out: 2 numbers, the sum's pattern and the rounds, 0 to 51.

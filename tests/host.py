@@ -32,6 +32,7 @@ import built  # noqa: E402
 import calls  # noqa: E402
 import claims  # noqa: E402
 import drawn  # noqa: E402
+import ensembles  # noqa: E402
 import farewells  # noqa: E402
 import fixed  # noqa: E402
 import kit  # noqa: E402
@@ -41,7 +42,7 @@ import shuffles  # noqa: E402
 import writings  # noqa: E402
 
 PLACE = os.path.join(ROOT, "target", "host")
-OTHERS = claims, farewells, merges, rescues, shuffles, writings
+OTHERS = claims, ensembles, farewells, merges, rescues, shuffles, writings
 FIXED = fixed.GROUPS + [group for other in OTHERS for group in other.FIXED]
 DRAWN = drawn.GROUPS + [group for other in OTHERS for group in other.DRAWN]
 LISTS = 20000
@@ -57,7 +58,7 @@ REFUSALS = {
     "kewohiata_register_add": ENTRIES,
     "kewohiata_register_withdraw": ENTRIES,
     "kewohiata_walk_open": SUMS,
-    "kewohiata_walk_step": {0, 4, 6, 7, 8, 18, 19},
+    "kewohiata_walk_step": {0, 4, 6, 7, 8, 18, 19, 21},
     "kewohiata_walk_faithful": SUMS,
     "kewohiata_list_nearest": SUMS,
     "kewohiata_list_parts": SUMS | {5},

@@ -23,7 +23,7 @@ SIGN, INFINITY, ONE = 1 << 63, 0x7FF << 52, 0x3FF << 52
 LEAST_NORMAL = 1 << 52  # 2^-1022 in units
 UNSOUND = (8, 18, 19)  # the refusals of a state that isn't sound
 
-State = collections.namedtuple("State", "sigma t tau n pending rounds")
+State = collections.namedtuple("State", "sigma t tau n pending rounds ensemble", defaults=[0])
 
 
 # ---- doubles as whole units
@@ -100,9 +100,9 @@ def sigma_of(area):
     return 1 << exponent_of(len(area)) + (units(largest(area)) - 1).bit_length()
 
 
-def round_of(n, sigma, t, rounds):
+def round_of(n, sigma, t, rounds, ensemble=0):
     """A new round: tau = +0 and all blocks pending."""
-    return State(pattern_of(sigma), pattern_of(t), 0, n, (1 << blocks_of(n)) - 1, rounds)
+    return State(pattern_of(sigma), pattern_of(t), 0, n, (1 << blocks_of(n)) - 1, rounds, ensemble)
 
 
 def refusal(patterns, area):
@@ -116,14 +116,14 @@ def refusal(patterns, area):
     return None
 
 
-def opening(patterns, area):
+def opening(patterns, area, ensemble=0):
     refused = refusal(patterns, area)
     if refused:
         return refused
     area[:] = patterns
     if not largest(area):
         return "done", pattern_of(functools.reduce(add, map(units, area)) if area else 0), 0  # rule S3: as IEEE 754 adds zeros, from the first on
-    return "more", round_of(len(area), sigma_of(area), 0, 0)
+    return "more", round_of(len(area), sigma_of(area), 0, 0, ensemble)
 
 
 def plus_opening(patterns, area):
@@ -168,10 +168,12 @@ def unsound(s, area):
     return (19, [p % SIGN <= most for p in area].index(False)) if largest(area) > most else None
 
 
-def step(s, area, block):
-    """Refusals in the order 4, 8, 18, 19, 6, 7."""
+def step(s, area, block, ensemble):
+    """Refusals in the order 4, 21, 8, 18, 19, 6, 7."""
     if len(area) != s.n:
         return "refused", 4, 0
+    if ensemble != s.ensemble:
+        return "refused", 21, 0
     fault = unsound(s, area)
     if fault:
         return "refused", *fault
@@ -196,13 +198,13 @@ def close(s, area):
     if total == 0 and not largest(area):
         return "done", 0, rounds
     if total == 0:
-        return "more", round_of(s.n, sigma_of(area), 0, rounds)
+        return "more", round_of(s.n, sigma_of(area), 0, rounds, s.ensemble)
     if sigma <= LEAST_NORMAL or abs(total) << 53 >= sigma << 2 * m + 1:
         rest = 0
         for p in area:
             rest = add(rest, units(p))
         return "done", pattern_of(add(total, add(sub(tau, sub(total, t)), rest))), rounds
-    return "more", round_of(s.n, (sigma << m) >> 53, total, rounds)
+    return "more", round_of(s.n, (sigma << m) >> 53, total, rounds, s.ensemble)
 
 
 # orders: of the pending blocks, which is next; a turn is any number of 64 bits
@@ -220,11 +222,11 @@ def seeded(pending, turn):
     return start + rising(pending >> start, turn) if pending >> start else rising(pending, turn)
 
 
-def run(patterns, area, order=rising, turns=itertools.repeat(0)):
+def run(patterns, area, order=rising, turns=itertools.repeat(0), ensemble=0):
     """The walk block by block to its end: the answer, and how many steps there were."""
-    answer, steps = opening(patterns, area), 0
+    answer, steps = opening(patterns, area, ensemble), 0
     while answer[0] == "more":
-        answer = step(answer[1], area, order(answer[1].pending, next(turns)))
+        answer = step(answer[1], area, order(answer[1].pending, next(turns)), ensemble)
         steps += 1
     return answer, steps
 
@@ -244,7 +246,7 @@ def bits(x):
 
 
 class Doubles:
-    """A state and its work area, with no integer in the arithmetic."""
+    """A state and its work area, with no integer in the arithmetic. Of ensembles it knows nothing, as the base's walk: its states are of number 0."""
 
     def __init__(self, s, area):
         self.sigma, self.t, self.tau, self.n, self.pending, self.rounds = double(s.sigma), double(s.t), double(s.tau), s.n, s.pending, s.rounds
@@ -352,7 +354,7 @@ def conserved(patterns, area, chance):
         s = answer[1]
         expect("sound", sound(s, area), patterns)
         expect("conserved", units(s.t) + units(s.tau) + sum(map(units, area)) == total and s.tau != SIGN, patterns)
-        answer = step(s, area, seeded(s.pending, chance.getrandbits(64)))
+        answer = step(s, area, seeded(s.pending, chance.getrandbits(64)), s.ensemble)
     return answer
 
 
@@ -371,7 +373,7 @@ def check_list(patterns, chance):
     expect("rounds", steps == rounds * blocks_of(n) and rounds <= 1 + -(-(2022 + m) // (53 - m)), patterns, answer)
     for order in (falling, seeded):
         other = [0] * n
-        expect("order", run(patterns, other, order, turns_of(chance)) == (answer, steps) and other == area, patterns, order)
+        expect("order", run(patterns, other, order, turns_of(chance), chance.getrandbits(32)) == (answer, steps) and other == area, patterns, order)
     if n <= 200:
         other = [0] * n
         expect("order", conserved(patterns, other, chance) == answer and other == area, patterns)
@@ -467,16 +469,24 @@ def check_witnesses(chance):
     expect("B = 64", opening([ONE] * 4094, [0] * 4094)[1].pending == 2**64 - 1)
 
 
-def both_steps(s, area, block):
-    """A step in integers, held to the same in doubles."""
+def numberless(answer):
+    """An answer as the base's walk gives it."""
+    return ("more", answer[1]._replace(ensemble=0)) if answer[0] == "more" else answer
+
+
+def both_steps(s, area, block, ensemble=None):
+    """A step in integers, held to the same in doubles, which know no ensembles. It names the state's own, unless it is told another."""
+    named = s.ensemble if ensemble is None else ensemble
     other = Doubles(s, area)
-    held, before = other.step(block), list(area)
-    answer = step(s, area, block)
+    held, before = other.step(block) if named == s.ensemble or len(area) != s.n else ("refused", 21, 0), list(area)
+    answer = step(s, area, block, named)
     COUNTS["steps"] += 1
     COUNTS["step", answer[0] if answer[0] != "refused" else answer[1]] += 1
-    expect("step", held == answer and other.patterns() == area, s, block, answer, held)
+    expect("step", held == numberless(answer) and other.patterns() == area, s, block, answer, held)
     expect("refusal writes nothing", answer[0] != "refused" or before == area, s, block)
-    expect("8, 18 and 19", (answer[0] == "refused" and answer[1] in UNSOUND) == (len(before) == s.n and not sound(s, before)), s, block, answer)
+    right = len(before) == s.n and named == s.ensemble
+    expect("8, 18 and 19", (answer[0] == "refused" and answer[1] in UNSOUND) == (right and not sound(s, before)), s, block, answer)
+    expect("ensemble", answer[0] != "more" or answer[1].ensemble == s.ensemble, s, block, answer)
     return answer
 
 
@@ -491,7 +501,7 @@ def foreign(chance):
     t, tau = signed(chance, chance.choice(near)), signed(chance, chance.choice(near))
     if chance.random() < 0.2:
         tau = t ^ SIGN
-    return State(pattern_of(1 << k + m), t, tau, n, chance.randint(1, (1 << blocks_of(n)) - 1), chance.choice([0, 3, 49, 50])), area
+    return State(pattern_of(1 << k + m), t, tau, n, chance.randint(1, (1 << blocks_of(n)) - 1), chance.choice([0, 3, 49, 50]), chance.getrandbits(32)), area
 
 
 def check_foreign(chance):
@@ -503,6 +513,8 @@ def check_foreign(chance):
             if answer[0] == "done" or answer[0] == "refused" and answer[1] in UNSOUND:
                 break
             s = answer[1] if answer[0] == "more" else s
+        named = s.ensemble ^ 1 << chance.randrange(32)
+        expect("another ensemble", both_steps(s, area, chance.randint(0, 66), named) == ("refused", 21, 0), s, named)
 
 
 def check_foreign_witnesses():

@@ -46,8 +46,9 @@ VALUES = {"kewohiata_walk_open": TEN, "kewohiata_walk_faithful": 2}  # numbers t
 # Before and behind each array, where no call may write. Those of bytes begin at no multiple of 8.
 BESIDE = {"B": b"\xA5" * 9, "Q": b"\xA5" * 4 * SIZE, "d": b"\xA5" * 4 * SIZE}
 
-# What is asked (arrays and number), what must come back (code and arrays), and of a faithful sum where it stands (array, place in bytes) and the exact sum.
-Request = collections.namedtuple("Request", "call arrays number code after sum")
+# What is asked (arrays and number), what must come back (code and arrays), and of a faithful sum where it stands (array, place in bytes) and the exact sum; of
+# an opening or a step the ensemble that it names.
+Request = collections.namedtuple("Request", "call arrays number code after sum ensemble", defaults=[0])
 
 
 # ---- numbers in bytes
@@ -79,7 +80,7 @@ def wire(request):
     sizes, whole = [struct.calcsize(of) for of in CALLS[request.call]], laid(request.call, request.arrays)
     at = [len(BESIDE[of]) // size for of, size in zip(CALLS[request.call], sizes)]
     lengths = [len(array) // size for array, size in zip(request.arrays, sizes)]
-    head = [NUMBERS[request.call], request.number, *padded(at), *padded(lengths), *padded(map(len, whole))]
+    head = [NUMBERS[request.call], request.number, request.ensemble, *padded(at), *padded(lengths), *padded(map(len, whole))]
     return packed(head) + b"".join(whole)
 
 
@@ -149,18 +150,18 @@ def difference(request, answer):
 
 def shown(request):
     """The inputs, in full."""
-    lines = [f"  {request.call} number {request.number:016X}"]
+    lines = [f"  {request.call} number {request.number:016X}, ensemble {request.ensemble:08X}"]
     return "\n".join(lines + [f"  array {k}, {len(array)} bytes: {array.hex().upper()}" for k, array in enumerate(request.arrays)])
 
 
 # ---- a request by its model
-def asked(call, arrays, model, number=0):
+def asked(call, arrays, model, number=0, ensemble=0):
     """The model answers the arrays afterwards, and of a faithful sum where it stands; or it refuses, and every array stays."""
     try:
         after, found = model()
     except Refused as refusal:
-        return Request(call, arrays, number, heard(*refusal.args), arrays, None)
-    return Request(call, arrays, number, 0, after, found)
+        return Request(call, arrays, number, heard(*refusal.args), arrays, None, ensemble)
+    return Request(call, arrays, number, 0, after, found, ensemble)
 
 
 def accepted(answer):
@@ -237,39 +238,39 @@ def parted(data, area, out):
 
 # ---- the walk
 def ten(answer):
-    """A walk in ten numbers: 1, the state's six and three zeros; or 2, the sum's pattern, the rounds and zeros."""
+    """A walk in ten numbers: 1, the state's seven and two zeros; or 2, the sum's pattern, the rounds and zeros."""
     return packed(([1, *answer[1]] if answer[0] == "more" else [2, *answer[1:]]) + [0] * TEN)[: SIZE * TEN]
 
 
-def started(call, data, work, values):
-    """An opening, or the undivided call."""
+def started(call, data, work, values, ensemble=0):
+    """An opening, for an ensemble, or the undivided call."""
     def model():
         array_lengths(data, len(work) == len(data) and len(values) == SIZE * VALUES[call])
         patterns = tuple(unpacked(data))
         if call == "kewohiata_walk_open":
             area = unpacked(work)
-            answer = accepted(walk.opening(patterns, area))
+            answer = accepted(walk.opening(patterns, area, ensemble))
             return [data, packed(area), ten(answer)], (2, SIZE, total_of(patterns)) if answer[0] == "done" else None
         answer, area = undivided(patterns)
         return [data, packed(area), packed(accepted(answer)[1:])], (2, 0, total_of(patterns))
 
-    return asked(call, [data, work, values], model)
+    return asked(call, [data, work, values], model, ensemble=ensemble)
 
 
-def step_of(numbers, area, block, total=None):
+def step_of(numbers, area, block, ensemble, total=None):
     """A step on a state's numbers, however many; the model's answer, and the area afterwards. The exact sum is given where the step is one of a walk."""
     arrays, after = [packed(numbers), packed(area)], list(area)
-    answer = walk.step(walk.State(*numbers[1:7]), after, block) if len(numbers) == TEN else ("refused", 4, 0)
+    answer = walk.step(walk.State(*numbers[1:8]), after, block, ensemble) if len(numbers) == TEN else ("refused", 4, 0)
 
     def model():
         return [ten(accepted(answer)), packed(after)], (0, SIZE, total) if answer[0] == "done" and total is not None else None
 
-    return asked("kewohiata_walk_step", arrays, model, block), answer, after
+    return asked("kewohiata_walk_step", arrays, model, block, ensemble), answer, after
 
 
-def stepped(s, area, block, unread=(1, 0, 0, 0), total=None):
-    """The same on a state, with its first number and its last three, which are of no effect."""
-    return step_of([unread[0], *s, *unread[1:]], area, block, total)
+def stepped(s, area, block, unread=(1, 0, 0), total=None):
+    """The same on a state, for its own ensemble, with its first number and its last two, which are of no effect."""
+    return step_of([unread[0], *s, *unread[1:]], area, block, s.ensemble, total)
 
 
 # ---- registers

@@ -1,16 +1,16 @@
 /* Takes calls on standard input and writes their answers, for tests/host.py.
 
-   A request is fourteen 64-bit numbers (which call, its number where it has one, and of up to four arrays at which element it begins, how many elements are
-   lent, and how many bytes follow for it) and then those bytes: each array with guards before and behind it. An answer is the call's code in 64 bits and all
-   of the bytes as they are afterwards: arrays that a call only reads, and the guards, too. There are no headers of a C library here, and nothing but read and
-   write is used of it. */
+   A request is fifteen 64-bit numbers (which call, its number where it has one, the ensemble where it names one, and of up to four arrays at which element it
+   begins, how many elements are lent, and how many bytes follow for it) and then those bytes: each array with guards before and behind it. An answer is the
+   call's code in 64 bits and all of the bytes as they are afterwards: arrays that a call only reads, and the guards, too. There are no headers of a C library
+   here, and nothing but read and write is used of it. */
 #include "kewohiata.h"
 #include "pipe.h"
 
 enum { ARRAYS = 4, LIMIT = 1 << 18 };
 
 struct request {
-    uint64_t call, number, at[ARRAYS], length[ARRAYS], size[ARRAYS];
+    uint64_t call, number, ensemble, at[ARRAYS], length[ARRAYS], size[ARRAYS];
 };
 
 /* An array is lent as what the call takes. */
@@ -29,8 +29,8 @@ static uint64_t call(const struct request *r)
     case 1: return kewohiata_nearest(LENT(0, bytes), LENT(1, bytes));
     case 2: return kewohiata_register_add(LENT(0, bytes), r->number);
     case 3: return kewohiata_register_withdraw(LENT(0, bytes), r->number);
-    case 4: return kewohiata_walk_open(LENT(0, numbers), LENT(1, doubles), LENT(2, numbers));
-    case 5: return kewohiata_walk_step(LENT(0, numbers), LENT(1, doubles), r->number);
+    case 4: return kewohiata_walk_open(LENT(0, numbers), LENT(1, doubles), LENT(2, numbers), (uint32_t)r->ensemble);
+    case 5: return kewohiata_walk_step(LENT(0, numbers), LENT(1, doubles), r->number, (uint32_t)r->ensemble);
     case 6: return kewohiata_walk_faithful(LENT(0, numbers), LENT(1, doubles), LENT(2, numbers));
     case 7: return kewohiata_list_nearest(LENT(0, numbers), LENT(1, numbers));
     case 8: return kewohiata_list_parts(LENT(0, numbers), LENT(1, doubles), LENT(2, numbers));

@@ -125,7 +125,7 @@ static uint32_t stepped(void)
     const uint64_t state[KEWOHIATA_STATE] = {KEWOHIATA_MORE, list[0], list[1], 0, 1, 1, 0, 0, 0, 0};
     memcpy(values, state, sizeof state);
     area[0] = 0.0;
-    return kewohiata_walk_step(values, KEWOHIATA_STATE, area, 1, 0);
+    return kewohiata_walk_step(values, KEWOHIATA_STATE, area, 1, 0, 0);
 }
 
 static uint32_t call(uint64_t which, size_t n)

@@ -176,7 +176,7 @@ def state_witnesses(chance):
         yield from several(s, area, walk.rising, itertools.repeat(0))
 
 
-BASE = walk.State(SIGMA, SIGN, SIGN, 65, 2, 0)
+BASE = walk.State(SIGMA, SIGN, SIGN, 65, 2, 0, 0x89ABCDEF)
 BASE_AREA = [SIGN] * 64 + [0x4000000000000000]
 NANS = [INFINITY + 1, SIGN | INFINITY + 1, NAN, SIGN | NAN, NAN - 1, SIGN - 1, ONES]
 # what is changed and to which number, and the block of the step
@@ -218,7 +218,8 @@ PLACES = [[], [0], [63], [64], [0, 64], [5, 6, 63, 64], list(range(65))]
 
 
 def state_faults(chance):
-    """Each refusal of a step beside every later one: 4, 8, 18, 19 with the lowest of several places, 6, 7."""
+    """Of steps that name the state's own ensemble each refusal beside every later one: 4, 8, 18, 19 with the lowest of several places, 6, 7. The ensembles' file
+    has 21."""
     for n, numbers, pending, places in itertools.product((65, 66), NUMBERS, SETS, PLACES):
         area = list(BASE_AREA)
         for place in places:
@@ -237,14 +238,14 @@ def many_rounds(chance):
 
 
 def state_lengths(chance):
-    """4 for a state of more or fewer than ten numbers, whatever it would be; and the ten of which a step reads but six."""
+    """4 for a state of more or fewer than ten numbers, whatever it would be; and the ten of which a step reads but seven."""
     for what, number, block in [("", 0, 1), ("", 0, 0), ("", 0, 9), ("pending", 0, 1), ("rounds", 51, 1), ("rounds", ONES, 1), ("n", 66, 1)]:
         s, area = changed(what, number)
         for k in (0, 1, 6, 7, 8, 9, TEN, TEN + 1, 20):
-            yield step_of([1, *s, *[0] * 13][:k], area, block)[0]
-            yield step_of([*s, *[0] * 14][:k], area, block)[0]
+            yield step_of([1, *s, *[0] * 13][:k], area, block, s.ensemble)[0]
+            yield step_of([*s, *[0] * 14][:k], area, block, s.ensemble)[0]
     for first in (0, 1, 2, 3, ONES):
-        for last in ((0, 0, 0), (1, 0, 0), (0, ONES, 0), (0, 0, SIGN), (ONES, ONES, ONES)):
+        for last in ((0, 0), (1, 0), (0, ONES), (SIGN, 0), (ONES, ONES)):
             yield stepped(BASE, BASE_AREA, 1, (first, *last))[0]
 
 
@@ -253,8 +254,8 @@ def ended_states(chance):
     for total, rounds in ((0, 0), (ONE, 1), (SIGMA, 0), (1, 51), (SIGN | ONE, 2)):
         for m in (0, 1, 2, 65, LENGTH):
             for block in (0, 1, ONES):
-                yield step_of([2, total, rounds, *[0] * 7], [SIGN] * m, block)[0]
-    yield from (stepped(BASE, BASE_AREA, block, (2, 0, 0, 0))[0] for block in (1, 0, 9))
+                yield from (step_of([2, total, rounds, *[0] * 7], [SIGN] * m, block, named)[0] for named in (0, 7))
+    yield from (stepped(BASE, BASE_AREA, block, (2, 0, 0))[0] for block in (1, 0, 9))
 
 
 # lengths, each with its M and the set of all its blocks

@@ -15,9 +15,14 @@ def turn(chance):
     return chance.getrandbits(64)
 
 
+def number(chance):
+    """The number of an ensemble: any, or one at an end."""
+    return chance.choice([chance.getrandbits(32), chance.getrandbits(32), 0, 1, 2**16, 2**31, 2**32 - 1])
+
+
 def unread(chance):
-    """A state's first number and its last three: a step reads none of them."""
-    return [turn(chance) for _ in range(4)]
+    """A state's first number and its last two: a step reads none of them."""
+    return [turn(chance) for _ in range(3)]
 
 
 # ---- lists
@@ -43,7 +48,7 @@ def list_requests(chance, patterns):
     yield summed("kewohiata_faithful", data, chance.randbytes(SUM))
     yield summed("kewohiata_nearest", data, chance.randbytes(SUM))
     for call, values in VALUES.items():
-        yield started(call, data, chance.randbytes(SIZE * n), chance.randbytes(SIZE * values))
+        yield started(call, data, chance.randbytes(SIZE * n), chance.randbytes(SIZE * values), number(chance))
     yield array_nearest(data, chance.randbytes(SIZE))
     yield parted(data, chance.randbytes(SIZE * chance.randint(1, 8)), chance.randbytes(SIZE))
     for claim in near(patterns):
@@ -52,8 +57,8 @@ def list_requests(chance, patterns):
 
 def run_requests(chance, patterns, order):
     """A walk block by block. It must end as the undivided one, remainders too, and with as many steps as its rounds have blocks; a further step is refused."""
-    area, total, steps = [0] * len(patterns), total_of(tuple(patterns)), 0
-    answer = walk.opening(patterns, area)
+    area, total, steps, ensemble = [0] * len(patterns), total_of(tuple(patterns)), 0, number(chance)
+    answer = walk.opening(patterns, area, ensemble)
     while answer[0] == "more":
         s = answer[1]
         request, answer, area = stepped(s, area, order(s.pending, turn(chance)), unread(chance), total)
@@ -61,7 +66,7 @@ def run_requests(chance, patterns, order):
         steps += 1
     assert (answer, area) == undivided(tuple(patterns)), f"orders differ: {order.__name__} {patterns}"
     assert steps == answer[2] * walk.blocks_of(len(patterns)), f"{steps} steps: {order.__name__} {patterns}"
-    yield step_of(unpacked(ten(answer)), area, 0)[0]
+    yield step_of(unpacked(ten(answer)), area, 0, ensemble)[0]
 
 
 def is_allowed(patterns):

@@ -41,14 +41,15 @@ pub record Given : Type 0 where
   pub n : ℕ
   pub pending : ℕ
   pub rounds : ℕ
+  pub ensemble : ℕ
 
 pub data Call : Type 0 where
   -- the faithful sum of a list by the undivided call; the same with an area of a length of its own
   faithfulSum : List ℕ → Call
   faithfulWithin : List ℕ → ℕ → Call
-  -- the opening of a list's walk; a step at a block, of a state with its work area
-  opening : List ℕ → Call
-  step : Given → List ℕ → ℕ → Call
+  -- the opening of a list's walk, under the number of an ensemble; a step of a state with its work area, which names an ensemble and a block
+  opening : ℕ → List ℕ → Call
+  step : Given → List ℕ → ℕ → ℕ → Call
   -- the nearest sum of a list; its sum in k parts
   nearestSum : List ℕ → Call
   sumInParts : List ℕ → ℕ → Call
@@ -78,10 +79,10 @@ walkResult w = outcome (stepHeard doubles (w .answer)) (map (toBits binary64) (w
 unfoldable pub resultOf : Call → Result
 resultOf (faithfulSum ps) = walkResult (faithfulOf doubles ps (replicate (length ps) (ofBits binary64 beforehand)))
 resultOf (faithfulWithin ps m) = walkResult (faithfulOf doubles ps (replicate m (ofBits binary64 beforehand)))
-resultOf (opening ps) = walkResult (opened doubles ps (replicate (length ps) (ofBits binary64 beforehand)))
-resultOf (step s ps b) =
-    let given = stateOf (s .n) (ofBits binary64 (s .sigma)) (ofBits binary64 (s .t)) (ofBits binary64 (s .tau)) (s .pending) (s .rounds) in
-    walkResult (stepped doubles given b (map (ofBits binary64) ps))
+resultOf (opening k ps) = walkResult (opened doubles k ps (replicate (length ps) (ofBits binary64 beforehand)))
+resultOf (step s ps k b) =
+    let given = stateOf (s .n) (ofBits binary64 (s .sigma)) (ofBits binary64 (s .t)) (ofBits binary64 (s .tau)) (s .pending) (s .rounds) (s .ensemble) in
+    walkResult (stepped doubles given k b (map (ofBits binary64) ps))
 resultOf (nearestSum ps) = outcome (nearestHeard doubles (nearestOf doubles ps)) []
 resultOf (sumInParts ps k) =
     let s = partsOf doubles ps (replicate k (ofBits binary64 beforehand)) in

@@ -50,16 +50,16 @@ judged-alike : (ps : List ℕ) (v : Verdict) → judged doubles true true ps ≡
 judged-alike ps v a xs h = ap (λ (b : Bool). judged doubles b true ps) (eq-eqb (length xs) (length ps) h) ∙ a
 
 walked : (ps : List ℕ) (v : Verdict) → judged doubles true true ps ≡ v → (xs : List Float) → length xs ≡ length ps
-    → W.faithfulOf doubles ps xs ≡ W.roundsFrom doubles (blocksOf doubles (length ps)) 51 (W.openedAfter doubles v ps xs)
+    → W.faithfulOf doubles ps xs ≡ W.roundsFrom doubles (blocksOf doubles (length ps)) 51 (W.openedAfter doubles 0 v ps xs)
 walked ps v a xs h =
-    ap (λ (u : Verdict). W.roundsFrom doubles (blocksOf doubles (length ps)) 51 (W.openedAfter doubles u ps xs)) (judged-alike ps v a xs h)
+    ap (λ (u : Verdict). W.roundsFrom doubles (blocksOf doubles (length ps)) 51 (W.openedAfter doubles 0 u ps xs)) (judged-alike ps v a xs h)
 
 -- ---- rule P5's list
 allowed : judged doubles true true three ≡ Good
 unfolding judged firstFault faultOf magnitude ofBits
 allowed = refl
 
-run : (xs : List Float) → W.roundsFrom doubles 1 51 (W.openedAfter doubles Good three xs) ≡ outcome (Done one 2) threeZeros
+run : (xs : List Float) → W.roundsFrom doubles 1 51 (W.openedAfter doubles 0 Good three xs) ≡ outcome (Done one 2) threeZeros
 unfolding
     W.openedAfter W.steppedAfter W.taken W.rising W.roundsFrom R.turned R.fresh R.scaled R.finished R.closedBy
     N.soundSigma N.atMost N.soundNumbers N.soundPending N.badPlace N.sound N.gated remainders gathered lastSum largest powerOf ceil
@@ -94,7 +94,7 @@ unequal-allowed : judged doubles true true unequal ≡ Good
 unfolding judged firstFault faultOf magnitude ofBits
 unequal-allowed = refl
 
-unequal-run : (xs : List Float) → W.roundsFrom doubles 1 51 (W.openedAfter doubles Good unequal xs) .answer ≡ Done one 1
+unequal-run : (xs : List Float) → W.roundsFrom doubles 1 51 (W.openedAfter doubles 0 Good unequal xs) .answer ≡ Done one 1
 unfolding
     W.openedAfter W.steppedAfter W.taken W.rising W.roundsFrom R.turned R.fresh R.scaled R.finished R.closedBy
     N.soundSigma N.atMost N.soundNumbers N.soundPending N.badPlace N.sound N.gated remainders gathered lastSum largest powerOf ceil
@@ -126,7 +126,7 @@ minus-allowed : judged doubles true true minusZeros ≡ Good
 unfolding judged firstFault faultOf magnitude ofBits
 minus-allowed = refl
 
-minus-run : (xs : List Float) → W.roundsFrom doubles 1 51 (W.openedAfter doubles Good minusZeros xs) .answer ≡ Done minus 0
+minus-run : (xs : List Float) → W.roundsFrom doubles 1 51 (W.openedAfter doubles 0 Good minusZeros xs) .answer ≡ Done minus 0
 unfolding zeroSign every W.openedAfter W.roundsFrom W.rising R.fresh largest magnitude nearestFloat ofBits
 minus-run xs = refl
 
@@ -152,7 +152,7 @@ faulty-refused : judged doubles true true faulty ≡ Refused 3 1
 unfolding judged firstFault faultOf magnitude ofBits
 faulty-refused = refl
 
-faulty-run : (xs : List Float) → W.roundsFrom doubles 1 51 (W.openedAfter doubles (Refused 3 1) faulty xs) .answer ≡ steps.Refused 3 1
+faulty-run : (xs : List Float) → W.roundsFrom doubles 1 51 (W.openedAfter doubles 0 (Refused 3 1) faulty xs) .answer ≡ steps.Refused 3 1
 unfolding W.openedAfter W.roundsFrom W.rising
 faulty-run xs = refl
 

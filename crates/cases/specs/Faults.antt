@@ -10,10 +10,10 @@ use Rattle.cases.specs.Calls.{Given, Case, beforehand, byteBeforehand, l
 use Rattle.cases.specs.Calls.{faithfulWithin, step, nearestSum, sumInParts, add, withdraw, round, merge, sheet, write, rescue, handOn, grading}
 
 abbrev numbered : ℕ → ℕ → Given
-numbered n pending = record { sigma = 0x4070000000000000; t = 0; tau = 0; n = n; pending = pending; rounds = 0 }
+numbered n pending = record { sigma = 0x4070000000000000; t = 0; tau = 0; n = n; pending = pending; rounds = 0; ensemble = 7 }
 
 abbrev closedRounds : ℕ → ℕ → Given
-closedRounds rounds pending = record { sigma = 0x4070000000000000; t = 0; tau = 0; n = 1; pending = pending; rounds = rounds }
+closedRounds rounds pending = record { sigma = 0x4070000000000000; t = 0; tau = 0; n = 1; pending = pending; rounds = rounds; ensemble = 7 }
 
 unfoldable pub faults : List Case
 faults =
@@ -30,20 +30,26 @@ faults =
     ∷ record { call = nearestSum (0x7FF0000000000000 ∷ 0x7E70000000000001 ∷ []); expected = outcome (refused 2 (at 0)) [] }
     ∷ record { call = nearestSum (0 ∷ 0xFFF8000000000000 ∷ 0x7E70000000000001 ∷ []); expected = outcome (refused 2 (at 1)) [] }
     ∷ record { call = nearestSum (0xFFF0000000000000 ∷ 0x7E70000000000001 ∷ []); expected = outcome (refused 2 (at 0)) [] }
-    -- rule O2: 4 before 8, 18 and 19; 8 before 18 and 19; 18 before 19, 6 and 7; 19, at its lowest place, before 6 and 7
-    ∷ record { call = step (numbered 4095 1) (replicate 4094 0) 0; expected = outcome (refused 4 nowhere) (replicate 4094 0) }
-    ∷ record { call = step (numbered 2 0) (0x7FF0000000000000 ∷ []) 0; expected = outcome (refused 4 nowhere) (0x7FF0000000000000 ∷ []) }
-    ∷ record { call = step (closedRounds 51 0) (0 ∷ []) 0; expected = outcome (refused 8 nowhere) (0 ∷ []) }
-    ∷ record { call = step (closedRounds 51 1) (0x7FF0000000000000 ∷ []) 0; expected = outcome (refused 8 nowhere) (0x7FF0000000000000 ∷ []) }
-    ∷ record { call = step (closedRounds 51 1) (0 ∷ []) 1; expected = outcome (refused 8 nowhere) (0 ∷ []) }
-    ∷ record { call = step (numbered 1 2) (0x7FF0000000000000 ∷ []) 1; expected = outcome (refused 18 nowhere) (0x7FF0000000000000 ∷ []) }
-    ∷ record { call = step (numbered 1 2) (0 ∷ []) 1; expected = outcome (refused 18 nowhere) (0 ∷ []) }
-    ∷ record { call = step (numbered 1 0) (0 ∷ []) 0; expected = outcome (refused 18 nowhere) (0 ∷ []) }
+    -- rule O2: 4 before 21, 8, 18 and 19; 21 before all that follow; 8 before 18 and 19; 18 before 19, 6 and 7; 19, at its lowest place, before 6 and 7
+    ∷ record { call = step (numbered 4095 1) (replicate 4094 0) 7 0; expected = outcome (refused 4 nowhere) (replicate 4094 0) }
+    ∷ record { call = step (numbered 2 0) (0x7FF0000000000000 ∷ []) 7 0; expected = outcome (refused 4 nowhere) (0x7FF0000000000000 ∷ []) }
+    ∷ record { call = step (numbered 2 1) (0 ∷ []) 8 0; expected = outcome (refused 4 nowhere) (0 ∷ []) }
+    ∷ record { call = step (closedRounds 51 0) (0x7FF0000000000000 ∷ []) 8 1; expected = outcome (refused 21 nowhere) (0x7FF0000000000000 ∷ []) }
+    ∷ record { call = step (numbered 1 0) (0 ∷ []) 0 0; expected = outcome (refused 21 nowhere) (0 ∷ []) }
+    ∷ record { call = step (numbered 1 1) (0x7FF0000000000000 ∷ []) 8 0; expected = outcome (refused 21 nowhere) (0x7FF0000000000000 ∷ []) }
+    ∷ record { call = step (numbered 1 1) (0 ∷ []) 8 1; expected = outcome (refused 21 nowhere) (0 ∷ []) }
+    ∷ record { call = step (numbered 65 2) (replicate 65 0) 0x10007 0; expected = outcome (refused 21 nowhere) (replicate 65 0) }
+    ∷ record { call = step (closedRounds 51 0) (0 ∷ []) 7 0; expected = outcome (refused 8 nowhere) (0 ∷ []) }
+    ∷ record { call = step (closedRounds 51 1) (0x7FF0000000000000 ∷ []) 7 0; expected = outcome (refused 8 nowhere) (0x7FF0000000000000 ∷ []) }
+    ∷ record { call = step (closedRounds 51 1) (0 ∷ []) 7 1; expected = outcome (refused 8 nowhere) (0 ∷ []) }
+    ∷ record { call = step (numbered 1 2) (0x7FF0000000000000 ∷ []) 7 1; expected = outcome (refused 18 nowhere) (0x7FF0000000000000 ∷ []) }
+    ∷ record { call = step (numbered 1 2) (0 ∷ []) 7 1; expected = outcome (refused 18 nowhere) (0 ∷ []) }
+    ∷ record { call = step (numbered 1 0) (0 ∷ []) 7 0; expected = outcome (refused 18 nowhere) (0 ∷ []) }
     ∷ record {
-      call = step (numbered 65 2) (replicate 3 0 ++ (0x7FF0000000000000 ∷ replicate 61 0x7E70000000000000)) 0;
+      call = step (numbered 65 2) (replicate 3 0 ++ (0x7FF0000000000000 ∷ replicate 61 0x7E70000000000000)) 7 0;
       expected = outcome (refused 19 (at 3)) (replicate 3 0 ++ (0x7FF0000000000000 ∷ replicate 61 0x7E70000000000000));
     }
-    ∷ record { call = step (numbered 1 1) (0xFFF0000000000000 ∷ []) 1; expected = outcome (refused 19 (at 0)) (0xFFF0000000000000 ∷ []) }
+    ∷ record { call = step (numbered 1 1) (0xFFF0000000000000 ∷ []) 7 1; expected = outcome (refused 19 (at 0)) (0xFFF0000000000000 ∷ []) }
     -- rule O3: 4 before a bad number, and that before 9
     ∷ record { call = add (replicate 32 0) 0x7FF0000000000000; expected = outcome (refused 4 nowhere) (replicate 32 0) }
     ∷ record { call = withdraw (replicate 34 0) 0x7E70000000000001; expected = outcome (refused 4 nowhere) (replicate 34 0) }

@@ -48,22 +48,22 @@ copied = ofBits binary64 0x4630000000000000 ∷ ofBits binary64 0x43200000000000
 
 -- ---- the walk by blocks
 abbrev begun : List ℕ
-begun = 1 ∷ 0x4660000000000000 ∷ 0 ∷ 0 ∷ 3 ∷ 1 ∷ 0 ∷ 0 ∷ 0 ∷ 0 ∷ []
+begun = 1 ∷ 0x4660000000000000 ∷ 0 ∷ 0 ∷ 3 ∷ 1 ∷ 0 ∷ 7 ∷ 0 ∷ 0 ∷ []
 
 abbrev further : List ℕ
-further = 1 ∷ 0x4340000000000000 ∷ 0x4320000000000000 ∷ 0 ∷ 3 ∷ 1 ∷ 1 ∷ 0 ∷ 0 ∷ 0 ∷ []
+further = 1 ∷ 0x4340000000000000 ∷ 0x4320000000000000 ∷ 0 ∷ 3 ∷ 1 ∷ 1 ∷ 7 ∷ 0 ∷ 0 ∷ []
 
-pub opens : openArrays numbers zeros (replicate 10 7) ≡ returned 0 copied begun
+pub opens : openArrays 7 numbers zeros (replicate 10 7) ≡ returned 0 copied begun
 unfolding openArrays judged firstFault faultOf W.openedAfter R.fresh largest powerOf ceil magnitude nearestFloat ofBits toBits le eq
 opens = refl
 
-pub goes-on : stepArrays begun copied 0 ≡ returned 0 zeros further
+pub goes-on : stepArrays begun copied 7 0 ≡ returned 0 zeros further
 unfolding stepArrays W.steppedAfter W.taken R.turned R.fresh R.scaled R.finished R.closedBy
     N.soundSigma N.atMost N.soundNumbers N.soundPending N.badPlace N.sound N.gated remainders gathered lastSum largest powerOf ceil
     magnitude negative nearestFloat ofBits toBits add sub mul le eq
 goes-on = refl
 
-pub finishes : stepArrays further zeros 0 ≡ returned 0 zeros (2 ∷ 0x4320000000000000 ∷ 2 ∷ replicate 7 0)
+pub finishes : stepArrays further zeros 7 0 ≡ returned 0 zeros (2 ∷ 0x4320000000000000 ∷ 2 ∷ replicate 7 0)
 unfolding stepArrays W.steppedAfter W.taken R.turned R.fresh R.scaled R.finished R.closedBy
     N.soundSigma N.atMost N.soundNumbers N.soundPending N.badPlace N.sound N.gated remainders gathered lastSum largest powerOf ceil
     magnitude negative nearestFloat ofBits toBits add sub mul le eq
@@ -145,21 +145,22 @@ pub four-before-twenty : gradeArrays [] 0x7FF8000000000000 [] ≡ outcome 4 []
 unfolding gradeArrays
 four-before-twenty = refl
 
--- ---- two blocks, 65 ones: block 0 leaves its 64 in tau, and a step takes tau from there. It looks at the second number to the seventh alone: the others are 7
+-- ---- two blocks, 65 ones: block 0 leaves its 64 in tau, and a step takes tau from there. It looks at the second number to the eighth, the ensemble's, alone:
+-- the others are 7
 abbrev one : Float
 one = ofBits binary64 0x3FF0000000000000
 
 abbrev halfDone : List Float
 halfDone = replicate 64 (ofBits binary64 0) ++ one ∷ []
 
-pub half-way : stepArrays (7 ∷ 0x4060000000000000 ∷ 0 ∷ 0 ∷ 65 ∷ 3 ∷ 0 ∷ 7 ∷ 7 ∷ 7 ∷ []) (replicate 65 one) 0
-    ≡ returned 0 halfDone (1 ∷ 0x4060000000000000 ∷ 0 ∷ 0x4050000000000000 ∷ 65 ∷ 2 ∷ 0 ∷ 0 ∷ 0 ∷ 0 ∷ [])
+pub half-way : stepArrays (7 ∷ 0x4060000000000000 ∷ 0 ∷ 0 ∷ 65 ∷ 3 ∷ 0 ∷ 7 ∷ 7 ∷ 7 ∷ []) (replicate 65 one) 7 0
+    ≡ returned 0 halfDone (1 ∷ 0x4060000000000000 ∷ 0 ∷ 0x4050000000000000 ∷ 65 ∷ 2 ∷ 0 ∷ 7 ∷ 0 ∷ 0 ∷ [])
 unfolding stepArrays W.steppedAfter W.taken R.turned R.fresh R.scaled R.finished R.closedBy
     N.soundSigma N.atMost N.soundNumbers N.soundPending N.badPlace N.sound N.gated remainders gathered lastSum largest powerOf ceil
     magnitude negative nearestFloat ofBits toBits add sub mul le eq
 half-way = refl
 
-pub second-half : stepArrays (7 ∷ 0x4060000000000000 ∷ 0 ∷ 0x4050000000000000 ∷ 65 ∷ 2 ∷ 0 ∷ 7 ∷ 7 ∷ 7 ∷ []) halfDone 1
+pub second-half : stepArrays (7 ∷ 0x4060000000000000 ∷ 0 ∷ 0x4050000000000000 ∷ 65 ∷ 2 ∷ 0 ∷ 7 ∷ 7 ∷ 7 ∷ []) halfDone 7 1
     ≡ returned 0 (replicate 65 (ofBits binary64 0)) (2 ∷ 0x4050400000000000 ∷ 1 ∷ replicate 7 0)
 unfolding stepArrays W.steppedAfter W.taken R.turned R.fresh R.scaled R.finished R.closedBy
     N.soundSigma N.atMost N.soundNumbers N.soundPending N.badPlace N.sound N.gated remainders gathered lastSum largest powerOf ceil
@@ -168,19 +169,27 @@ second-half = refl
 
 -- rule C11: 2^32 rounds are no state's
 abbrev manyRounds : List ℕ
-manyRounds = 1 ∷ 0x4660000000000000 ∷ 0 ∷ 0 ∷ 3 ∷ 1 ∷ 0x100000000 ∷ 0 ∷ 0 ∷ 0 ∷ []
+manyRounds = 1 ∷ 0x4660000000000000 ∷ 0 ∷ 0 ∷ 3 ∷ 1 ∷ 0x100000000 ∷ 7 ∷ 0 ∷ 0 ∷ []
 
-pub rounds-of-33-bits : stepArrays manyRounds copied 0 ≡ returned 8 copied manyRounds
+pub rounds-of-33-bits : stepArrays manyRounds copied 7 0 ≡ returned 8 copied manyRounds
 unfolding stepArrays W.steppedAfter W.taken R.turned R.fresh R.scaled R.finished R.closedBy
     N.soundSigma N.atMost N.soundNumbers N.soundPending N.badPlace N.sound N.gated remainders gathered lastSum largest powerOf ceil
     magnitude negative nearestFloat ofBits toBits add sub mul le eq
 rounds-of-33-bits = refl
 
+-- rule R21: an eighth number of 33 bits is another ensemble, whatever its lower 32 are, and is told before rounds of 33 bits, which are 8
+abbrev elsewhere : List ℕ
+elsewhere = 1 ∷ 0x4660000000000000 ∷ 0 ∷ 0 ∷ 3 ∷ 1 ∷ 0x100000000 ∷ 0x100000007 ∷ 0 ∷ 0 ∷ []
+
+pub ensemble-of-33-bits : stepArrays elsewhere copied 7 0 ≡ returned 21 copied elsewhere
+unfolding stepArrays W.steppedAfter N.gated
+ensemble-of-33-bits = refl
+
 -- rule R19: under sigma = 2^102 the 2^100 at place 0 is above 2^-M sigma, and place 0 is 19 + 32
 abbrev lowered : List ℕ
-lowered = 1 ∷ 0x4650000000000000 ∷ 0 ∷ 0 ∷ 3 ∷ 1 ∷ 0 ∷ 0 ∷ 0 ∷ 0 ∷ []
+lowered = 1 ∷ 0x4650000000000000 ∷ 0 ∷ 0 ∷ 3 ∷ 1 ∷ 0 ∷ 7 ∷ 0 ∷ 0 ∷ []
 
-pub work-at-place-0 : stepArrays lowered copied 0 ≡ returned 51 copied lowered
+pub work-at-place-0 : stepArrays lowered copied 7 0 ≡ returned 51 copied lowered
 unfolding stepArrays W.steppedAfter N.soundSigma N.atMost N.soundNumbers N.soundPending N.badPlace N.gated ceil magnitude negative ofBits toBits le eq
 work-at-place-0 = refl
 
@@ -200,7 +209,7 @@ unfolding nearestArrays judged firstFault faultOf magnitude S.nearestAfter ofBit
 bad-on-arrays = refl
 
 -- ---- rule S3: -0 alone, by blocks, undivided, nearest and in two parts
-pub opens-minus : openArrays (0x8000000000000000 ∷ []) (one ∷ []) (replicate 10 7)
+pub opens-minus : openArrays 7 (0x8000000000000000 ∷ []) (one ∷ []) (replicate 10 7)
     ≡ returned 0 (ofBits binary64 0x8000000000000000 ∷ []) (2 ∷ 0x8000000000000000 ∷ 0 ∷ replicate 7 0)
 unfolding openArrays judged firstFault faultOf zeroSign every W.openedAfter R.fresh largest magnitude nearestFloat ofBits toBits
 opens-minus = refl
@@ -228,7 +237,7 @@ pub four-before-five : partsArrays [] [] [] ≡ returned 4 [] []
 unfolding partsArrays
 four-before-five = refl
 
-pub four-for-ten : stepArrays [] [] 0 ≡ returned 4 [] []
+pub four-for-ten : stepArrays [] [] 7 0 ≡ returned 4 [] []
 unfolding stepArrays
 four-for-ten = refl
 

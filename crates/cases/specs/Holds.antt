@@ -39,7 +39,7 @@ use Rattle.cases.specs.Faults.{faults}
 code : Heard → List ℕ
 code (refused k nowhere) = 0 ∷ k ∷ []
 code (refused k (at p)) = 1 ∷ k ∷ p ∷ []
-code (more s t u n b r) = 2 ∷ s ∷ t ∷ u ∷ n ∷ b ∷ r ∷ []
+code (more s t u n b r e) = 2 ∷ s ∷ t ∷ u ∷ n ∷ b ∷ r ∷ e ∷ []
 code (done x r) = 3 ∷ x ∷ r ∷ []
 code (nearest x) = 4 ∷ x ∷ []
 code (parts true) = 5 ∷ []
@@ -53,7 +53,7 @@ decode l =
     let tag = getD l 0 0 in
     cond (eqb tag 0) (refused (getD l 1 0) nowhere)
     (cond (eqb tag 1) (refused (getD l 1 0) (at (getD l 2 0)))
-    (cond (eqb tag 2) (more (getD l 1 0) (getD l 2 0) (getD l 3 0) (getD l 4 0) (getD l 5 0) (getD l 6 0))
+    (cond (eqb tag 2) (more (getD l 1 0) (getD l 2 0) (getD l 3 0) (getD l 4 0) (getD l 5 0) (getD l 6 0) (getD l 7 0))
     (cond (eqb tag 3) (done (getD l 1 0) (getD l 2 0))
     (cond (eqb tag 4) (nearest (getD l 1 0))
     (cond (eqb tag 5) (parts true)
@@ -66,7 +66,7 @@ decoded : (h : Heard) → decode (code h) ≡ h
 unfolding decode code
 decoded (refused k nowhere) = refl
 decoded (refused k (at p)) = refl
-decoded (more s t u n b r) = refl
+decoded (more s t u n b r e) = refl
 decoded (done x r) = refl
 decoded (nearest x) = refl
 decoded (parts true) = refl

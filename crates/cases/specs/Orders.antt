@@ -52,7 +52,7 @@ unfolding
     nearestFloat value ofBits toBits add sub mul le eq
 computed = (
   undivided (map (ofBits binary64) one) refl,
-  by-blocks (map (ofBits binary64) other) (0 ∷ []) refl,
+  by-blocks 7 (map (ofBits binary64) other) (0 ∷ []) refl,
   undivided (map (ofBits binary64) cancelled) refl,
 )
 

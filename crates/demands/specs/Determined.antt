@@ -45,12 +45,12 @@ merge-determined us vs out = determined (merged us vs out)
 -- ---- walk
 
 module _ (ps : List ℕ) (work : List Float) {r q : Step} {xs ys : List Float} where
-  pub open-determined : outcome r xs ≡ opened doubles ps work → outcome q ys ≡ opened doubles ps work → (r ≡ q) × (xs ≡ ys)
-  open-determined = determined (opened doubles ps work)
+  pub open-determined : (e : ℕ) → outcome r xs ≡ opened doubles e ps work → outcome q ys ≡ opened doubles e ps work → (r ≡ q) × (xs ≡ ys)
+  open-determined e = determined (opened doubles e ps work)
 
   pub faithful-determined : outcome r xs ≡ faithfulOf doubles ps work → outcome q ys ≡ faithfulOf doubles ps work → (r ≡ q) × (xs ≡ ys)
   faithful-determined = determined (faithfulOf doubles ps work)
 
-pub step-determined : (s : State) (b : ℕ) (work : List Float) {r q : Step} {xs ys : List Float}
-    → outcome r xs ≡ stepped doubles s b work → outcome q ys ≡ stepped doubles s b work → (r ≡ q) × (xs ≡ ys)
-step-determined s b work = determined (stepped doubles s b work)
+pub step-determined : (s : State) (e b : ℕ) (work : List Float) {r q : Step} {xs ys : List Float}
+    → outcome r xs ≡ stepped doubles s e b work → outcome q ys ≡ stepped doubles s e b work → (r ≡ q) × (xs ≡ ys)
+step-determined s e b work = determined (stepped doubles s e b work)

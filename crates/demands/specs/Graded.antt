@@ -44,7 +44,7 @@ module _ (ps : List ℕ) (work : List Float) (G : ListWhen doubles (eqb (length 
         let x : P .sum ≡ d .0 = cc in
         rw (x, d .2) at (faithful-claim ps alone (P .faithful))
 
-    pub run-graded : (bs : List ℕ) → stepHeard doubles (runOf doubles ps work bs .walk .answer) ≡ done c k → NotWrong (gradeOf doubles ps c)
-    run-graded bs h =
-        let d = done-is (runOf doubles ps work bs .walk .answer) c k h in
-        rw (d .2) at (faithful-claim ps alone (run-finishes doubles-fit ps work G bs (d .0) k (d .1) .faithful))
+    pub run-graded : (e : ℕ) (bs : List ℕ) → stepHeard doubles (runOf doubles e ps work bs .walk .answer) ≡ done c k → NotWrong (gradeOf doubles ps c)
+    run-graded e bs h =
+        let d = done-is (runOf doubles e ps work bs .walk .answer) c k h in
+        rw (d .2) at (faithful-claim ps alone (run-finishes doubles-fit e ps work G bs (d .0) k (d .1) .faithful))

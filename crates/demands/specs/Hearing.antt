@@ -43,10 +43,10 @@ module _ (ps : List ℕ) where
       (λ k i. ListWhen doubles true (fitting doubles area) ps (verdicts.Refused k i)) (parts-refused ps area) (λ k i h. list-refusal h .as-told)
 
   module _ (work : List Float) where
-    pub open-heard : (k : ℕ) (p : Place) → (stepHeard doubles (opened doubles ps work .answer) ≡ refused k p)
+    pub open-heard : (e k : ℕ) (p : Place) → (stepHeard doubles (opened doubles e ps work .answer) ≡ refused k p)
         ↔ Row (λ k i. WalkWhen doubles ps work (verdicts.Refused k i)) k p
-    open-heard = hears (stepHeard doubles) steps.Refused (λ k i. refl) (opened doubles ps work .answer) (step-is doubles (opened doubles ps work .answer))
-        (λ k i. WalkWhen doubles ps work (verdicts.Refused k i)) (open-refused ps work) (λ k i h. list-refusal h .as-told)
+    open-heard e = hears (stepHeard doubles) steps.Refused (λ k i. refl) (opened doubles e ps work .answer) (step-is doubles (opened doubles e ps work .answer))
+        (λ k i. WalkWhen doubles ps work (verdicts.Refused k i)) (λ k i. open-refused ps work k i e) (λ k i h. list-refusal h .as-told)
 
     pub faithful-heard : (k : ℕ) (p : Place) → (stepHeard doubles (faithfulOf doubles ps work .answer) ≡ refused k p)
         ↔ Row (λ k i. WalkWhen doubles ps work (verdicts.Refused k i)) k p
@@ -55,18 +55,19 @@ module _ (ps : List ℕ) where
 
 -- ---- a step: 19 has its place, and any other number place 0
 
-pub step-heard : (s : State) (b : ℕ) (work : List Float) (k : ℕ) (p : Place) → (stepHeard doubles (stepped doubles s b work .answer) ≡ refused k p)
-    ↔ Row (λ k i. StepWhen doubles s b work (verdicts.Refused k i)) k p
-step-heard s b work = hears (stepHeard doubles) steps.Refused (λ k i. refl) _ (step-is doubles (stepped doubles s b work .answer))
-    (λ k i. StepWhen doubles s b work (verdicts.Refused k i)) (step-refused s b work) (λ k i h. as-told h)
+pub step-heard : (s : State) (e b : ℕ) (work : List Float) (k : ℕ) (p : Place) → (stepHeard doubles (stepped doubles s e b work .answer) ≡ refused k p)
+    ↔ Row (λ k i. StepWhen doubles s e b work (verdicts.Refused k i)) k p
+step-heard s e b work = hears (stepHeard doubles) steps.Refused (λ k i. refl) _ (step-is doubles (stepped doubles s e b work .answer))
+    (λ k i. StepWhen doubles s e b work (verdicts.Refused k i)) (step-refused s e b work) (λ k i h. as-told h)
   where
-    as-told : {k i : ℕ} → StepWhen doubles s b work (verdicts.Refused k i) → placeOf k i ≡ told k i
+    as-told : {k i : ℕ} → StepWhen doubles s e b work (verdicts.Refused k i) → placeOf k i ≡ told k i
     as-told (tables.wrong-length n) = refl
-    as-told (tables.unsound-numbers l n) = refl
-    as-told (tables.unsound-set l N n) = refl
-    as-told (tables.unsound-place l N S i F) = placed 19 i (inr tt)
-    as-told (tables.no-block l S h) = refl
-    as-told (tables.taken-before l S h p) = refl
+    as-told (tables.other-ensemble l n) = refl
+    as-told (tables.unsound-numbers l m n) = refl
+    as-told (tables.unsound-set l m N n) = refl
+    as-told (tables.unsound-place l m N S i F) = placed 19 i (inr tt)
+    as-told (tables.no-block l m S h) = refl
+    as-told (tables.taken-before l m S h p) = refl
 
 -- ---- the other tables give every number with place 0
 

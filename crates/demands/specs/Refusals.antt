@@ -91,11 +91,11 @@ module _ (us vs out : List ℕ) (k i : ℕ) where
 -- ---- walk::open, walk::faithful
 
 module _ (ps : List ℕ) (work : List Float) (k i : ℕ) where
-  pub open-refused : (opened doubles ps work .answer ≡ steps.Refused k i) ↔ WalkWhen doubles ps work (verdicts.Refused k i)
-  open-refused = walks.open-refused doubles ps work k i
+  pub open-refused : (e : ℕ) → (opened doubles e ps work .answer ≡ steps.Refused k i) ↔ WalkWhen doubles ps work (verdicts.Refused k i)
+  open-refused e = walks.open-refused doubles ps work e k i
 
-  pub open-leaves : opened doubles ps work .answer ≡ steps.Refused k i → opened doubles ps work .area ≡ work
-  open-leaves = walks.open-leaves doubles ps work k i
+  pub open-leaves : (e : ℕ) → opened doubles e ps work .answer ≡ steps.Refused k i → opened doubles e ps work .area ≡ work
+  open-leaves e = walks.open-leaves doubles ps work e k i
 
   pub faithful-refused : (faithfulOf doubles ps work .answer ≡ steps.Refused k i) ↔ WalkWhen doubles ps work (verdicts.Refused k i)
   faithful-refused = walks.faithful-refused doubles ps work doubles-fit k i
@@ -105,19 +105,19 @@ module _ (ps : List ℕ) (work : List Float) (k i : ℕ) where
 
 -- ---- walk::step
 
-module _ (s : State) (b : ℕ) (work : List Float) (k i : ℕ) where
-  pub step-refused : (stepped doubles s b work .answer ≡ steps.Refused k i) ↔ StepWhen doubles s b work (verdicts.Refused k i)
-  step-refused = walks.step-refused doubles s b work (doubles-fit .top) (doubles-fit .top-is) k i
+module _ (s : State) (e b : ℕ) (work : List Float) (k i : ℕ) where
+  pub step-refused : (stepped doubles s e b work .answer ≡ steps.Refused k i) ↔ StepWhen doubles s e b work (verdicts.Refused k i)
+  step-refused = walks.step-refused doubles s e b work (doubles-fit .top) (doubles-fit .top-is) k i
 
-  pub step-leaves : stepped doubles s b work .answer ≡ steps.Refused k i → stepped doubles s b work .area ≡ work
-  step-leaves = walks.step-leaves doubles s b work k i
+  pub step-leaves : stepped doubles s e b work .answer ≡ steps.Refused k i → stepped doubles s e b work .area ≡ work
+  step-leaves = walks.step-leaves doubles s e b work k i
 
--- where the area has n numbers, the state is sound exactly where a step answers none of the refusals that are the state's
-pub step-sound : (s : State) (b : ℕ) (work : List Float) → length work ≡ s .n
-    → SoundState doubles s work ↔ ((k i : ℕ) → OfState k → stepped doubles s b work .answer ≡ steps.Refused k i → ⊥)
-step-sound s b work l =
-    let sound = sound-when doubles (doubles-fit .top) (doubles-fit .top-is) s b work l in
-    let given = step-when doubles (doubles-fit .top) (doubles-fit .top-is) s b work in (
-      λ S k i o e. sound .0 S k i o (given (verdicts.Refused k i) .1 (step-refused s b work k i .0 e)),
-      λ none. sound .1 (λ k i o e. none k i o (step-refused s b work k i .1 (given (verdicts.Refused k i) .0 e))),
+-- where the area has n numbers and the step names the state's ensemble, the state is sound exactly where it answers none of the refusals that are the state's
+pub step-sound : (s : State) (e b : ℕ) (work : List Float) → length work ≡ s .n → e ≡ s .ensemble
+    → SoundState doubles s work ↔ ((k i : ℕ) → OfState k → stepped doubles s e b work .answer ≡ steps.Refused k i → ⊥)
+step-sound s e b work l m =
+    let sound = sound-when doubles (doubles-fit .top) (doubles-fit .top-is) s e b work l m in
+    let given = step-when doubles (doubles-fit .top) (doubles-fit .top-is) s e b work in (
+      λ S k i o h. sound .0 S k i o (given (verdicts.Refused k i) .1 (step-refused s e b work k i .0 h)),
+      λ none. sound .1 (λ k i o h. none k i o (step-refused s e b work k i .1 (given (verdicts.Refused k i) .0 h))),
     )

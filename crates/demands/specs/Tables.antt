@@ -22,21 +22,24 @@ use Rattle.words.specs.Words.{wordCount, wholeOf}
 use Rattle.sound.specs.Numbers.{Numbers}
 use Rattle.demands.specs.SoundState.{SoundSet, SoundState, FirstUnsound}
 
--- rule O2, each where none before it holds. 19 tells the place, and no other does.
-pub data StepWhen (W : Width) (s : State) (b : ℕ) (work : List Float) : Verdict → Type 0 where
+-- rule O2, for a step that names the ensemble k, each where none before it holds. 19 tells the place, and no other does.
+pub data StepWhen (W : Width) (s : State) (k b : ℕ) (work : List Float) : Verdict → Type 0 where
   -- rules R4 and A2
-  wrong-length : (length work ≡ s .n → ⊥) → StepWhen W s b work (Refused 4 0)
+  wrong-length : (length work ≡ s .n → ⊥) → StepWhen W s k b work (Refused 4 0)
+  -- rule R21
+  other-ensemble : length work ≡ s .n → (k ≡ s .ensemble → ⊥) → StepWhen W s k b work (Refused 21 0)
   -- rule R8
-  unsound-numbers : length work ≡ s .n → (Numbers W s → ⊥) → StepWhen W s b work (Refused 8 0)
+  unsound-numbers : length work ≡ s .n → k ≡ s .ensemble → (Numbers W s → ⊥) → StepWhen W s k b work (Refused 8 0)
   -- rule R18
-  unsound-set : length work ≡ s .n → Numbers W s → (SoundSet W s → ⊥) → StepWhen W s b work (Refused 18 0)
+  unsound-set : length work ≡ s .n → k ≡ s .ensemble → Numbers W s → (SoundSet W s → ⊥) → StepWhen W s k b work (Refused 18 0)
   -- rule R19
-  unsound-place : length work ≡ s .n → Numbers W s → SoundSet W s → (i : ℕ) → FirstUnsound W s work i → StepWhen W s b work (Refused 19 i)
+  unsound-place : length work ≡ s .n → k ≡ s .ensemble → Numbers W s → SoundSet W s → (i : ℕ) → FirstUnsound W s work i → StepWhen W s k b work (Refused 19 i)
   -- rule R6
-  no-block : length work ≡ s .n → SoundState W s work → blocksOf W (s .n) ≤ b → StepWhen W s b work (Refused 6 0)
+  no-block : length work ≡ s .n → k ≡ s .ensemble → SoundState W s work → blocksOf W (s .n) ≤ b → StepWhen W s k b work (Refused 6 0)
   -- rule R7
-  taken-before : length work ≡ s .n → SoundState W s work → b < blocksOf W (s .n) → has (s .pending) b ≡ false → StepWhen W s b work (Refused 7 0)
-  accepted : length work ≡ s .n → SoundState W s work → b < blocksOf W (s .n) → has (s .pending) b ≡ true → StepWhen W s b work Good
+  taken-before : length work ≡ s .n → k ≡ s .ensemble → SoundState W s work → b < blocksOf W (s .n) → has (s .pending) b ≡ false
+      → StepWhen W s k b work (Refused 7 0)
+  accepted : length work ≡ s .n → k ≡ s .ensemble → SoundState W s work → b < blocksOf W (s .n) → has (s .pending) b ≡ true → StepWhen W s k b work Good
 
 -- the refusals that are the state's: it isn't sound
 abbrev pub OfState : ℕ → Type 0

@@ -13,6 +13,7 @@ use lib.Ieee.{Float}
 use Rattle.ieee.specs.Units.{nearestFloat}
 use Rattle.lists.specs.Apart.{apart}
 use Rattle.kinds.specs.Limits.{Width}
+use Rattle.kinds.specs.Outcome.{outcome}
 use Rattle.kinds.specs.declared.State.{State}
 use Rattle.kinds.specs.declared.Step.{Step}
 use Rattle.kinds.specs.declared.Step.the-variants.{More, Done, Refused}
@@ -22,10 +23,12 @@ use Rattle.judge.specs.Judge.{judged, zeroSign}
 use Rattle.judge.specs.JudgeLaws.{list-when}
 use Rattle.judge.specs.Table.{sizeOf}
 use Rattle.sound.specs.Sound.{gated}
+use Rattle.sound.specs.GateLaws.{gated-21}
 use Rattle.rounds.specs.Fitting.{Fitting}
 use Rattle.walk.specs.NoRefusal.{verdictOf, fresh-accepted, taken-accepted}
 use Rattle.walk.specs.Walk.{Walked, opened, openedAfter, stepped, steppedAfter, faithfulOf}
 use Rattle.walk.specs.OpeningLaws.{opened-refused}
+use Rattle.walk.specs.StepLaws.{stepped-refused}
 use Rattle.walk.specs.Undivided as undivided
 use Rattle.runs.specs.Faithful.{faithful-promised}
 use Rattle.demands.specs.Tables.{StepWhen, WalkWhen}
@@ -62,7 +65,7 @@ module _ {v : Verdict} {work : List Float} {w : Walked} (A : After v work w) whe
 
 -- ---- a block step
 
-module _ (W : Width) (s : State) (b : ℕ) (work : List Float) where
+module _ (W : Width) (s : State) (e b : ℕ) (work : List Float) where
   step-after : (v : Verdict) → After v work (steppedAfter W v s b work)
   unfolding steppedAfter
   step-after verdicts.Good = record {
@@ -72,14 +75,18 @@ module _ (W : Width) (s : State) (b : ℕ) (work : List Float) where
   step-after (verdicts.Refused l j) = record { from = refl; kept = λ k i e. refl }
 
   module _ (top : ℕ) (is : sizeOf W (W .magnitude) ≡ 2 ^ top) (k i : ℕ) where
-    pub step-refused : (stepped W s b work .answer ≡ Refused k i) ↔ StepWhen W s b work (verdicts.Refused k i)
-    step-refused = refusals (step-after (gated W s b work)) (StepWhen W s b work) (step-when W top is s b work) k i
+    pub step-refused : (stepped W s e b work .answer ≡ Refused k i) ↔ StepWhen W s e b work (verdicts.Refused k i)
+    step-refused = refusals (step-after (gated W s e b work)) (StepWhen W s e b work) (step-when W top is s e b work) k i
 
-    pub step-accepted : StepWhen W s b work verdicts.Good → stepped W s b work .answer ≡ Refused k i → ⊥
-    step-accepted h = accepts (step-after (gated W s b work)) (step-when W top is s b work verdicts.Good .1 h) k i
+    pub step-accepted : StepWhen W s e b work verdicts.Good → stepped W s e b work .answer ≡ Refused k i → ⊥
+    step-accepted h = accepts (step-after (gated W s e b work)) (step-when W top is s e b work verdicts.Good .1 h) k i
 
-  pub step-leaves : (k i : ℕ) → stepped W s b work .answer ≡ Refused k i → stepped W s b work .area ≡ work
-  step-leaves = leaves (step-after (gated W s b work))
+  -- a step that names another ensemble is refused with 21, whatever else is wrong but the area's length
+  pub step-stranger : length work ≡ s .n → (e ≡ s .ensemble → ⊥) → stepped W s e b work ≡ outcome (Refused 21 0) work
+  step-stranger l n = sym (stepped-refused W s b work (gated W s e b work) 21 0 (gated-21 W s e b work l n))
+
+  pub step-leaves : (k i : ℕ) → stepped W s e b work .answer ≡ Refused k i → stepped W s e b work .area ≡ work
+  step-leaves = leaves (step-after (gated W s e b work))
 
 -- ---- opening, and the undivided call: rule O1 without 5
 
@@ -91,21 +98,21 @@ module _ (W : Width) (ps : List ℕ) (work : List Float) where
   unfolding verdict
   rows = list-when W (eqb (length work) (length ps)) true ps
 
-  open-after : (v : Verdict) → After v work (openedAfter W v ps work)
+  open-after : (e : ℕ) (v : Verdict) → After v work (openedAfter W e v ps work)
   unfolding openedAfter
-  open-after verdicts.Good = record {
-    from = fresh-accepted W (nearestFloat (W .format) (zeroSign W ps) (pos 0)) (length ps) _ 0 .good;
+  open-after e verdicts.Good = record {
+    from = fresh-accepted W (nearestFloat (W .format) (zeroSign W ps) (pos 0)) (length ps) _ 0 e .good;
     kept = λ k i e. apart (cc);
   }
-  open-after (verdicts.Refused l j) = record { from = refl; kept = λ k i e. refl }
+  open-after e (verdicts.Refused l j) = record { from = refl; kept = λ k i e. refl }
 
-  pub open-refused : (k i : ℕ) → (opened W ps work .answer ≡ Refused k i) ↔ WalkWhen W ps work (verdicts.Refused k i)
+  pub open-refused : (e k i : ℕ) → (opened W e ps work .answer ≡ Refused k i) ↔ WalkWhen W ps work (verdicts.Refused k i)
   unfolding verdict
-  open-refused = refusals (open-after verdict) (WalkWhen W ps work) rows
+  open-refused e = refusals (open-after e verdict) (WalkWhen W ps work) rows
 
-  pub open-leaves : (k i : ℕ) → opened W ps work .answer ≡ Refused k i → opened W ps work .area ≡ work
+  pub open-leaves : (e k i : ℕ) → opened W e ps work .answer ≡ Refused k i → opened W e ps work .area ≡ work
   unfolding verdict
-  open-leaves = leaves (open-after verdict)
+  open-leaves e = leaves (open-after e verdict)
 
   module _ (F : Fitting W) where
     faithful-after : (v : Verdict) → verdict ≡ v → After v work (faithfulOf W ps work)
@@ -116,7 +123,7 @@ module _ (W : Width) (ps : List ℕ) (work : List Float) where
     }
     faithful-after (verdicts.Refused l j) e =
         subst (After (verdicts.Refused l j) work)
-        (undivided.faithful-refused F ps work (Refused l j) work (opened-refused W verdict l j ps work e) l j refl)
+        (undivided.faithful-refused F 0 ps work (Refused l j) work (opened-refused W 0 verdict l j ps work e) l j refl)
         (record { from = refl; kept = λ k i e. refl })
 
     pub faithful-refused : (k i : ℕ) → (faithfulOf W ps work .answer ≡ Refused k i) ↔ WalkWhen W ps work (verdicts.Refused k i)

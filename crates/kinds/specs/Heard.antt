@@ -24,8 +24,8 @@ pub data Place : Type 0 where
 
 pub data Heard : Type 0 where
   refused : ℕ → Place → Heard
-  -- the patterns of sigma, t and tau, then n, the pending set and the rounds closed
-  more : ℕ → ℕ → ℕ → ℕ → ℕ → ℕ → Heard
+  -- the patterns of sigma, t and tau, then n, the pending set, the rounds closed and the ensemble
+  more : ℕ → ℕ → ℕ → ℕ → ℕ → ℕ → ℕ → Heard
   -- a pattern and the rounds; a pattern; whether the parts add up; a count
   done : ℕ → ℕ → Heard
   nearest : ℕ → Heard
@@ -65,7 +65,7 @@ verdictHeard (verdicts.Refused k p) = refused k (placeOf k p)
 -- a float is heard as its pattern
 abbrev pub stepHeard : Width → Step → Heard
 stepHeard W (steps.More s) =
-    more (toBits (W .format) (s .sigma)) (toBits (W .format) (s .t)) (toBits (W .format) (s .tau)) (s .n) (s .pending) (s .rounds)
+    more (toBits (W .format) (s .sigma)) (toBits (W .format) (s .t)) (toBits (W .format) (s .tau)) (s .n) (s .pending) (s .rounds) (s .ensemble)
 stepHeard W (steps.Done x r) = done (toBits (W .format) x) r
 stepHeard W (steps.Refused k p) = refused k (placeOf k p)
 

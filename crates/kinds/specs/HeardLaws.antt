@@ -100,7 +100,8 @@ module _ (W : Width) where
       let n : s .n ≡ t .n = cc in
       let b : s .pending ≡ t .pending = cc in
       let r : s .rounds ≡ t .rounds = cc in
-      λ i. More (record { sigma = x i; t = y i; tau = z i; n = n i; pending = b i; rounds = r i })
+      let k : s .ensemble ≡ t .ensemble = cc in
+      λ i. More (record { sigma = x i; t = y i; tau = z i; n = n i; pending = b i; rounds = r i; ensemble = k i })
   step-heard (More s) (Done y r) A B e = apart (cc)
   step-heard (More s) (Refused l q) A B e = apart (cc)
   step-heard (Done x r) (More t) A B e = apart (cc)

@@ -90,7 +90,7 @@ impl Doubles {
     }
 }
 
-// Rules WS1 and F1: the state of a walk, a value with three f64 fields.
+// Rules WS1 and F1: the state of a walk, a value with three f64 fields. Rule WS12: the ensemble's number is the one given at the opening.
 pub struct State {
     pub sigma: f64,
     pub t: f64,
@@ -98,12 +98,21 @@ pub struct State {
     pub n: usize,
     pub pending: u64,
     pub rounds: u32,
+    pub ensemble: u32,
 }
 
 impl State {
     // Every state is built here.
-    pub fn of(n: usize, sigma: f64, t: f64, tau: f64, pending: u64, rounds: u32) -> Self
-        ensures { λ r. ⌜ r ≡ stateOf n sigma t tau pending rounds ⌝ }
+    pub fn of(
+        n: usize,
+        sigma: f64,
+        t: f64,
+        tau: f64,
+        pending: u64,
+        rounds: u32,
+        ensemble: u32,
+    ) -> Self
+        ensures { λ r. ⌜ r ≡ stateOf n sigma t tau pending rounds ensemble ⌝ }
     {
         State {
             sigma,
@@ -112,11 +121,12 @@ impl State {
             n,
             pending,
             rounds,
+            ensemble,
         }
     }
 }
 
-// ---- answers. A refusal holds its number (rules R1 to R20) and the place, 0 where none is told.
+// ---- answers. A refusal holds its number (rules R1 to R21) and the place, 0 where none is told.
 
 // Rule A5: whether a refusal with this number tells a place: 2, 3, 14 and 19 do.
 pub fn tells(number: u32) -> bool

@@ -31,7 +31,7 @@ use Rattle.lines.specs.LinesLaws.{read-few, read-list}
 
 -- what it answers once the list is judged
 abbrev answerAfter : List ℕ → List Float → Verdict → Step
-answerAfter ps zs v = roundsFrom doubles (blocksOf doubles (length ps)) (suc (doubles .rounds)) (openedAfter doubles v ps zs) .answer
+answerAfter ps zs v = roundsFrom doubles (blocksOf doubles (length ps)) (suc (doubles .rounds)) (openedAfter doubles 0 v ps zs) .answer
 
 faithful-same : (ps : List ℕ) (xs ys : List Float) → length xs ≡ length ys → faithfulOf doubles ps xs .answer ≡ faithfulOf doubles ps ys .answer
 unfolding openedAfter
@@ -43,7 +43,7 @@ faithful-same ps xs ys l = by (judged doubles (eqb (length xs) (length ps)) true
     refusal : (zs : List Float) (k p : ℕ) → judged doubles (eqb (length zs) (length ps)) true ps ≡ verdicts.Refused k p
         → faithfulOf doubles ps zs .answer ≡ steps.Refused k p
     refusal zs k p e =
-        sym (ap (λ (w : Walked). w .answer) (faithful-refused doubles-fit ps zs (steps.Refused k p) zs (opened-refused doubles _ k p ps zs e) k p refl))
+        sym (ap (λ (w : Walked). w .answer) (faithful-refused doubles-fit 0 ps zs (steps.Refused k p) zs (opened-refused doubles 0 _ k p ps zs e) k p refl))
 
     by : (v : Verdict) → judged doubles (eqb (length xs) (length ps)) true ps ≡ v → faithfulOf doubles ps xs .answer ≡ faithfulOf doubles ps ys .answer
     by verdicts.Good e = ap (answerAfter ps xs) e ∙ sym (ap (answerAfter ps ys) (sym other ∙ e))

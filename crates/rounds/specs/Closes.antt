@@ -92,10 +92,10 @@ normal-above f k S u = elim (le-or-lt (prec f) k) [
   | inr l ↦ absurd (omega (arith, above f S (least-normal f) u, pow-mono {i = k} {j = prec f - 1} (omega arith)))
 ]
 
--- ---- the close: it ends the walk, or a state of the same list with one round more opens the next round
+-- ---- the close: it ends the walk, or a state of the same list and ensemble with one round more opens the next round
 pub data Next (W : Width) (F : Fitting W) (s : State) (ys : List Float) : Step → Type 0 where
   ends : (x : Float) → Next W F s ys (Done x (s .rounds + 1))
-  goes : (e : ℕ) (s' : State) → s' .n ≡ s .n → s' .rounds ≡ s .rounds + 1 → Begun W F e s' ys → Next W F s ys (More s')
+  goes : (e : ℕ) (s' : State) → s' .n ≡ s .n → s' .ensemble ≡ s .ensemble → s' .rounds ≡ s .rounds + 1 → Begun W F e s' ys → Next W F s ys (More s')
 
 module _ {W : Width} {F : Fitting W} {e : ℕ} {s : State} {xs : List Float} (B : Begun W F e s xs) where
   -- what a round leaves of each number, where it may leave anything
@@ -138,7 +138,8 @@ module _ {W : Width} {F : Fitting W} {e : ℕ} {s : State} {xs : List Float} (B 
   lower c h = rw (add-one (s .rounds), suc-mul (s .rounds) (prec (W .format) - exponentOf (s .n))) (omega (arith, B .lowered))
 
   pub restarts : allZero (W .format) (allLeft W s xs) ≡ false
-      → Begun W F (ceil (largest (W .format) (allLeft W s xs))) (freshRound W (s .n) (largest (W .format) (allLeft W s xs)) (s .rounds + 1)) (allLeft W s xs)
+      → Begun W F (ceil (largest (W .format) (allLeft W s xs)))
+      (freshRound W (s .n) (largest (W .format) (allLeft W s xs)) (s .rounds + 1) (s .ensemble)) (allLeft W s xs)
   restarts z = go (le-or-lt (prec (W .format)) (exponentOf (s .n) + e))
     where
       f : Format
@@ -148,7 +149,7 @@ module _ {W : Width} {F : Fitting W} {e : ℕ} {s : State} {xs : List Float} (B 
       ys = allLeft W s xs
 
       go : (prec f ≤ exponentOf (s .n) + e) ⊎ (exponentOf (s .n) + e < prec f)
-          → Begun W F (ceil (largest f ys)) (freshRound W (s .n) (largest f ys) (s .rounds + 1)) ys
+          → Begun W F (ceil (largest f ys)) (freshRound W (s .n) (largest f ys) (s .rounds + 1) (s .ensemble)) ys
       go (inr l) = absurd (eqb-false _ 0 z (none-left l))
       go (inl l) =
           let c = exponentOf (s .n) + e - prec f in
@@ -226,5 +227,5 @@ module _ {W : Width} {F : Fitting W} {e : ℕ} {s : State} {xs : List Float} (B 
   falls =
       let P = Next W F s (allLeft W s xs) in
       closed-each P W (largest (W .format) (allLeft W s xs)) (allTaken W s xs) (allLeft W s xs)
-      (λ z. fresh-each P W _ (s .n) _ _ (λ a. ends _) (λ a. goes _ _ refl refl (restarts a)))
-      (λ z r. ends _) (λ z r. goes _ _ refl refl (further r))
+      (λ z. fresh-each P W _ (s .n) _ _ _ (λ a. ends _) (λ a. goes _ _ refl refl refl (restarts a)))
+      (λ z r. ends _) (λ z r. goes _ _ refl refl refl (further r))

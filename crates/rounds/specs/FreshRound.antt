@@ -30,9 +30,9 @@ exponent-some n = positive (exponentOf n) (ceil-ge (n + 2))
     positive (suc M) h = omega arith
 
 -- ---- rule WO3, with t = +0: mu is at least every magnitude
-module _ {W : Width} {F : Fitting W} {n rounds : ℕ} {xs : List Float} (mu : ℕ) where
+module _ {W : Width} {F : Fitting W} {n rounds ensemble : ℕ} {xs : List Float} (mu : ℕ) where
   pub begins : 1 ≤ n → n ≤ W .length → length xs ≡ n → Each (Small (W .format) mu) xs → rounds * (prec (W .format) - exponentOf n) + ceil mu ≤ F .top
-      → Begun W F (ceil mu) (freshRound W n mu rounds) xs
+      → Begun W F (ceil mu) (freshRound W n mu rounds ensemble) xs
   begins some few count work lowered = record {
     some = some;
     few = few;

@@ -26,7 +26,7 @@ turned W sigma b xs = take (W .block * b) xs ++ (remainders (W .format) sigma (b
 
 -- the same round with another tau and pending set: the one place that writes out what a round keeps of its state
 abbrev pub inRound : State → Float → ℕ → State
-inRound s tau pending = stateOf (s .n) (s .sigma) (s .t) tau pending (s .rounds)
+inRound s tau pending = stateOf (s .n) (s .sigma) (s .t) tau pending (s .rounds) (s .ensemble)
 
 -- the state after block b: tau has gathered its numbers, and it is pending no more
 abbrev pub takenState : Width → State → ℕ → List Float → State
@@ -48,15 +48,15 @@ abbrev pub sigmaOf : Format → ℕ → ℕ → Float
 sigmaOf f n mu = powerOf f (exponentOf n + ceil mu)
 
 -- rule WC2
-abbrev pub roundOf : Width → ℕ → Float → Float → ℕ → State
-roundOf W n sigma t rounds = stateOf n sigma t (plusZero (W .format)) (full (blocksOf W n)) rounds
+abbrev pub roundOf : Width → ℕ → Float → Float → ℕ → ℕ → State
+roundOf W n sigma t rounds ensemble = stateOf n sigma t (plusZero (W .format)) (full (blocksOf W n)) rounds ensemble
 
 -- rules WO3 and W2: an opening and a restart take e and sigma from mu alike, with t = +0. Rules WO2 and W1: where mu is zero the answer is `zero`.
-abbrev pub freshRound : Width → ℕ → ℕ → ℕ → State
-freshRound W n mu rounds = roundOf W n (sigmaOf (W .format) n mu) (plusZero (W .format)) rounds
+abbrev pub freshRound : Width → ℕ → ℕ → ℕ → ℕ → State
+freshRound W n mu rounds ensemble = roundOf W n (sigmaOf (W .format) n mu) (plusZero (W .format)) rounds ensemble
 
-unfoldable pub fresh : Width → Float → ℕ → ℕ → ℕ → Step
-fresh W zero n mu rounds = cond (eqb mu 0) (Done zero rounds) (More (freshRound W n mu rounds))
+unfoldable pub fresh : Width → Float → ℕ → ℕ → ℕ → ℕ → Step
+fresh W zero n mu rounds ensemble = cond (eqb mu 0) (Done zero rounds) (More (freshRound W n mu rounds ensemble))
 
 -- ---- the close
 -- 2^j eps sigma, as the product of the float 2^j eps and sigma: eps (rule L3) is 2^-prec, and a unit 2^-low
@@ -79,10 +79,10 @@ closedBy W mu s xs =
     let t' = add f (s .t) (s .tau) in
     let rounds = s .rounds + 1 in
     cond (eq t' (plusZero f))
-    (fresh W (plusZero f) (s .n) mu rounds)
+    (fresh W (plusZero f) (s .n) mu rounds (s .ensemble))
     (cond (le (s .sigma) (leastNormal f) || le (scaled f (2 * M + 1) (s .sigma)) (absolute f t'))
     (Done (finished f t' (s .t) (s .tau) xs) rounds)
-    (More (roundOf W (s .n) (scaled f M (s .sigma)) t' rounds)))
+    (More (roundOf W (s .n) (scaled f M (s .sigma)) t' rounds (s .ensemble))))
 
 abbrev pub closed : Width → State → List Float → Step
 closed W s xs = closedBy W (largest (W .format) xs) s xs

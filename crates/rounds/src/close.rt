@@ -62,7 +62,7 @@ pub fn close(s: State, work: &[f64]) -> Step
     let tau1 = s.t + s.tau;
     if tau1 == 0.0 {
         // rules W1 and W2; rule E2 is to forget the second
-        return fresh::fresh(0.0, n, work, rounds);
+        return fresh::fresh(0.0, n, work, rounds, s.ensemble);
     }
     let m = Doubles::of(n).exponent();
     // rule W3
@@ -70,5 +70,5 @@ pub fn close(s: State, work: &[f64]) -> Step
         return Step::Done(finish(tau1, s.t, s.tau, work), rounds);
     }
     // rule W4
-    Step::More(round::begin(n, scaled(m, sigma), tau1, rounds))
+    Step::More(round::begin(n, scaled(m, sigma), tau1, rounds, s.ensemble))
 }

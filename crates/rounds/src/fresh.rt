@@ -14,24 +14,24 @@ ghost use Rattle.rounds.specs.InUnits.{Small};
 ghost use Rattle.rounds.specs.Round.{fresh};
 
 // Rule WO3: a round from mu, with t = +0. Where mu is zero the answer is `zero`, by rules WO2 and W1: its pattern is asked, as mu may be subnormal (rule F4).
-pub fn from_mu(zero: f64, n: usize, mu: f64, rounds: u32) -> Step
+pub fn from_mu(zero: f64, n: usize, mu: f64, rounds: u32, ensemble: u32) -> Step
     requires { ⌜
         (n ≤ doubles .length) × Small (doubles .format) (sizeOf doubles (doubles .magnitude)) mu × (negative mu ≡ false)
         × (1 ≤ magnitude (doubles .format) mu → 1 ≤ n)
         ⌝ }
-    ensures { λ r. ⌜ r ≡ fresh doubles zero n (magnitude (doubles .format) mu) rounds ⌝ }
+    ensures { λ r. ⌜ r ≡ fresh doubles zero n (magnitude (doubles .format) mu) rounds ensemble ⌝ }
 {
     if f64::to_bits(mu) == 0 {
         return Step::Done(zero, rounds);
     }
     let sigma = round::sigma(n, mu);
-    Step::More(round::begin(n, sigma, 0.0, rounds))
+    Step::More(round::begin(n, sigma, 0.0, rounds, ensemble))
 }
 
 // Rules WO3 and W2: mu is found in the work area, at an opening and at a restart alike.
-pub fn fresh(zero: f64, n: usize, work: &[f64], rounds: u32) -> Step
+pub fn fresh(zero: f64, n: usize, work: &[f64], rounds: u32, ensemble: u32) -> Step
     requires { ⌜ (length (now work) ≡ n) × (n ≤ doubles .length) × Each (Small (doubles .format) (sizeOf doubles (doubles .magnitude))) (now work) ⌝ }
-    ensures { λ r. ⌜ r ≡ fresh doubles zero n (largest (doubles .format) (now (work .entry))) rounds ⌝ }
+    ensures { λ r. ⌜ r ≡ fresh doubles zero n (largest (doubles .format) (now (work .entry))) rounds ensemble ⌝ }
 {
-    from_mu(zero, n, extract::largest(work), rounds)
+    from_mu(zero, n, extract::largest(work), rounds, ensemble)
 }

@@ -14,12 +14,12 @@ ghost use Rattle.rounds.specs.InUnits.{Small};
 ghost use Rattle.rounds.specs.Round.{turned, takenState, allTaken, allLeft, roundOf};
 
 // Rule WC2.
-pub fn begin(n: usize, sigma: f64, t: f64, rounds: u32) -> State
+pub fn begin(n: usize, sigma: f64, t: f64, rounds: u32, ensemble: u32) -> State
     requires { ⌜ (1 ≤ n) × (n ≤ doubles .length) ⌝ }
-    ensures { λ r. ⌜ r ≡ roundOf doubles n sigma t rounds ⌝ }
+    ensures { λ r. ⌜ r ≡ roundOf doubles n sigma t rounds ensemble ⌝ }
 {
     let blocks = Doubles::of(n).blocks();
-    State::of(n, sigma, t, 0.0, bitset::full(blocks), rounds)
+    State::of(n, sigma, t, 0.0, bitset::full(blocks), rounds, ensemble)
 }
 
 // sigma of rule WO3.
@@ -47,7 +47,7 @@ pub fn take(s: State, work: &mut [f64], block: usize) -> State
     let to = least(from + Doubles::BLOCK, n);
     let taken = extract::extract(&mut work[from..to], s.sigma, s.tau);
     let pending = bitset::without(s.pending, block);
-    State::of(n, s.sigma, s.t, taken.tau, pending, s.rounds)
+    State::of(n, s.sigma, s.t, taken.tau, pending, s.rounds, s.ensemble)
 }
 
 // Every block of a round in rising order: that is the whole area in one extraction.
@@ -57,5 +57,5 @@ pub fn take_all(s: State, work: &mut [f64]) -> State
         ⌝ }
 {
     let taken = extract::extract(work, s.sigma, s.tau);
-    State::of(s.n, s.sigma, s.t, taken.tau, 0, s.rounds)
+    State::of(s.n, s.sigma, s.t, taken.tau, 0, s.rounds, s.ensemble)
 }

@@ -39,7 +39,7 @@ faithful-ended {W} F ps work = by (judged W (eqb (length work) (length ps)) true
         let S = faithful-promised F ps work (list-when W (eqb (length work) (length ps)) true ps verdicts.Good .0 g) in
         subst (Ended W) (sym (S .answer)) (S .faithful .number, S .most)
     by (verdicts.Refused k p) g =
-        let w = faithful-refused F ps work (Refused k p) work (opened-refused W _ k p ps work g) k p refl in
+        let w = faithful-refused F 0 ps work (Refused k p) work (opened-refused W 0 _ k p ps work g) k p refl in
         subst (Ended W) (ap (λ (w : Walked). w .answer) w) (list-refusal (list-when W _ true ps (verdicts.Refused k p) .0 g))
 
 module _ (ps : List ℕ) (work : List Float) where

@@ -25,7 +25,7 @@ use Rattle.extract.specs.Extract.{gathered}
 use Rattle.rounds.specs.Round.{allZero, blockOf, inRound, allTaken, allLeft, closed}
 use Rattle.rounds.specs.Fitting.{Fitting}
 use Rattle.rounds.specs.Begun.{Begun}
-use Rattle.walk.specs.Walk.{Walked, opened, onward, rising, roundsFrom, faithfulOf}
+use Rattle.walk.specs.Walk.{Walked, opened, onward, rising, roundsFrom, undividedOf}
 use Rattle.walk.specs.Run.{Running, still, run-round, run-running, run-accepted, run-done}
 use Rattle.runs.specs.Taken.{midArea}
 use Rattle.runs.specs.MidRound.{Mid, mid-begins, begins-area, begins-some, mid-takes}
@@ -110,14 +110,14 @@ module _ (W : Width) (F : Fitting W) (n : ℕ) (π : ℕ → List ℕ) (each : (
       agree (More s') e h = h s' e
 
 -- ---- with any order of blocks in each round, from the opening of an accepted list
-module _ {W : Width} (F : Fitting W) (ps : List ℕ) (work : List Float) (G : ListWhen W (eqb (length work) (length ps)) true ps Good) where
+module _ {W : Width} (F : Fitting W) (k : ℕ) (ps : List ℕ) (work : List Float) (G : ListWhen W (eqb (length work) (length ps)) true ps Good) where
   pub any-order : (π : ℕ → List ℕ) → ((i : ℕ) → Perm (π i) (rising (blocksOf W (length ps))))
-      → ordered W π (suc (W .rounds)) 0 (opened W ps work) ≡ faithfulOf W ps work
+      → ordered W π (suc (W .rounds)) 0 (opened W k ps work) ≡ undividedOf W k ps work
   any-order π each = go (allZero (W .format) (floats W ps)) refl
     where
-      go : (b : Bool) → allZero (W .format) (floats W ps) ≡ b → ordered W π (suc (W .rounds)) 0 (opened W ps work) ≡ faithfulOf W ps work
-      go true a = rw (opened-zero F ps work G a)
+      go : (b : Bool) → allZero (W .format) (floats W ps) ≡ b → ordered W π (suc (W .rounds)) 0 (opened W k ps work) ≡ undividedOf W k ps work
+      go true a = rw (opened-zero F k ps work G a)
           (ordered-done W π (suc (W .rounds)) 0 _ 0 (floats W ps) ∙ sym (run-done W (blocksOf W (length ps)) (suc (W .rounds)) _ 0 (floats W ps)))
-      go false a = rw (opened-round F ps work G a)
+      go false a = rw (opened-round F k ps work G a)
           (ordered-run W F (length ps) π (λ i. once-permuted (blocksOf W (length ps)) (each i)) (suc (W .rounds)) 0
-          (record { e = _; count = refl; begun = opened-summing F ps work G a .begun }))
+          (record { e = _; count = refl; begun = opened-summing F k ps work G a .begun }))

@@ -128,15 +128,15 @@ module _ {W : Width} (F : Fitting W) {s : State} {b : ℕ} {xs : List Float} (P 
   tau1-held = tau1-units (F .bound + 1) room t-held tau-held .1
 
   -- ---- the next state
-  opens : (e : ℕ) {sigma t : Float} (rounds : ℕ) → Positive f sigma (2 ^ (M + e)) → e ≤ F .top → Number f t
-      → StateNumbers W (roundOf W (s .n) sigma t rounds)
-  opens e rounds S l N = record { sigma = S .number; bounds = sigma-bounds F (s .n) e S l; t = N; tau = zero-positive f .number }
+  opens : (e : ℕ) {sigma t : Float} (rounds ensemble : ℕ) → Positive f sigma (2 ^ (M + e)) → e ≤ F .top → Number f t
+      → StateNumbers W (roundOf W (s .n) sigma t rounds ensemble)
+  opens e rounds ensemble S l N = record { sigma = S .number; bounds = sigma-bounds F (s .n) e S l; t = N; tau = zero-positive f .number }
 
   -- rules W1 and W2
-  afresh : (rounds : ℕ) → Answered W (fresh W (plusZero f) (s .n) (largest f ys) rounds)
-  afresh rounds = fresh-each (Answered W) W (plusZero f) (s .n) (largest f ys) rounds
+  afresh : (rounds ensemble : ℕ) → Answered W (fresh W (plusZero f) (s .n) (largest f ys) rounds ensemble)
+  afresh rounds ensemble = fresh-each (Answered W) W (plusZero f) (s .n) (largest f ys) rounds ensemble
       (λ a. record { number = zero-positive f .number; plus = λ z. zero-positive f .sign })
-      (λ a. opens e rounds (first .scale .power) least (zero-positive f .number))
+      (λ a. opens e rounds ensemble (first .scale .power) least (zero-positive f .number))
     where
       e : ℕ
       e = ceil (largest f ys)
@@ -147,14 +147,14 @@ module _ {W : Width} (F : Fitting W) {s : State} {b : ℕ} {xs : List Float} (P 
           omega (arith, l, P .low)
 
       -- sigma is that of a run's first round over this area
-      first : Begun W F e (freshRound W (s .n) (largest f ys) 0) ys
+      first : Begun W F e (freshRound W (s .n) (largest f ys) 0 0) ys
       first = begins (largest f ys) (P .numbers .counts .some) (P .numbers .counts .few)
           (turned-length F P (h .work) ∙ P .long) (largest-small f _ ys (turned-small F P (h .work)))
           (omega (arith, least))
 
   -- rule W4: sigma is above 2^-1022, so that 2^M eps times it is at least 2^M units
   further : finishes W next ≡ false → StateNumbers W (furtherRound W next)
-  further r = opens (M + P .e - prec f) (s .rounds + 1) lowered (omega (arith, σ .few, P .low)) (tau1-held .number)
+  further r = opens (M + P .e - prec f) (s .rounds + 1) (s .ensemble) lowered (omega (arith, σ .few, P .low)) (tau1-held .number)
     where
       normal : prec f ≤ M + P .e
       normal = normal-above f (M + P .e) (σ .power) (not-finishes W next r .0)
@@ -170,7 +170,7 @@ module _ {W : Width} (F : Fitting W) {s : State} {b : ℕ} {xs : List Float} (P 
       record { number = S .0; plus = S .1 }
 
   closes : Answered W (closed W next ys)
-  closes = closed-each (Answered W) W (largest f ys) next ys (λ z. afresh (s .rounds + 1)) (λ z r. ends z) (λ z r. further r)
+  closes = closed-each (Answered W) W (largest f ys) next ys (λ z. afresh (s .rounds + 1) (s .ensemble)) (λ z r. ends z) (λ z r. further r)
 
   goes-on : StateNumbers W next
   goes-on = record {
@@ -191,5 +191,5 @@ module _ {W : Width} (F : Fitting W) {s : State} {b : ℕ} {xs : List Float} (P 
       by true = closes
       by false = goes-on
 
-pub any-state : {W : Width} (F : Fitting W) (s : State) (b : ℕ) (xs : List Float) → Floats W s xs → gated W s b xs ≡ Good → Stepped W (stepped W s b xs)
-any-state {W} F s b xs h g = subst (Stepped W) (stepped-good W s b xs (gated W s b xs) g) (passed F (admits F s b xs (h .sigma) g) h)
+pub any-state : {W : Width} (F : Fitting W) (s : State) (k b : ℕ) (xs : List Float) → Floats W s xs → gated W s k b xs ≡ Good → Stepped W (stepped W s k b xs)
+any-state {W} F s k b xs h g = subst (Stepped W) (stepped-good W s b xs (gated W s k b xs) g) (passed F (admits F s k b xs (h .sigma) g) h)

@@ -32,17 +32,21 @@ pub record AtClose (W : Width) (ps : List ℕ) (t tau : Float) (left : List Floa
   -- rule WE3, for rule W1
   pub nothing : eq (add (W .format) t tau) (plusZero (W .format)) ≡ true → allZero (W .format) left ≡ true → sumOf (W .format) ps ≡ pos 0
 
--- a run over the list ps that goes on with the state s
-pub record Going (W : Width) (ps : List ℕ) (r : Ran) (s : State) : Type 0 where
+-- a run over the list ps, under the number k, that goes on with the state s
+pub record Going (W : Width) (k : ℕ) (ps : List ℕ) (r : Ran) (s : State) : Type 0 where
   pub count : s .n ≡ length ps
+  -- rule WS12
+  pub ensemble : s .ensemble ≡ k
   -- rule DR2
   pub sound : sound W s (r .walk .area) ≡ true
   -- rule DR3; and a refusal changes nothing
-  pub accepts : (b : ℕ) → has (s .pending) b ≡ true → gated W s b (r .walk .area) ≡ Good
-  pub refuses : (b : ℕ) → has (s .pending) b ≡ false → gated W s b (r .walk .area) ≡ Refused (cond (leb (blocksOf W (s .n)) b) 6 7) 0
-  pub unchanged : (b : ℕ) → has (s .pending) b ≡ false → tried W r b ≡ r
+  pub accepts : (b : ℕ) → has (s .pending) b ≡ true → gated W s k b (r .walk .area) ≡ Good
+  pub refuses : (b : ℕ) → has (s .pending) b ≡ false → gated W s k b (r .walk .area) ≡ Refused (cond (leb (blocksOf W (s .n)) b) 6 7) 0
+  pub unchanged : (b : ℕ) → has (s .pending) b ≡ false → tried W k r b ≡ r
+  -- rule DR5: a step that names another ensemble is refused with 21, whatever block it asks for, and changes nothing
+  pub others : (j b : ℕ) → (j ≡ k → ⊥) → (gated W s j b (r .walk .area) ≡ Refused 21 0) × (tried W j r b ≡ r)
   -- rule D3: its own block and no other place; `Places` says it of each place
-  pub turns : (b : ℕ) → has (s .pending) b ≡ true → tried W r b .walk .area ≡ turned W (s .sigma) b (r .walk .area)
+  pub turns : (b : ℕ) → has (s .pending) b ≡ true → tried W k r b .walk .area ≡ turned W (s .sigma) b (r .walk .area)
   -- rule WE1
   pub exact : Each (Exact (W .format) (s .sigma)) (r .walk .area)
   pub gathers : (b : ℕ) → has (s .pending) b ≡ true → ExactSums (W .format) (s .sigma) (s .tau) (blockOf W b (r .walk .area))
@@ -50,7 +54,7 @@ pub record Going (W : Width) (ps : List ℕ) (r : Ran) (s : State) : Type 0 wher
   -- rule WE2
   pub conserves : value (W .format) (s .t) +ℤ value (W .format) (s .tau) +ℤ exactSum (map (value (W .format)) (r .walk .area)) ≡ sumOf (W .format) ps
   pub closes : (b : ℕ) → has (s .pending) b ≡ true → without (s .pending) b ≡ 0
-      → AtClose W ps (s .t) (gathered (W .format) (s .sigma) (s .tau) (blockOf W b (r .walk .area))) (tried W r b .walk .area)
+      → AtClose W ps (s .t) (gathered (W .format) (s .sigma) (s .tau) (blockOf W b (r .walk .area))) (tried W k r b .walk .area)
   -- the accepted steps are those of the rounds closed, and the blocks taken since
   pub steps : r .steps + members (s .pending) (blocksOf W (s .n)) ≡ s .rounds * blocksOf W (s .n) + blocksOf W (s .n)
   pub rounds : s .rounds ≤ W .rounds

@@ -46,9 +46,9 @@ module _ {W : Width} (F : Fitting W) (ps : List ℕ) (work : List Float) (G : Li
   zeros a = record {
     sum = zeroOf W ps;
     rounds = 0;
-    answer = ap (λ (w : Walked). w .answer) (sym (faithful-done F ps work (Done (zeroOf W ps) 0) (floats W ps) (sym (opened-zero F ps work G a)) _ 0 refl));
-    faithful = rw (zero-sum F ps work G a) (nearest-faithful (W .format) (zeroSign W ps) (pos 0) (positive (W .format)));
-    close = rw (zero-sum F ps work G a) (record { close = λ h. absurd (omega arith) });
+    answer = ap (λ (w : Walked). w .answer) (sym (faithful-done F 0 ps work (Done (zeroOf W ps) 0) (floats W ps) (sym (opened-zero F 0 ps work G a)) _ 0 refl));
+    faithful = rw (zero-sum F 0 ps work G a) (nearest-faithful (W .format) (zeroSign W ps) (pos 0) (positive (W .format)));
+    close = rw (zero-sum F 0 ps work G a) (record { close = λ h. absurd (omega arith) });
     most = omega arith;
     zero = λ m. nearest-negative (W .format) (zeroSign W ps) (pos 0) (positive (W .format));
   }
@@ -58,8 +58,8 @@ module _ {W : Width} (F : Fitting W) (ps : List ℕ) (work : List Float) (G : Li
 
   numbers : allZero (W .format) (floats W ps) ≡ false → FaithfulSum W ps (faithfulOf W ps work)
   numbers a =
-      let R = run-faithful (W .rounds) (record { e = _; count = refl; summing = opened-summing F ps work G a }) (omega arith) in
-      subst (λ (w : Walked). FaithfulSum W ps (roundsFrom W (blocksOf W (length ps)) (suc (W .rounds)) w)) (sym (opened-round F ps work G a)) (record {
+      let R = run-faithful (W .rounds) (record { e = _; count = refl; summing = opened-summing F 0 ps work G a }) (omega arith) in
+      subst (λ (w : Walked). FaithfulSum W ps (roundsFrom W (blocksOf W (length ps)) (suc (W .rounds)) w)) (sym (opened-round F 0 ps work G a)) (record {
         sum = R .sum;
         rounds = R .rounds;
         answer = R .answer;

@@ -24,9 +24,11 @@ use Rattle.kinds.specs.declared.State.{State}
 use Rattle.kinds.specs.declared.Step.{Step}
 use Rattle.kinds.specs.declared.Step.the-variants.{More, Done, Refused}
 use Rattle.kinds.specs.declared.Verdict.the-variants.{Good}
+use Rattle.kinds.specs.declared.Verdict.the-variants as verdicts
 use Rattle.sums.specs.Sums.{sumOf}
 use Rattle.extract.specs.Extract.{plusZero, gathered}
 use Rattle.sound.specs.Sound.{gated}
+use Rattle.sound.specs.GateLaws.{gated-21}
 use Rattle.rounds.specs.ClosedLaws.{tau1Of}
 use Rattle.rounds.specs.Round.{allZero, blockOf, turned, inRound, allTaken, allLeft}
 use Rattle.rounds.specs.Fitting.{Fitting}
@@ -44,7 +46,7 @@ use Rattle.runs.specs.MidRound.{mid-takes, mid-stepping, count-small}
 use Rattle.runs.specs.Conserved.{mid-conserves, finish-conserves}
 use Rattle.runs.specs.MidStep.{last-tau, all-left, mid-accepted, mid-refused}
 use Rattle.runs.specs.Runs.{Ran, heeded, tried}
-use Rattle.runs.specs.Reached.{tried-more, During, reached-refuses}
+use Rattle.runs.specs.Reached.{tried-more, tried-refused, During, reached-refuses}
 use Rattle.runs.specs.Demand3.{AtClose, Going}
 
 -- the values of floats, summed, are their units summed
@@ -69,10 +71,11 @@ sums-to f x y xs S h =
     ∙ int-difference S
 
 -- a step that the gate lets pass turns its block
-accepted-turns : (W : Width) (r : Ran) (s : State) (xs : List Float) (b : ℕ) → r .walk ≡ outcome (More s) xs → gated W s b xs ≡ Good
-    → tried W r b .walk .area ≡ turned W (s .sigma) b xs
+accepted-turns : (W : Width) (k : ℕ) (r : Ran) (s : State) (xs : List Float) (b : ℕ) → r .walk ≡ outcome (More s) xs → gated W s k b xs ≡ Good
+    → tried W k r b .walk .area ≡ turned W (s .sigma) b xs
 unfolding taken
-accepted-turns W r s xs b e g = ap (λ (q : Ran). q .walk .area) (tried-more W r b s xs e ∙ ap (heeded r) (sym (stepped-good W s b xs (gated W s b xs) g)))
+accepted-turns W k r s xs b e g =
+    ap (λ (q : Ran). q .walk .area) (tried-more W k r b s xs e ∙ ap (heeded r) (sym (stepped-good W s b xs (gated W s k b xs) g)))
     ∙ kept (taken W s b xs) refl (taken-accepted W s b xs .good)
   where
     kept : (w : Walked) → w .area ≡ turned W (s .sigma) b xs → verdictOf (w .answer) ≡ Good → heeded r w .walk .area ≡ turned W (s .sigma) b xs
@@ -80,12 +83,12 @@ accepted-turns W r s xs b e g = ap (λ (q : Ran). q .walk .area) (tried-more W r
       where
         go : (a : Step) → w .answer ≡ a → verdictOf a ≡ Good → heeded r w .walk .area ≡ turned W (s .sigma) b xs
         go (More q) i v = rw i h
-        go (Done x k) i v = rw i h
-        go (Refused k p) i v = apart (cc)
+        go (Done x n) i v = rw i h
+        go (Refused l p) i v = apart (cc)
 
-module _ {W : Width} (F : Fitting W) (ps : List ℕ) (work : List Float) where
+module _ {W : Width} (F : Fitting W) (k : ℕ) (ps : List ℕ) (work : List Float) where
   -- ---- a run that goes on
-  module _ (r : Ran) (D : During W F ps work r) where
+  module _ (r : Ran) (D : During W F k ps work r) where
     at : State
     at = inRound (D .first) (D .tau) (D .pending)
 
@@ -149,19 +152,31 @@ module _ {W : Width} (F : Fitting W) (ps : List ℕ) (work : List Float) where
         ∙ ap (λ (P : ℕ). midArea W (D .first) P (D .xs)) z
         ∙ all-left (D .summing .begun)
 
-    during : Going W ps (record { walk = outcome (More at) area; steps = r .steps }) at
+    -- a pending block is accepted by a step that names the ensemble
+    lets-pass : (b : ℕ) → has (D .pending) b ≡ true → gated W at k b area ≡ Good
+    unfolding at area
+    lets-pass b h = ap (λ (j : ℕ). gated W at j b area) (sym (D .named)) ∙ mid-accepted (D .summing .begun) (D .mid) b h
+
+    strangers : (j b : ℕ) → (j ≡ k → ⊥) → gated W at j b area ≡ verdicts.Refused 21 0
+    unfolding at area
+    strangers j b n = gated-21 W at j b area (mid-stepping (D .summing .begun) (D .mid) (D .some) .count) (λ e. n (e ∙ D .named))
+
+    during : Going W k ps (record { walk = outcome (More at) area; steps = r .steps }) at
     unfolding at area
     during = record {
       count = D .count;
+      ensemble = D .named;
       sound = stepping-sound (mid-stepping (D .summing .begun) (D .mid) (D .some));
-      accepts = λ b h. mid-accepted (D .summing .begun) (D .mid) b h;
-      refuses = λ b h. mid-refused (D .summing .begun) (D .mid) (D .some) b h;
-      turns = λ b h. accepted-turns W _ at area b refl (mid-accepted (D .summing .begun) (D .mid) b h);
-      unchanged = λ b h. reached-refuses W F ps work _ (record {
+      accepts = lets-pass;
+      refuses = λ b h. ap (λ (j : ℕ). gated W at j b area) (sym (D .named)) ∙ mid-refused (D .summing .begun) (D .mid) (D .some) b h;
+      others = λ j b n. (strangers j b n, tried-refused W j _ b at area refl 21 0 (strangers j b n));
+      turns = λ b h. accepted-turns W k _ at area b refl (lets-pass b h);
+      unchanged = λ b h. reached-refuses W F k ps work _ (record {
         e = D .e;
         first = D .first;
         xs = D .xs;
         count = D .count;
+        named = D .named;
         summing = D .summing;
         pending = D .pending;
         tau = D .tau;
@@ -176,18 +191,18 @@ module _ {W : Width} (F : Fitting W) (ps : List ℕ) (work : List Float) where
       plus = D .mid .tau-is .plus;
       conserves = kept;
       closes = λ b h z. closing _ _ (last-tau-of b h z)
-          (accepted-turns W _ at area b refl (mid-accepted (D .summing .begun) (D .mid) b h) ∙ last-area b h z);
+          (accepted-turns W k _ at area b refl (lets-pass b h) ∙ last-area b h z);
       steps = D .steps;
       rounds = begun-rounds (D .summing .begun);
     }
 
-    pub goes-on : (s : State) → r .walk .answer ≡ More s → Going W ps r s
+    pub goes-on : (s : State) → r .walk .answer ≡ More s → Going W k ps r s
     unfolding at area
     goes-on s h =
         let m : More at ≡ More s = sym (ap (λ (w : Walked). w .answer) (D .walk)) ∙ h in
         let e : at ≡ s = cc in
         let whole : record { walk = outcome (More at) area; steps = r .steps } ≡ r = λ i. record { walk = sym (D .walk) i; steps = r .steps } in
-        subst (λ (q : State). Going W ps r q) e (subst (λ (q : Ran). Going W ps q at) whole during)
+        subst (λ (q : State). Going W k ps r q) e (subst (λ (q : Ran). Going W k ps q at) whole during)
 
     pub bounded : r .steps ≤ suc (W .rounds) * blocksOf W (length ps)
     bounded =

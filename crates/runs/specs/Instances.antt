@@ -31,7 +31,7 @@ use Rattle.runs.specs.ZeroSum.{opened-minus, faithful-minus, faithful-on
 use Rattle.runs.specs.Runs.{runOf, inTurn, members}
 use Rattle.runs.specs.AnyRun.{any-run}
 use Rattle.runs.specs.Demand3.{Going, Finished}
-use Rattle.runs.specs.Demand3Laws.{run-goes, run-finishes, run-bounded, run-at-once, run-left}
+use Rattle.runs.specs.Demand3Laws.{run-goes, run-finishes, run-bounded, run-at-once, run-left, ends-alike}
 use Rattle.runs.specs.Reordering.{Summed}
 use Rattle.runs.specs.Reordered.{summed-close, summed-reordered, summed-rounds}
 
@@ -40,10 +40,10 @@ abbrev pub Accepted : Width → List ℕ → List Float → Type 0
 Accepted W ps work = ListWhen W (eqb (length work) (length ps)) true ps Good
 
 -- ---- a step over any sound state
-pub any-state-64 : (s : State) (b : ℕ) (xs : List Float) → Floats doubles s xs → gated doubles s b xs ≡ Good → Stepped doubles (stepped doubles s b xs)
+pub any-state-64 : (s : State) (k b : ℕ) (xs : List Float) → Floats doubles s xs → gated doubles s k b xs ≡ Good → Stepped doubles (stepped doubles s k b xs)
 any-state-64 = any-state doubles-fit
 
-pub any-state-32 : (s : State) (b : ℕ) (xs : List Float) → Floats singles s xs → gated singles s b xs ≡ Good → Stepped singles (stepped singles s b xs)
+pub any-state-32 : (s : State) (k b : ℕ) (xs : List Float) → Floats singles s xs → gated singles s k b xs ≡ Good → Stepped singles (stepped singles s k b xs)
 any-state-32 = any-state singles-fit
 
 -- ---- rule D2, the faithful sum
@@ -55,11 +55,11 @@ faithful-32 = faithful-promised singles-fit
 
 -- ---- rule S3: the opening and the faithful sum of nothing but -0; which zero a faithful sum is where the exact sum is zero; and no other sum is -0
 pub opened-minus-64 : (ps : List ℕ) (work : List Float) → Accepted doubles ps work → MinusZeros doubles ps
-    → opened doubles ps work ≡ outcome (Done (minusZero binary64) 0) (floats doubles ps)
+    → (k : ℕ) → opened doubles k ps work ≡ outcome (Done (minusZero binary64) 0) (floats doubles ps)
 opened-minus-64 = opened-minus doubles-fit
 
 pub opened-minus-32 : (ps : List ℕ) (work : List Float) → Accepted singles ps work → MinusZeros singles ps
-    → opened singles ps work ≡ outcome (Done (minusZero binary32) 0) (floats singles ps)
+    → (k : ℕ) → opened singles k ps work ≡ outcome (Done (minusZero binary32) 0) (floats singles ps)
 opened-minus-32 = opened-minus singles-fit
 
 pub minus-64 : (ps : List ℕ) (work : List Float) → Accepted doubles ps work → MinusZeros doubles ps
@@ -86,53 +86,66 @@ pub only-32 : (ps : List ℕ) (work : List Float) → Accepted singles ps work
     → (r : ℕ) → stepHeard singles (faithfulOf singles ps work .answer) ≡ done 0x80000000 r → MinusZeros singles ps
 only-32 = faithful-only singles-fit
 
--- ---- rule D3
-pub any-run-64 : (ps : List ℕ) (work : List Float) → Accepted doubles ps work → (π : ℕ → List ℕ)
-    → ((i : ℕ) → Perm (π i) (rising (blocksOf doubles (length ps)))) → runOf doubles ps work (inTurn π 51 0) .walk ≡ faithfulOf doubles ps work
+-- ---- rule D3, under the number e of any ensemble
+pub any-run-64 : (e : ℕ) (ps : List ℕ) (work : List Float) → Accepted doubles ps work → (π : ℕ → List ℕ)
+    → ((i : ℕ) → Perm (π i) (rising (blocksOf doubles (length ps)))) → runOf doubles e ps work (inTurn π 51 0) .walk ≡ faithfulOf doubles ps work
 any-run-64 = any-run doubles-fit
 
-pub any-run-32 : (ps : List ℕ) (work : List Float) → Accepted singles ps work → (π : ℕ → List ℕ)
-    → ((i : ℕ) → Perm (π i) (rising (blocksOf singles (length ps)))) → runOf singles ps work (inTurn π 20 0) .walk ≡ faithfulOf singles ps work
+pub any-run-32 : (e : ℕ) (ps : List ℕ) (work : List Float) → Accepted singles ps work → (π : ℕ → List ℕ)
+    → ((i : ℕ) → Perm (π i) (rising (blocksOf singles (length ps)))) → runOf singles e ps work (inTurn π 20 0) .walk ≡ faithfulOf singles ps work
 any-run-32 = any-run singles-fit
 
-module _ (ps : List ℕ) (work : List Float) (bs : List ℕ) where
-  pub goes-64 : Accepted doubles ps work → (s : State) → runOf doubles ps work bs .walk .answer ≡ More s → Going doubles ps (runOf doubles ps work bs) s
-  goes-64 G = run-goes doubles-fit ps work G bs
+module _ (e : ℕ) (ps : List ℕ) (work : List Float) (bs : List ℕ) where
+  pub goes-64 : Accepted doubles ps work → (s : State) → runOf doubles e ps work bs .walk .answer ≡ More s → Going doubles e ps (runOf doubles e ps work bs) s
+  goes-64 G = run-goes doubles-fit e ps work G bs
 
-  pub goes-32 : Accepted singles ps work → (s : State) → runOf singles ps work bs .walk .answer ≡ More s → Going singles ps (runOf singles ps work bs) s
-  goes-32 G = run-goes singles-fit ps work G bs
+  pub goes-32 : Accepted singles ps work → (s : State) → runOf singles e ps work bs .walk .answer ≡ More s → Going singles e ps (runOf singles e ps work bs) s
+  goes-32 G = run-goes singles-fit e ps work G bs
 
-  pub finishes-64 : Accepted doubles ps work → (x : Float) (k : ℕ) → runOf doubles ps work bs .walk .answer ≡ Done x k
-      → Finished doubles 2074 ps work (runOf doubles ps work bs) x k
+  pub finishes-64 : Accepted doubles ps work → (x : Float) (k : ℕ) → runOf doubles e ps work bs .walk .answer ≡ Done x k
+      → Finished doubles 2074 ps work (runOf doubles e ps work bs) x k
   unfolding doubles-fit
-  finishes-64 G = run-finishes doubles-fit ps work G bs
+  finishes-64 G = run-finishes doubles-fit e ps work G bs
 
-  pub finishes-32 : Accepted singles ps work → (x : Float) (k : ℕ) → runOf singles ps work bs .walk .answer ≡ Done x k
-      → Finished singles 249 ps work (runOf singles ps work bs) x k
+  pub finishes-32 : Accepted singles ps work → (x : Float) (k : ℕ) → runOf singles e ps work bs .walk .answer ≡ Done x k
+      → Finished singles 249 ps work (runOf singles e ps work bs) x k
   unfolding singles-fit
-  finishes-32 G = run-finishes singles-fit ps work G bs
+  finishes-32 G = run-finishes singles-fit e ps work G bs
 
-  pub bounded-64 : Accepted doubles ps work → runOf doubles ps work bs .steps ≤ 51 * blocksOf doubles (length ps)
-  bounded-64 G = run-bounded doubles-fit ps work G bs
+  pub bounded-64 : Accepted doubles ps work → runOf doubles e ps work bs .steps ≤ 51 * blocksOf doubles (length ps)
+  bounded-64 G = run-bounded doubles-fit e ps work G bs
 
-  pub bounded-32 : Accepted singles ps work → runOf singles ps work bs .steps ≤ 20 * blocksOf singles (length ps)
-  bounded-32 G = run-bounded singles-fit ps work G bs
+  pub bounded-32 : Accepted singles ps work → runOf singles e ps work bs .steps ≤ 20 * blocksOf singles (length ps)
+  bounded-32 G = run-bounded singles-fit e ps work G bs
 
-  pub at-once-64 : Accepted doubles ps work → (x : Float) (k : ℕ) → opened doubles ps work .answer ≡ Done x k → (k ≡ 0) × (runOf doubles ps work bs .steps ≡ 0)
-  at-once-64 G = run-at-once doubles-fit ps work G bs
+  pub at-once-64 : Accepted doubles ps work → (x : Float) (k : ℕ) → opened doubles e ps work .answer ≡ Done x k
+      → (k ≡ 0) × (runOf doubles e ps work bs .steps ≡ 0)
+  at-once-64 G = run-at-once doubles-fit e ps work G bs
 
-  pub at-once-32 : Accepted singles ps work → (x : Float) (k : ℕ) → opened singles ps work .answer ≡ Done x k → (k ≡ 0) × (runOf singles ps work bs .steps ≡ 0)
-  at-once-32 G = run-at-once singles-fit ps work G bs
+  pub at-once-32 : Accepted singles ps work → (x : Float) (k : ℕ) → opened singles e ps work .answer ≡ Done x k
+      → (k ≡ 0) × (runOf singles e ps work bs .steps ≡ 0)
+  at-once-32 G = run-at-once singles-fit e ps work G bs
 
-  pub left-64 : Accepted doubles ps work → (s : State) → runOf doubles ps work bs .walk .answer ≡ More s → (cs : List ℕ)
-      → runOf doubles ps work (bs ++ cs) .steps
-      ≤ runOf doubles ps work bs .steps + ((50 - s .rounds) * blocksOf doubles (length ps) + members (s .pending) (blocksOf doubles (length ps)))
-  left-64 G = run-left doubles-fit ps work G bs
+  pub left-64 : Accepted doubles ps work → (s : State) → runOf doubles e ps work bs .walk .answer ≡ More s → (cs : List ℕ)
+      → runOf doubles e ps work (bs ++ cs) .steps
+      ≤ runOf doubles e ps work bs .steps + ((50 - s .rounds) * blocksOf doubles (length ps) + members (s .pending) (blocksOf doubles (length ps)))
+  left-64 G = run-left doubles-fit e ps work G bs
 
-  pub left-32 : Accepted singles ps work → (s : State) → runOf singles ps work bs .walk .answer ≡ More s → (cs : List ℕ)
-      → runOf singles ps work (bs ++ cs) .steps
-      ≤ runOf singles ps work bs .steps + ((19 - s .rounds) * blocksOf singles (length ps) + members (s .pending) (blocksOf singles (length ps)))
-  left-32 G = run-left singles-fit ps work G bs
+  pub left-32 : Accepted singles ps work → (s : State) → runOf singles e ps work bs .walk .answer ≡ More s → (cs : List ℕ)
+      → runOf singles e ps work (bs ++ cs) .steps
+      ≤ runOf singles e ps work bs .steps + ((19 - s .rounds) * blocksOf singles (length ps) + members (s .pending) (blocksOf singles (length ps)))
+  left-32 G = run-left singles-fit e ps work G bs
+
+-- ---- rule DR5: two runs that have ended, under any two numbers
+pub ends-alike-64 : (j k : ℕ) (ps : List ℕ) (work : List Float) → Accepted doubles ps work → (bs cs : List ℕ) (x y : Float) (m n : ℕ)
+    → runOf doubles j ps work bs .walk .answer ≡ Done x m → runOf doubles k ps work cs .walk .answer ≡ Done y n
+    → runOf doubles j ps work bs .walk ≡ runOf doubles k ps work cs .walk
+ends-alike-64 = ends-alike doubles-fit
+
+pub ends-alike-32 : (j k : ℕ) (ps : List ℕ) (work : List Float) → Accepted singles ps work → (bs cs : List ℕ) (x y : Float) (m n : ℕ)
+    → runOf singles j ps work bs .walk .answer ≡ Done x m → runOf singles k ps work cs .walk .answer ≡ Done y n
+    → runOf singles j ps work bs .walk ≡ runOf singles k ps work cs .walk
+ends-alike-32 = ends-alike singles-fit
 
 -- ---- rule S8, faithful sums in any order; rule S9, how far off they are
 module _ {ps qs : List ℕ} (π : Perm ps qs) {x y : Float} {j k : ℕ} {xs ys : List Float} where

@@ -18,6 +18,7 @@ pub mod MidRound
 pub mod Conserved
 pub mod MidStep
 pub mod Reached
+pub mod Numbered
 pub mod OrderLaws
 pub mod AnyOrder
 pub mod Demand3

@@ -83,24 +83,24 @@ module _ {W : Width} {F : Fitting W} {e : ℕ} {s : State} {xs : List Float} (B 
       λ i. inRound s (gathered (W .format) (s .sigma) tau (own-numbers W (F .block) xs b (there T b h) P h (s .sigma) i)) (without P b)
 
   pub mid-accepted : {P : ℕ} {tau : Float} → Mid B P tau → (b : ℕ) → has P b ≡ true
-      → gated W (inRound s tau P) b (midArea W s P xs) ≡ Good
+      → gated W (inRound s tau P) (s .ensemble) b (midArea W s P xs) ≡ Good
   mid-accepted {P} T b h = stepping-accepted (mid-stepping B T (has-positive P b h)) b (has-below P b h (blocksOf W (s .n)) (T .inside)) h
 
   -- it isn't the last
   pub mid-goes : {P : ℕ} {tau : Float} → Mid B P tau → (b : ℕ) → has P b ≡ true → (without P b ≡ 0 → ⊥)
-      → stepped W (inRound s tau P) b (midArea W s P xs)
+      → stepped W (inRound s tau P) (s .ensemble) b (midArea W s P xs)
       ≡ outcome (More (inRound s (gathered (W .format) (s .sigma) tau (blockOf W b xs)) (without P b)))
       (midArea W s (without P b) xs)
   mid-goes {P} {tau} T b h z =
       let s = inRound s tau P in
       let work = midArea W s P xs in
-      sym (stepped-good W s b work (gated W s b work) (mid-accepted T b h))
+      sym (stepped-good W s b work (gated W s (s .ensemble) b work) (mid-accepted T b h))
       ∙ sym (taken-goes W s b work (inRound s (gathered (W .format) (s .sigma) tau (blockOf W b xs)) (without P b)) _
       (sym (step-state T b h)) (sym (own-block W (F .block) xs b (there T b h) P h (s .sigma))) z)
 
   -- it is
   pub mid-closes : {P : ℕ} {tau : Float} → Mid B P tau → (b : ℕ) → has P b ≡ true → without P b ≡ 0
-      → stepped W (inRound s tau P) b (midArea W s P xs)
+      → stepped W (inRound s tau P) (s .ensemble) b (midArea W s P xs)
       ≡ outcome (closed W (allTaken W s xs) (allLeft W s xs))
       (allLeft W s xs)
   mid-closes {P} {tau} T b h z =
@@ -109,19 +109,19 @@ module _ {W : Width} {F : Fitting W} {e : ℕ} {s : State} {xs : List Float} (B 
       let next = inRound s (gathered (W .format) (s .sigma) tau (blockOf W b xs)) (without P b) in
       let last = last-tau (rw z at (mid-takes B T b h)) in
       let area = ap (λ (Q : ℕ). midArea W s Q xs) z ∙ all-left in
-      sym (stepped-good W s b work (gated W s b work) (mid-accepted T b h))
+      sym (stepped-good W s b work (gated W s (s .ensemble) b work) (mid-accepted T b h))
       ∙ sym (taken-closes W s b work next _ (sym (step-state T b h)) (sym (own-block W (F .block) xs b (there T b h) P h (s .sigma))) _ z refl)
       ∙ (λ i. outcome (closed W (inRound s (last i) (z i)) (area i)) (area i))
 
   -- a block that isn't pending is refused with 6 or 7
   pub mid-refused : {P : ℕ} {tau : Float} → Mid B P tau → 0 < P → (b : ℕ) → has P b ≡ false
-      → gated W (inRound s tau P) b (midArea W s P xs)
+      → gated W (inRound s tau P) (s .ensemble) b (midArea W s P xs)
       ≡ Refused (cond (leb (blocksOf W (s .n)) b) 6 7) 0
   mid-refused {P} {tau} T l b h = go (leb (blocksOf W (s .n)) b) refl
     where
       I : Stepping W F e (inRound s tau P) (midArea W s P xs)
       I = mid-stepping B T l
 
-      go : (c : Bool) → leb (blocksOf W (s .n)) b ≡ c → gated W (inRound s tau P) b (midArea W s P xs) ≡ Refused (cond c 6 7) 0
-      go true i = gated-6 W (inRound s tau P) b (midArea W s P xs) (I .count) (stepping-sound I) (leb-true _ _ i)
-      go false i = gated-7 W (inRound s tau P) b (midArea W s P xs) (I .count) (stepping-sound I) (leb-false _ _ i) h
+      go : (c : Bool) → leb (blocksOf W (s .n)) b ≡ c → gated W (inRound s tau P) (s .ensemble) b (midArea W s P xs) ≡ Refused (cond c 6 7) 0
+      go true i = gated-6 W (inRound s tau P) (s .ensemble) b (midArea W s P xs) (I .count) refl (stepping-sound I) (leb-true _ _ i)
+      go false i = gated-7 W (inRound s tau P) (s .ensemble) b (midArea W s P xs) (I .count) refl (stepping-sound I) (leb-false _ _ i) h

@@ -67,15 +67,15 @@ minus-all-zero {W} {ps} M = eq-eqb (largest (W .format) (floats W ps)) 0 (none (
 abbrev pub zeroOf : Width → List ℕ → Float
 zeroOf W ps = nearestFloat (W .format) (zeroSign W ps) (pos 0)
 
-module _ {W : Width} (F : Fitting W) (ps : List ℕ) (work : List Float) (G : ListWhen W (eqb (length work) (length ps)) true ps Good) where
-  opened-is : opened W ps work ≡ outcome (fresh W (zeroOf W ps) (length ps) (largest (W .format) (floats W ps)) 0) (floats W ps)
+module _ {W : Width} (F : Fitting W) (k : ℕ) (ps : List ℕ) (work : List Float) (G : ListWhen W (eqb (length work) (length ps)) true ps Good) where
+  opened-is : opened W k ps work ≡ outcome (fresh W (zeroOf W ps) (length ps) (largest (W .format) (floats W ps)) 0 k) (floats W ps)
   opened-is =
-      ap (λ (v : Verdict). openedAfter W v ps work) (list-when W (eqb (length work) (length ps)) true ps Good .1 G)
-      ∙ sym (opened-good W ps work (floats W ps) (zeroOf W ps) _ refl refl refl)
+      ap (λ (v : Verdict). openedAfter W k v ps work) (list-when W (eqb (length work) (length ps)) true ps Good .1 G)
+      ∙ sym (opened-good W k ps work (floats W ps) (zeroOf W ps) _ refl refl refl)
 
   -- ---- every number is zero
-  pub opened-zero : allZero (W .format) (floats W ps) ≡ true → opened W ps work ≡ outcome (Done (zeroOf W ps) 0) (floats W ps)
-  opened-zero a = opened-is ∙ ap (λ (q : Step). outcome q (floats W ps)) (fresh-zero W (zeroOf W ps) (length ps) _ 0 a)
+  pub opened-zero : allZero (W .format) (floats W ps) ≡ true → opened W k ps work ≡ outcome (Done (zeroOf W ps) 0) (floats W ps)
+  opened-zero a = opened-is ∙ ap (λ (q : Step). outcome q (floats W ps)) (fresh-zero W (zeroOf W ps) (length ps) _ 0 k a)
 
   pub zero-sum : allZero (W .format) (floats W ps) ≡ true → sumOf (W .format) ps ≡ pos 0
   zero-sum a =
@@ -86,17 +86,17 @@ module _ {W : Width} (F : Fitting W) (ps : List ℕ) (work : List Float) (G : Li
 
   -- ---- the first round opens
   pub opened-round : allZero (W .format) (floats W ps) ≡ false
-      → opened W ps work ≡ outcome (More (freshRound W (length ps) (largest (W .format) (floats W ps)) 0)) (floats W ps)
-  opened-round a = opened-is ∙ ap (λ (q : Step). outcome q (floats W ps)) (fresh-round W (zeroOf W ps) (length ps) _ 0 a)
+      → opened W k ps work ≡ outcome (More (freshRound W (length ps) (largest (W .format) (floats W ps)) 0 k)) (floats W ps)
+  opened-round a = opened-is ∙ ap (λ (q : Step). outcome q (floats W ps)) (fresh-round W (zeroOf W ps) (length ps) _ 0 k a)
 
   pub opened-summing : allZero (W .format) (floats W ps) ≡ false
       → Summing W F (difference (sumOf (W .format) ps)) (ceil (largest (W .format) (floats W ps)))
-      (freshRound W (length ps) (largest (W .format) (floats W ps)) 0) (floats W ps)
+      (freshRound W (length ps) (largest (W .format) (floats W ps)) 0 k) (floats W ps)
   opened-summing a =
       let f = W .format in
       let xs = floats W ps in
-      let B : Begun W F (ceil (largest f xs)) (freshRound W (length ps) (largest f xs) 0) xs =
-      opens (list-allowed G) F (list-passed G .few) a in
+      let B : Begun W F (ceil (largest f xs)) (freshRound W (length ps) (largest f xs) 0 k) xs =
+      opens (list-allowed G) F k (list-passed G .few) a in
       let O : units.Opened (prec f) (exponentOf (length ps)) (length (wholes f xs)) (ceil (largest f xs)) (total (wholes f xs)) (nat 0) (wholes f xs) =
       turns.opens (all-ready (B .scale) xs (B .work)) in
       record {

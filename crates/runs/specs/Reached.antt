@@ -21,6 +21,7 @@ use Rattle.kinds.specs.declared.State.{State}
 use Rattle.kinds.specs.declared.Step.{Step}
 use Rattle.kinds.specs.declared.Step.the-variants.{More, Done, Refused}
 use Rattle.kinds.specs.declared.Verdict.the-variants.{Good}
+use Rattle.kinds.specs.declared.Verdict.the-variants as verdicts
 use Rattle.judge.specs.Judge.{floats}
 use Rattle.judge.specs.Table.{ListWhen}
 use Rattle.sums.specs.Sums.{sumOf}
@@ -28,7 +29,7 @@ use Rattle.extract.specs.Extract.{gathered}
 use Rattle.rounds.specs.Round.{allZero, blockOf, inRound, allTaken, allLeft, closed}
 use Rattle.rounds.specs.Fitting.{Fitting}
 use Rattle.rounds.specs.Begun.{begun-rounds}
-use Rattle.walk.specs.Walk.{Walked, opened, roundsFrom, stepped, faithfulOf}
+use Rattle.walk.specs.Walk.{Walked, opened, roundsFrom, stepped, undividedOf}
 use Rattle.walk.specs.Undivided.{faithful-done}
 use Rattle.sound.specs.Sound.{gated}
 use Rattle.walk.specs.StepLaws.{stepped-refused}
@@ -42,17 +43,28 @@ use Rattle.runs.specs.MidStep.{mid-goes, mid-closes, mid-refused}
 use Rattle.runs.specs.Runs.{Ran, heeded, tried, members}
 use Rattle.runs.specs.MembersLaws.{members-none, members-full, members-without}
 
-pub tried-more : (W : Width) (r : Ran) (b : ℕ) (s : State) (xs : List Float) → r .walk ≡ outcome (More s) xs → tried W r b ≡ heeded r (stepped W s b xs)
-tried-more W r b s xs e = rw e
+pub tried-more : (W : Width) (k : ℕ) (r : Ran) (b : ℕ) (s : State) (xs : List Float) → r .walk ≡ outcome (More s) xs
+    → tried W k r b ≡ heeded r (stepped W s k b xs)
+tried-more W k r b s xs e = rw e
 
-module _ (W : Width) (F : Fitting W) (ps : List ℕ) (work : List Float) where
+-- a refused step leaves a run as it is
+pub tried-refused : (W : Width) (k : ℕ) (r : Ran) (b : ℕ) (s : State) (xs : List Float) → r .walk ≡ outcome (More s) xs → (l p : ℕ)
+    → gated W s k b xs ≡ verdicts.Refused l p → tried W k r b ≡ r
+tried-refused W k r b s xs w l p g =
+    let same : xs ≡ r .walk .area = sym (ap (λ (w : Walked). w .area) w) in
+    tried-more W k r b s xs w
+    ∙ ap (heeded r) (sym (stepped-refused W s b xs (gated W s k b xs) l p g))
+    ∙ (λ i. record { walk = outcome (r .walk .answer) (same i); steps = r .steps })
+
+module _ (W : Width) (F : Fitting W) (k : ℕ) (ps : List ℕ) (work : List Float) where
   -- in a round of the walk over the list: the state that opened it and the area then, whose numbers sum to S, what of it was taken since, and that what
-  -- follows from its opening is the undivided call
+  -- follows from its opening is the undivided walk under k
   pub record During (r : Ran) : Type 0 where
     pub e : ℕ
     pub first : State
     pub xs : List Float
     pub count : first .n ≡ length ps
+    pub named : first .ensemble ≡ k
     pub summing : Summing W F (difference (sumOf (W .format) ps)) e first xs
     pub pending : ℕ
     pub tau : Float
@@ -60,14 +72,14 @@ module _ (W : Width) (F : Fitting W) (ps : List ℕ) (work : List Float) where
     pub some : 0 < pending
     pub walk : r .walk ≡ outcome (More (inRound first tau pending)) (midArea W first pending xs)
     pub steps : r .steps + members pending (blocksOf W (first .n)) ≡ first .rounds * blocksOf W (first .n) + blocksOf W (first .n)
-    pub rest : roundsFrom W (blocksOf W (length ps)) (suc (W .rounds) - first .rounds) (outcome (More first) xs) ≡ faithfulOf W ps work
+    pub rest : roundsFrom W (blocksOf W (length ps)) (suc (W .rounds) - first .rounds) (outcome (More first) xs) ≡ undividedOf W k ps work
 
-  -- ended, as the undivided call does
+  -- ended, as the undivided walk under k does
   pub record Over (r : Ran) : Type 0 where
     pub sum : Float
     pub rounds : ℕ
     pub answer : r .walk .answer ≡ Done sum rounds
-    pub undivided : r .walk ≡ faithfulOf W ps work
+    pub undivided : r .walk ≡ undividedOf W k ps work
     pub steps : r .steps ≡ rounds * blocksOf W (length ps)
     pub lowered : (j : ℕ) → rounds ≡ suc j → j * (prec (W .format) - exponentOf (length ps)) ≤ F .top
 
@@ -75,15 +87,16 @@ module _ (W : Width) (F : Fitting W) (ps : List ℕ) (work : List Float) where
   Reached r = During r ⊎ Over r
 
   -- ---- as a round opens
-  opening : {e : ℕ} {s : State} {xs : List Float} → s .n ≡ length ps → (A : Summing W F (difference (sumOf (W .format) ps)) e s xs)
+  opening : {e : ℕ} {s : State} {xs : List Float} → s .n ≡ length ps → s .ensemble ≡ k → (A : Summing W F (difference (sumOf (W .format) ps)) e s xs)
       (r : Ran) → r .walk ≡ outcome (More s) xs → r .steps ≡ s .rounds * blocksOf W (s .n)
-      → roundsFrom W (blocksOf W (length ps)) (suc (W .rounds) - s .rounds) (outcome (More s) xs) ≡ faithfulOf W ps work
+      → roundsFrom W (blocksOf W (length ps)) (suc (W .rounds) - s .rounds) (outcome (More s) xs) ≡ undividedOf W k ps work
       → During r
-  opening {e} {s} {xs} n A r w c h = record {
+  opening {e} {s} {xs} n m A r w c h = record {
     e = e;
     first = s;
     xs = xs;
     count = n;
+    named = m;
     summing = A;
     pending = s .pending;
     tau = s .tau;
@@ -99,21 +112,25 @@ module _ (W : Width) (F : Fitting W) (ps : List ℕ) (work : List Float) where
     B : ℕ
     B = blocksOf W (D .first .n)
 
-    trying : tried W r b ≡ heeded r (stepped W (inRound (D .first) (D .tau) (D .pending)) b (midArea W (D .first) (D .pending) (D .xs)))
-    trying = tried-more W r b (inRound (D .first) (D .tau) (D .pending)) (midArea W (D .first) (D .pending) (D .xs)) (D .walk)
+    trying : tried W k r b
+        ≡ heeded r (stepped W (inRound (D .first) (D .tau) (D .pending)) (D .first .ensemble) b (midArea W (D .first) (D .pending) (D .xs)))
+    trying =
+        tried-more W k r b (inRound (D .first) (D .tau) (D .pending)) (midArea W (D .first) (D .pending) (D .xs)) (D .walk)
+        ∙ (λ i. heeded r (stepped W (inRound (D .first) (D .tau) (D .pending)) (sym (D .named) i) b (midArea W (D .first) (D .pending) (D .xs))))
 
     fewer : members (without (D .pending) b) B + 1 ≡ members (D .pending) B
     unfolding B
     fewer = members-without (D .pending) b B h (has-below (D .pending) b h B (D .mid .inside))
 
     -- not the last of the round
-    goes-on : (without (D .pending) b ≡ 0 → ⊥) → During (tried W r b)
+    goes-on : (without (D .pending) b ≡ 0 → ⊥) → During (tried W k r b)
     unfolding B
     goes-on z = subst During (sym (trying ∙ ap (heeded r) (mid-goes (D .summing .begun) (D .mid) b h z))) (record {
       e = D .e;
       first = D .first;
       xs = D .xs;
       count = D .count;
+      named = D .named;
       summing = D .summing;
       pending = without (D .pending) b;
       tau = gathered (W .format) (D .first .sigma) (D .tau) (blockOf W b (D .xs));
@@ -128,15 +145,15 @@ module _ (W : Width) (F : Fitting W) (ps : List ℕ) (work : List Float) where
     running : Running W F (length ps) (D .first) (D .xs)
     running = record { e = D .e; count = D .count; begun = D .summing .begun }
 
-    k : ℕ
-    k = W .rounds - D .first .rounds
+    left-over : ℕ
+    left-over = W .rounds - D .first .rounds
 
-    fuel : suc (W .rounds) - D .first .rounds ≡ suc k
-    unfolding k
+    fuel : suc (W .rounds) - D .first .rounds ≡ suc left-over
+    unfolding left-over
     fuel = omega (arith, begun-rounds (D .summing .begun))
 
-    closes : without (D .pending) b ≡ 0 → Reached (tried W r b)
-    unfolding B k
+    closes : without (D .pending) b ≡ 0 → Reached (tried W k r b)
+    unfolding B left-over
     closes z = subst Reached (sym (trying ∙ ap (heeded r) (mid-closes (D .summing .begun) (D .mid) b h z))) (go (sums-close (D .summing)) refl)
       where
         s : State
@@ -149,7 +166,7 @@ module _ (W : Width) (F : Fitting W) (ps : List ℕ) (work : List Float) where
         walked : ℕ → Walked → Walked
         walked j w = roundsFrom W (blocksOf W (length ps)) j w
 
-        again : walked (suc k) (outcome (More s) (D .xs)) ≡ faithfulOf W ps work
+        again : walked (suc left-over) (outcome (More s) (D .xs)) ≡ undividedOf W k ps work
         again = ap (λ (j : ℕ). walked j (outcome (More s) (D .xs))) (sym fuel) ∙ D .rest
 
         steps : r .steps + 1 ≡ (s .rounds + 1) * B
@@ -163,67 +180,65 @@ module _ (W : Width) (F : Fitting W) (ps : List ℕ) (work : List Float) where
           sum = x;
           rounds = s .rounds + 1;
           answer = refl;
-          undivided = run-ends running k x (s .rounds + 1) e ∙ again;
+          undivided = run-ends running left-over x (s .rounds + 1) e ∙ again;
           steps = steps ∙ ap (λ (n : ℕ). (s .rounds + 1) * blocksOf W n) (D .count);
           lowered = λ j i. let e : j ≡ s .rounds = omega arith in rw (e, ← (D .count)) (omega (arith, D .summing .begun .lowered));
         })
-        go (goes e' next same more A) e =
-            let j : suc (W .rounds) - next .rounds ≡ k = omega (arith, more) in
-            inl (opening (same ∙ D .count) A _ refl (steps ∙ (λ i. sym more i * blocksOf W (sym same i)))
-            (ap (λ (j : ℕ). walked j (outcome (More next) left)) j ∙ sym (run-goes running k next e) ∙ again))
+        go (goes e' next same named more A) e =
+            let j : suc (W .rounds) - next .rounds ≡ left-over = omega (arith, more) in
+            inl (opening (same ∙ D .count) (named ∙ D .named) A _ refl (steps ∙ (λ i. sym more i * blocksOf W (sym same i)))
+            (ap (λ (j : ℕ). walked j (outcome (More next) left)) j ∙ sym (run-goes running left-over next e) ∙ again))
 
-    pub reached-accepts : Reached (tried W r b)
+    pub reached-accepts : Reached (tried W k r b)
     reached-accepts = go (eqb (without (D .pending) b) 0) refl
       where
-        go : (c : Bool) → eqb (without (D .pending) b) 0 ≡ c → Reached (tried W r b)
+        go : (c : Bool) → eqb (without (D .pending) b) 0 ≡ c → Reached (tried W k r b)
         go true e = closes (eqb-true _ 0 e)
         go false e = inl (goes-on (eqb-false _ 0 e))
 
   -- ---- a step at any other block leaves the run as it is
-  pub reached-refuses : (r : Ran) (D : During r) (b : ℕ) → has (D .pending) b ≡ false → tried W r b ≡ r
+  pub reached-refuses : (r : Ran) (D : During r) (b : ℕ) → has (D .pending) b ≡ false → tried W k r b ≡ r
   reached-refuses r D b h =
       let s = inRound (D .first) (D .tau) (D .pending) in
       let area = midArea W (D .first) (D .pending) (D .xs) in
-      let e : stepped W s b area ≡ outcome (Refused (cond (leb (blocksOf W (s .n)) b) 6 7) 0) area =
-      sym (stepped-refused W s b area (gated W s b area) _ _ (mid-refused (D .summing .begun) (D .mid) (D .some) b h)) in
-      let same : area ≡ r .walk .area = sym (ap (λ (w : Walked). w .area) (D .walk)) in
-      tried-more W r b s area (D .walk) ∙ ap (heeded r) e ∙ (λ i. record { walk = outcome (r .walk .answer) (same i); steps = r .steps })
+      tried-refused W k r b s area (D .walk) _ _
+      (ap (λ (j : ℕ). gated W s j b area) (sym (D .named)) ∙ mid-refused (D .summing .begun) (D .mid) (D .some) b h)
 
-  pub reached-step : (r : Ran) → Reached r → (b : ℕ) → Reached (tried W r b)
+  pub reached-step : (r : Ran) → Reached r → (b : ℕ) → Reached (tried W k r b)
   reached-step r (inl D) b = go (has (D .pending) b) refl
     where
-      go : (c : Bool) → has (D .pending) b ≡ c → Reached (tried W r b)
+      go : (c : Bool) → has (D .pending) b ≡ c → Reached (tried W k r b)
       go true h = reached-accepts r D b h
       go false h = inl (rw (reached-refuses r D b h) D)
   reached-step r (inr O) b = inr (rw still O)
     where
-      still : tried W r b ≡ r
+      still : tried W k r b ≡ r
       still = rw (O .answer)
 
-  pub reached-run : (bs : List ℕ) (r : Ran) → Reached r → Reached (foldl (tried W) r bs)
+  pub reached-run : (bs : List ℕ) (r : Ran) → Reached r → Reached (foldl (tried W k) r bs)
   reached-run [] r h = h
-  reached-run (b ∷ bs) r h = reached-run bs (tried W r b) (reached-step r h b)
+  reached-run (b ∷ bs) r h = reached-run bs (tried W k r b) (reached-step r h b)
 
   -- ---- from the opening of an accepted list
-  pub reached-opens : ListWhen W (eqb (length work) (length ps)) true ps Good → Reached (record { walk = opened W ps work; steps = 0 })
+  pub reached-opens : ListWhen W (eqb (length work) (length ps)) true ps Good → Reached (record { walk = opened W k ps work; steps = 0 })
   reached-opens G = go (allZero (W .format) (floats W ps)) refl
     where
       start : Ran
-      start = record { walk = opened W ps work; steps = 0 }
+      start = record { walk = opened W k ps work; steps = 0 }
 
       go : (b : Bool) → allZero (W .format) (floats W ps) ≡ b → Reached start
       go true a =
-          let e = opened-zero F ps work G a in
+          let e = opened-zero F k ps work G a in
           inr (record {
             sum = zeroOf W ps;
             rounds = 0;
             answer = ap (λ (w : Walked). w .answer) e;
-            undivided = e ∙ faithful-done F ps work (Done (zeroOf W ps) 0) (floats W ps) (sym e) _ 0 refl;
+            undivided = e ∙ faithful-done F k ps work (Done (zeroOf W ps) 0) (floats W ps) (sym e) _ 0 refl;
             steps = sym (zero-mul (blocksOf W (length ps)));
             lowered = λ j i. absurd (omega arith);
           })
       go false a =
           let z : suc (W .rounds) - 0 ≡ suc (W .rounds) = omega arith in
-          let e = opened-round F ps work G a in
-          inl (opening refl (opened-summing F ps work G a) start e (sym (zero-mul (blocksOf W (length ps))))
+          let e = opened-round F k ps work G a in
+          inl (opening refl refl (opened-summing F k ps work G a) start e (sym (zero-mul (blocksOf W (length ps))))
           (λ i. roundsFrom W (blocksOf W (length ps)) (z i) (sym e i)))

@@ -44,9 +44,9 @@ module _ {W : Width} (F : Fitting W) (ps : List ℕ) (work : List Float) where
   Accepted = ListWhen W (eqb (length work) (length ps)) true ps verdicts.Good
 
   -- a run over a refused list is at its refusal all along
-  stuck : (k p : ℕ) (r : Ran) (bs : List ℕ) → r .walk .answer ≡ Refused k p → foldl (tried W) r bs .walk .answer ≡ Refused k p
-  stuck k p r [] e = e
-  stuck k p r (b ∷ bs) e = stuck k p (tried W r b) bs (rw e)
+  stuck : (e k p : ℕ) (r : Ran) (bs : List ℕ) → r .walk .answer ≡ Refused k p → foldl (tried W e) r bs .walk .answer ≡ Refused k p
+  stuck e k p r [] h = h
+  stuck e k p r (b ∷ bs) h = stuck e k p (tried W e r b) bs (rw h)
 
   -- where the list is refused, so is what is heard of its walk
   accepted : (w : Walked) → ((k p : ℕ) → judged W (eqb (length work) (length ps)) true ps ≡ verdicts.Refused k p → w .answer ≡ Refused k p)
@@ -59,10 +59,10 @@ module _ {W : Width} (F : Fitting W) (ps : List ℕ) (work : List Float) where
 
   call-accepted : {x : Float} {k : ℕ} → faithfulOf W ps work .answer ≡ Done x k → Accepted
   call-accepted = accepted (faithfulOf W ps work)
-      (λ k p g. sym (ap answerOf (faithful-refused F ps work (Refused k p) work (opened-refused W _ k p ps work g) k p refl)))
+      (λ k p g. sym (ap answerOf (faithful-refused F 0 ps work (Refused k p) work (opened-refused W 0 _ k p ps work g) k p refl)))
 
-  run-accepted : (bs : List ℕ) {x : Float} {k : ℕ} → runOf W ps work bs .walk .answer ≡ Done x k → Accepted
-  run-accepted bs = accepted (runOf W ps work bs .walk) (λ k p g. stuck k p _ bs (sym (ap answerOf (opened-refused W _ k p ps work g))))
+  run-accepted : (e : ℕ) (bs : List ℕ) {x : Float} {k : ℕ} → runOf W e ps work bs .walk .answer ≡ Done x k → Accepted
+  run-accepted e bs = accepted (runOf W e ps work bs .walk) (λ k p g. stuck e k p _ bs (sym (ap answerOf (opened-refused W e _ k p ps work g))))
 
 -- ---- each walk is one of the undivided call over an accepted list
 record Undivided (W : Width) (ps : List ℕ) (x : Float) (k : ℕ) (xs : List Float) : Type 0 where
@@ -73,9 +73,9 @@ record Undivided (W : Width) (ps : List ℕ) (x : Float) (k : ℕ) (xs : List Fl
 module _ {W : Width} (F : Fitting W) {ps : List ℕ} {x : Float} {k : ℕ} {xs : List Float} where
   call : Summed W ps x k xs → Undivided W ps x k xs
   call (undivided work e) = record { work = work; accepted = call-accepted F ps work (ap answerOf e); is = e }
-  call (by-blocks work bs e) =
-      let G = run-accepted F ps work bs (ap answerOf e) in
-      record { work = work; accepted = G; is = sym (run-finishes F ps work G bs x k (ap answerOf e) .undivided) ∙ e }
+  call (by-blocks j work bs e) =
+      let G = run-accepted F ps work j bs (ap answerOf e) in
+      record { work = work; accepted = G; is = sym (run-finishes F j ps work G bs x k (ap answerOf e) .undivided) ∙ e }
 
   module _ (s : Summed W ps x k xs) where
     U : Undivided W ps x k xs

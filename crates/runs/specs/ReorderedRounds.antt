@@ -86,7 +86,7 @@ closes-alike W mu s xs ys = go (eq (tau1Of W s) (plusZero (W .format))) (eqb mu 
 
     at : List Float → Bool → Bool → Bool → Step
     at zs a b c =
-        cond a (cond b (Done (plusZero f) (s .rounds + 1)) (More (freshRound W (s .n) mu (s .rounds + 1))))
+        cond a (cond b (Done (plusZero f) (s .rounds + 1)) (More (freshRound W (s .n) mu (s .rounds + 1) (s .ensemble))))
         (cond c (Done (finished f (tau1Of W s) (s .t) (s .tau) zs) (s .rounds + 1)) (More (furtherRound W s)))
 
     go : (a b c : Bool) → Closes (at xs a b c) (at ys a b c)
@@ -145,16 +145,16 @@ module _ {W : Width} (F : Fitting W) {ps qs : List ℕ} (π : Perm ps qs) (work 
           → SameRounds (faithfulOf W ps work) (faithfulOf W qs room)
       go true a e =
           rw (
-            opened-zero F ps work G a,
-            opened-zero F qs room H (e ∙ a),
+            opened-zero F 0 ps work G a,
+            opened-zero F 0 qs room H (e ∙ a),
             run-done W (blocksOf W (length ps)) (suc (W .rounds)) _ 0 (floats W ps),
             run-done W (blocksOf W (length qs)) (suc (W .rounds)) _ 0 (floats W qs),
           )
           (ended _ _ 0 numbers)
       go false a e =
-          let R : Running W F (length ps) _ _ = record { e = _; count = refl; begun = opened-summing F ps work G a .begun } in
-          let Q : Running W F (length qs) _ _ = record { e = _; count = refl; begun = opened-summing F qs room H (e ∙ a) .begun } in
-          rw (opened-round F ps work G a, opened-round F qs room H (e ∙ a), ← (length-reordered π), ← mu-same)
+          let R : Running W F (length ps) _ _ = record { e = _; count = refl; begun = opened-summing F 0 ps work G a .begun } in
+          let Q : Running W F (length qs) _ _ = record { e = _; count = refl; begun = opened-summing F 0 qs room H (e ∙ a) .begun } in
+          rw (opened-round F 0 ps work G a, opened-round F 0 qs room H (e ∙ a), ← (length-reordered π), ← mu-same)
           (rounds-alike (suc (W .rounds)) R (rw (← (length-reordered π), ← mu-same) at Q) numbers)
 
 -- what two walks that have ended have in common

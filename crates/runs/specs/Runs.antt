@@ -1,8 +1,9 @@
--- Rule DR1, a run: an opening, then steps at blocks in any order, each with the state and the work area that the opening or the last accepted step left;
--- refused steps may stand between. Definitions only.
+-- Rule DR1, a run: an opening under the number of an ensemble, then steps at blocks in any order that name it, each with the state and the work area that the
+-- opening or the last accepted step left; refused steps may stand between. Definitions only.
 use mathlib.Core.Bool.{cond}
-use mathlib.Core.List.{List, [], _++_, foldl}
+use mathlib.Core.List.{List, [], _∷_, _++_, foldl}
 use Prim.Native.Nat.{ℕ, zero, suc, _+_}
+use lib.Dec.{eqb}
 use lib.Ieee.{Float}
 use Rattle.lists.specs.Bitset.{has}
 use Rattle.kinds.specs.Limits.{Width}
@@ -25,16 +26,28 @@ heeded r w = by (w .answer)
     by (Done x k) = record { walk = w; steps = r .steps + 1 }
     by (Refused k p) = record { walk = outcome (r .walk .answer) (w .area); steps = r .steps }
 
-abbrev pub tried : Width → Ran → ℕ → Ran
-tried W r b = by (r .walk .answer)
+abbrev pub tried : Width → ℕ → Ran → ℕ → Ran
+tried W k r b = by (r .walk .answer)
   where
     by : Step → Ran
-    by (More s) = heeded r (stepped W s b (r .walk .area))
-    by (Done x k) = r
-    by (Refused k p) = r
+    by (More s) = heeded r (stepped W s k b (r .walk .area))
+    by (Done x n) = r
+    by (Refused l p) = r
 
-abbrev pub runOf : Width → List ℕ → List Float → List ℕ → Ran
-runOf W ps work bs = foldl (tried W) (record { walk = opened W ps work; steps = 0 }) bs
+abbrev pub runOf : Width → ℕ → List ℕ → List Float → List ℕ → Ran
+runOf W k ps work bs = foldl (tried W k) (record { walk = opened W k ps work; steps = 0 }) bs
+
+-- rule DR5: steps that name any ensemble, and of those the blocks of the ones that name k
+pub record Asked : Type 0 where
+  pub named : ℕ
+  pub block : ℕ
+
+abbrev pub asked : Width → Ran → Asked → Ran
+asked W r a = tried W (a .named) r (a .block)
+
+unfoldable pub own : ℕ → List Asked → List ℕ
+own k [] = []
+own k (a ∷ rest) = cond (eqb (a .named) k) (a .block ∷ own k rest) (own k rest)
 
 -- how many of the numbers below count are in a set
 unfoldable pub members : ℕ → ℕ → ℕ

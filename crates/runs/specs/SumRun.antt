@@ -30,16 +30,16 @@ use Rattle.runs.specs.Summing.{Summing, finished-units, finished-plus, s
 pub data SumNext (W : Width) (F : Fitting W) (S : Whole) (s : State) (ys : List Float) : Step → Type 0 where
   ends : (x : Float) → Number (W .format) x → Faithful (prec (W .format)) (whole (W .format) x) S → (magnitude (W .format) x ≡ 0 → negative x ≡ false)
       → SumNext W F S s ys (Done x (s .rounds + 1))
-  goes : (e : ℕ) (s' : State) → s' .n ≡ s .n → s' .rounds ≡ s .rounds + 1 → Summing W F S e s' ys → SumNext W F S s ys (More s')
+  goes : (e : ℕ) (s' : State) → s' .n ≡ s .n → s' .ensemble ≡ s .ensemble → s' .rounds ≡ s .rounds + 1 → Summing W F S e s' ys → SumNext W F S s ys (More s')
 
 module _ {W : Width} {F : Fitting W} {S : Whole} {e : ℕ} {s : State} {xs : List Float} (A : Summing W F S e s xs) where
   pub sums-close : SumNext W F S s (allLeft W s xs) (closedBy W (largest (W .format) (allLeft W s xs)) (allTaken W s xs) (allLeft W s xs))
   sums-close =
       let P = SumNext W F S s (allLeft W s xs) in
       closed-each P W (largest (W .format) (allLeft W s xs)) (allTaken W s xs) (allLeft W s xs)
-      (λ z. fresh-each P W _ (s .n) _ _ (λ a. ends _ (zero-positive f .number) (nothing z a) (λ m. zero-positive f .sign))
-      (λ a. goes _ _ refl refl (sums-restart A z a)))
-      (λ z r. ends _ (finished-units A .0) (sums-finish A r) (finished-plus A z)) (λ z r. goes _ _ refl refl (sums-further A r))
+      (λ z. fresh-each P W _ (s .n) _ _ _ (λ a. ends _ (zero-positive f .number) (nothing z a) (λ m. zero-positive f .sign))
+      (λ a. goes _ _ refl refl refl (sums-restart A z a)))
+      (λ z r. ends _ (finished-units A .0) (sums-finish A r) (finished-plus A z)) (λ z r. goes _ _ refl refl refl (sums-further A r))
     where
       f : Format
       f = W .format
@@ -74,7 +74,7 @@ module _ {W : Width} {F : Fitting W} {S : Whole} {n : ℕ} where
         go : {q : Step} → SumNext W F S s (allLeft W s xs) q → q ≡ More s'
             → SumRunning W F S n s' (allLeft W s xs) × (s' .rounds ≡ s .rounds + 1)
         go (ends x N G P) h = apart (cc)
-        go (goes e next same more B) h =
+        go (goes e next same named more B) h =
             let z : next ≡ s' = cc in
             let r : SumRunning W F S n next (allLeft W s xs) = record { e = e; count = same ∙ A .count; summing = B } in
             subst (λ (q : State). SumRunning W F S n q (allLeft W s xs) × (q .rounds ≡ s .rounds + 1)) z (r, more)
@@ -99,7 +99,7 @@ module _ {W : Width} {F : Fitting W} {S : Whole} {n : ℕ} where
               faithful = rw v at G;
               plus = rw v at P;
             }
-        go (goes e next same more B) h = apart (cc)
+        go (goes e next same named more B) h = apart (cc)
 
     closing : (k : ℕ) → ((s' : State) → closed W (allTaken W s xs) (allLeft W s xs) ≡ More s'
         → Faithfully W S (roundsFrom W (blocksOf W n) k (outcome (More s') (allLeft W s xs))))

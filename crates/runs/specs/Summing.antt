@@ -110,7 +110,7 @@ module _ {W : Width} {F : Fitting W} {S : Whole} {e : ℕ} {s : State} {xs : Lis
   -- ---- rule W2: what is left sums to S
   pub sums-restart : eq (tau1Of W (allTaken W s xs)) (plusZero (W .format)) ≡ true → allZero (W .format) (allLeft W s xs) ≡ false
       → Summing W F S (ceil (largest (W .format) (allLeft W s xs)))
-      (freshRound W (s .n) (largest (W .format) (allLeft W s xs)) (s .rounds + 1)) (allLeft W s xs)
+      (freshRound W (s .n) (largest (W .format) (allLeft W s xs)) (s .rounds + 1) (s .ensemble)) (allLeft W s xs)
   sums-restart z a = record {
     begun = restarts (A .begun) a;
     opened = rw (zero-whole f) (close-restart (prec f) (exponentOf (s .n)) (s .n) two half few closes (ceil (largest f ys)) (next-zero z)

@@ -38,16 +38,16 @@ module _ {W : Width} (F : Fitting W) (ps : List ℕ) (work : List Float) (G : Li
     is-minus : zeroOf W ps ≡ minusZero (W .format)
     is-minus = ap (λ (z : Bool). nearestFloat (W .format) z (pos 0)) (zero-sign W ps .1 M) ∙ minus-nearest (W .format)
 
-    pub opened-minus : opened W ps work ≡ outcome (Done (minusZero (W .format)) 0) (floats W ps)
-    opened-minus = opened-zero F ps work G (minus-all-zero M) ∙ ap (λ (x : Float). outcome (Done x 0) (floats W ps)) is-minus
+    pub opened-minus : (k : ℕ) → opened W k ps work ≡ outcome (Done (minusZero (W .format)) 0) (floats W ps)
+    opened-minus k = opened-zero F k ps work G (minus-all-zero M) ∙ ap (λ (x : Float). outcome (Done x 0) (floats W ps)) is-minus
 
     pub faithful-minus : faithfulOf W ps work ≡ outcome (Done (minusZero (W .format)) 0) (floats W ps)
-    faithful-minus = sym (faithful-done F ps work (Done (minusZero (W .format)) 0) (floats W ps) (sym opened-minus) _ 0 refl)
+    faithful-minus = sym (faithful-done F 0 ps work (Done (minusZero (W .format)) 0) (floats W ps) (sym (opened-minus 0)) _ 0 refl)
 
   -- ---- nothing but zeros: which of the two, after no round
-  pub opened-zeros : allZero (W .format) (floats W ps) ≡ true → {p : ℕ} → ZeroWhen W ps p → stepHeard W (opened W ps work .answer) ≡ done p 0
-  opened-zeros a {p} Z =
-      ap (λ (w : Walked). stepHeard W (w .answer)) (opened-zero F ps work G a) ∙ ap (λ (b : ℕ). done b 0) (zero-when W ps p .1 Z)
+  pub opened-zeros : allZero (W .format) (floats W ps) ≡ true → (k : ℕ) {p : ℕ} → ZeroWhen W ps p → stepHeard W (opened W k ps work .answer) ≡ done p 0
+  opened-zeros a k {p} Z =
+      ap (λ (w : Walked). stepHeard W (w .answer)) (opened-zero F k ps work G a) ∙ ap (λ (b : ℕ). done b 0) (zero-when W ps p .1 Z)
 
   promised : FaithfulSum W ps (faithfulOf W ps work)
   promised = faithful-promised F ps work G

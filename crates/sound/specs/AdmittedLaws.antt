@@ -50,8 +50,8 @@ all-within W most (x ∷ xs) h = go (atMost W most x) refl h (all-within W most 
 
 -- 2^top is the largest magnitude in units, and the largest sigma is a float
 pub admitted : (W : Width) (top : ℕ) → sizeOf W (W .magnitude) ≡ 2 ^ top → ((n : ℕ) → n ≤ W .length → exponentOf n + top < powers (W .format))
-    → (s : State) (b : ℕ) (xs : List Float) → T (fits (W .format) (s .sigma)) → gated W s b xs ≡ Good → Admitted W top s b xs
-admitted W top is room s b xs fit h = record {
+    → (s : State) (k b : ℕ) (xs : List Float) → T (fits (W .format) (s .sigma)) → gated W s k b xs ≡ Good → Admitted W top s b xs
+admitted W top is room s j b xs fit h = record {
   long = O .long;
   numbers = N;
   e = k - exponentOf (s .n);
@@ -63,8 +63,8 @@ admitted W top is room s b xs fit h = record {
   pending = O .pending;
 }
   where
-    O : Open W s b xs
-    O = gated-open W s b xs h
+    O : Open W s j b xs
+    O = gated-open W s j b xs h
 
     S : Numbers W s × (soundPending W s ≡ true) × (badPlace W s xs ≡ length xs)
     S = sound-holds W top is s xs (O .sound)

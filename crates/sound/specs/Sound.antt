@@ -48,13 +48,14 @@ badPlace W s (x ∷ xs) = cond (soundPlace W s x) (badPlace W s xs + 1) 0
 unfoldable pub sound : Width → State → List Float → Bool
 sound W s xs = soundNumbers W s && soundPending W s && eqb (badPlace W s xs) (length xs)
 
--- ---- rule O2
-unfoldable pub gated : Width → State → ℕ → List Float → Verdict
-gated W s b work =
+-- ---- rule O2, for a step that names the ensemble k
+unfoldable pub gated : Width → State → ℕ → ℕ → List Float → Verdict
+gated W s k b work =
     cond (not (eqb (length work) (s .n))) (Refused 4 0)
+    (cond (not (eqb k (s .ensemble))) (Refused 21 0)
     (cond (not (soundNumbers W s)) (Refused 8 0)
     (cond (not (soundPending W s)) (Refused 18 0)
     (cond (not (eqb (badPlace W s work) (length work))) (Refused 19 (badPlace W s work))
     (cond (leb (blocksOf W (s .n)) b) (Refused 6 0)
     (cond (not (has (s .pending) b)) (Refused 7 0)
-    Good)))))
+    Good))))))

@@ -15,11 +15,14 @@ ghost use Rattle.kinds.specs.Limits.{doubles};
 ghost use Rattle.sound.specs.Sound.{gated};
 
 // Rule O2. The whole work area is looked at, blocks already taken too; the block number is compared with B before any shift.
-pub fn gate(s: State, work: &[f64], block: usize) -> Verdict
-    ensures { λ r. ⌜ r ≡ gated doubles s block (now (work .entry)) ⌝ }
+pub fn gate(s: State, work: &[f64], block: usize, ensemble: u32) -> Verdict
+    ensures { λ r. ⌜ r ≡ gated doubles s ensemble block (now (work .entry)) ⌝ }
 {
     if work.len() != s.n {
         return Verdict::Refused(4, 0);
+    }
+    if ensemble != s.ensemble {
+        return Verdict::Refused(21, 0);
     }
     if !numbers(s) {
         return Verdict::Refused(8, 0);

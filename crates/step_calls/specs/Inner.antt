@@ -16,9 +16,10 @@ StepRefusal (steps.More s) = Unit {0}
 StepRefusal (steps.Done x r) = Unit {0}
 StepRefusal (steps.Refused k p) = Refusal (doubles .length) k p
 
--- the numbers that a step reads are a state's: the rounds fit 32 bits, and no pattern is a NaN's
+-- the numbers that a step reads are a state's: the rounds and the ensemble fit 32 bits, and no pattern is a NaN's
 abbrev pub number : ℕ → Bool
 number p = leb (p % top binary64) (ones binary64 * hid binary64)
 
 abbrev pub readable : List ℕ → Bool
-readable ns = leb (getD ns 6 0) (2 ^ 32 - 1) && number (getD ns 1 0) && number (getD ns 2 0) && number (getD ns 3 0)
+readable ns =
+    leb (getD ns 6 0) (2 ^ 32 - 1) && leb (getD ns 7 0) (2 ^ 32 - 1) && number (getD ns 1 0) && number (getD ns 2 0) && number (getD ns 3 0)

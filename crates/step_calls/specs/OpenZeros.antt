@@ -14,9 +14,9 @@ use Rattle.arrays.specs.Arrays.{returned}
 use Rattle.step_calls.specs.StepArrays.{walkNumbers, walkReturned, openArrays}
 use Rattle.step_calls.specs.StepArraysLaws.{open-walked}
 
-pub open-minus : (ps : List ℕ) (work : List Float) (numbers : List ℕ) → Accepted doubles ps work → length numbers ≡ walkNumbers → MinusZeros doubles ps
-    → openArrays ps work numbers ≡ returned 0 (floats doubles ps) (2 ∷ 0x8000000000000000 ∷ 0 ∷ replicate 7 0)
-open-minus ps work numbers G l M =
-    open-walked ps work numbers l
-    ∙ ap (λ (w : Walked). walkReturned w numbers) (opened-minus-64 ps work G M)
+pub open-minus : (k : ℕ) (ps : List ℕ) (work : List Float) (numbers : List ℕ) → Accepted doubles ps work → length numbers ≡ walkNumbers → MinusZeros doubles ps
+    → openArrays k ps work numbers ≡ returned 0 (floats doubles ps) (2 ∷ 0x8000000000000000 ∷ 0 ∷ replicate 7 0)
+open-minus k ps work numbers G l M =
+    open-walked k ps work numbers l
+    ∙ ap (λ (w : Walked). walkReturned w numbers) (opened-minus-64 ps work G M k)
     ∙ ap (λ (b : ℕ). returned 0 (floats doubles ps) (2 ∷ b ∷ 0 ∷ replicate 7 0)) (minus-bits (doubles .format))

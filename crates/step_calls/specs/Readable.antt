@@ -1,4 +1,5 @@
--- Numbers that can be read: what they are, and that a sound state's are such, since its rounds are few and its patterns are finite doubles'. Assumes nothing.
+-- Numbers that can be read: what they are, and that a sound state's are such where its ensemble is one of 32 bits, since its rounds are few and its patterns
+-- are finite doubles'. Assumes nothing.
 use mathlib.Core.Path.{_≡_, sym, subst, _∙_}
 use mathlib.Core.Bool.{Bool, true, not}
 use mathlib.Core.Logic.{inl, inr}
@@ -6,7 +7,7 @@ use mathlib.Core.List.{List}
 use Prim.Native.Nat.{ℕ, _*_, _-_, _^_, _%_, _≤_, _<_}
 use native.Mathlib.Omega.{arith}
 use borrow.Author.Tests.{leb-true, le-leb, lt-ltb}
-use lib.Dec.{T}
+use lib.Dec.{T, leb}
 use lib.Ieee.{binary64, ofBits, ones, hid, top}
 use lib.Ieee.Bits.{nanBits-is, nanBits-above}
 use lib.Ieee.Scale.{finite}
@@ -27,11 +28,12 @@ finite-number p t = elim (le-or-lt (p % top binary64) (ones binary64 * hid binar
       (finite-no-nan (ofBits binary64 p) t))
 ]
 
-pub sound-readable : (ns : List ℕ) → Numbers doubles (stateIn ns) → readable ns ≡ true
-sound-readable ns N =
+pub sound-readable : (ns : List ℕ) → getD ns 7 0 ≤ 2 ^ 32 - 1 → Numbers doubles (stateIn ns) → readable ns ≡ true
+sound-readable ns e N =
     let few : getD ns 6 0 ≤ 2 ^ 32 - 1 = omega (arith, N .counts .rounds) in
     simp (
       le-leb (getD ns 6 0) (2 ^ 32 - 1) few,
+      le-leb (getD ns 7 0) (2 ^ 32 - 1) e,
       finite-number (getD ns 1 0) (N .sigma .fini),
       finite-number (getD ns 2 0) (N .t .fini),
       finite-number (getD ns 3 0) (N .tau .fini),
@@ -39,6 +41,7 @@ sound-readable ns N =
 
 pub record Fields (ns : List ℕ) : Type 0 where
   pub rounds : getD ns 6 0 < 2 ^ 32
+  pub ensemble : getD ns 7 0 < 2 ^ 32
   pub sigma : getD ns 1 0 % top binary64 ≤ ones binary64 * hid binary64
   pub t : getD ns 2 0 % top binary64 ≤ ones binary64 * hid binary64
   pub tau : getD ns 3 0 % top binary64 ≤ ones binary64 * hid binary64
@@ -48,5 +51,7 @@ fields ns h =
     let p = both-true _ (number (getD ns 3 0)) h in
     let q = both-true _ (number (getD ns 2 0)) (p .0) in
     let r = both-true _ (number (getD ns 1 0)) (q .0) in
-    let few : getD ns 6 0 ≤ 2 ^ 32 - 1 = leb-true (getD ns 6 0) (2 ^ 32 - 1) (r .0) in
-    record { rounds = omega arith; sigma = leb-true _ _ (r .1); t = leb-true _ _ (q .1); tau = leb-true _ _ (p .1) }
+    let u = both-true (leb (getD ns 6 0) (2 ^ 32 - 1)) (leb (getD ns 7 0) (2 ^ 32 - 1)) (r .0) in
+    let few : getD ns 6 0 ≤ 2 ^ 32 - 1 = leb-true (getD ns 6 0) (2 ^ 32 - 1) (u .0) in
+    let small : getD ns 7 0 ≤ 2 ^ 32 - 1 = leb-true (getD ns 7 0) (2 ^ 32 - 1) (u .1) in
+    record { rounds = omega arith; ensemble = omega arith; sigma = leb-true _ _ (r .1); t = leb-true _ _ (q .1); tau = leb-true _ _ (p .1) }

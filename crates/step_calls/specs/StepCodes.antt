@@ -17,7 +17,7 @@ use Rattle.kinds.specs.declared.State.{State}
 use Rattle.kinds.specs.declared.Step.the-variants as steps
 use Rattle.kinds.specs.declared.Verdict.the-variants as verdicts
 use Rattle.walk.specs.Walk.{opened, stepped}
-use Rattle.demands.specs.Tables.{StepWhen, wrong-length, unsound-numbers, unsound-set, unsound-place, no-block, taken-before}
+use Rattle.demands.specs.Tables.{StepWhen, wrong-length, other-ensemble, unsound-numbers, unsound-set, unsound-place, no-block, taken-before}
 use Rattle.demands.specs.Hearing.{open-heard, step-heard}
 use Rattle.demands.specs.Refusals as refusals
 use Rattle.arrays.specs.Arrays.{codeOf, Returned, returned, tooManyOr4}
@@ -27,54 +27,58 @@ use Rattle.step_calls.specs.StepArrays.{walkNumbers, walkValues, stateIn
 use Rattle.step_calls.specs.StepArraysLaws.{open-other, open-walked, step-other, step-walked}
 
 -- ---- exactly when
-step-some : {s : State} {b : ℕ} {work : List Float} {k i : ℕ} → StepWhen doubles s b work (verdicts.Refused k i) → k ≡ 0 → ⊥
+step-some : {s : State} {e b : ℕ} {work : List Float} {k i : ℕ} → StepWhen doubles s e b work (verdicts.Refused k i) → k ≡ 0 → ⊥
 step-some (wrong-length l) z = omega arith
-step-some (unsound-numbers l n) z = omega arith
-step-some (unsound-set l N n) z = omega arith
-step-some (unsound-place l N S i F) z = omega arith
-step-some (no-block l s b) z = omega arith
-step-some (taken-before l s b t) z = omega arith
+step-some (other-ensemble l n) z = omega arith
+step-some (unsound-numbers l m n) z = omega arith
+step-some (unsound-set l m N n) z = omega arith
+step-some (unsound-place l m N S i F) z = omega arith
+step-some (no-block l m s b) z = omega arith
+step-some (taken-before l m s b t) z = omega arith
 
-module _ (ps : List ℕ) (work : List Float) (numbers : List ℕ) where
-  pub open-coded : Coded walkNumbers (length numbers) (tooManyOr4 ps) (stepHeard doubles (opened doubles ps work .answer)) (openArrays ps work numbers .code)
-  open-coded = coded walkNumbers (length numbers) (tooManyOr4 ps) (stepHeard doubles (opened doubles ps work .answer))
-      (λ l. ap codeIn (open-walked ps work numbers l)) (λ l. ap codeIn (open-other ps work numbers l))
-      (λ p e. list-some (open-heard ps work 0 p .0 e .1) refl) (list-nonzero ps)
+module _ (e : ℕ) (ps : List ℕ) (work : List Float) (numbers : List ℕ) where
+  pub open-coded : Coded walkNumbers (length numbers) (tooManyOr4 ps) (stepHeard doubles (opened doubles e ps work .answer))
+      (openArrays e ps work numbers .code)
+  open-coded = coded walkNumbers (length numbers) (tooManyOr4 ps) (stepHeard doubles (opened doubles e ps work .answer))
+      (λ l. ap codeIn (open-walked e ps work numbers l)) (λ l. ap codeIn (open-other e ps work numbers l))
+      (λ p h. list-some (open-heard ps work e 0 p .0 h .1) refl) (list-nonzero ps)
 
-module _ (numbers : List ℕ) (work : List Float) (b : ℕ) where
-  pub step-coded : Coded walkNumbers (length numbers) 4 (stepHeard doubles (stepped doubles (stateIn numbers) b work .answer)) (stepArrays numbers work b .code)
-  step-coded = coded walkNumbers (length numbers) 4 (stepHeard doubles (stepped doubles (stateIn numbers) b work .answer))
-      (λ l. ap codeIn (step-walked numbers work b l)) (λ l. ap codeIn (step-other numbers work b l))
-      (λ p e. step-some (step-heard (stateIn numbers) b work 0 p .0 e .1) refl) (λ z. omega arith)
+module _ (numbers : List ℕ) (work : List Float) (e b : ℕ) where
+  pub step-coded : Coded walkNumbers (length numbers) 4 (stepHeard doubles (stepped doubles (stateIn numbers) e b work .answer))
+      (stepArrays numbers work e b .code)
+  step-coded = coded walkNumbers (length numbers) 4 (stepHeard doubles (stepped doubles (stateIn numbers) e b work .answer))
+      (λ l. ap codeIn (step-walked numbers work e b l)) (λ l. ap codeIn (step-other numbers work e b l))
+      (λ p h. step-some (step-heard (stateIn numbers) e b work 0 p .0 h .1) refl) (λ z. omega arith)
 
 -- ---- determined
 module _ {r q : ℕ} {xs ys : List Float} {us vs : List ℕ} where
-  pub open-determined : (ps : List ℕ) (work : List Float) (numbers : List ℕ)
-      → returned r xs us ≡ openArrays ps work numbers → returned q ys vs ≡ openArrays ps work numbers → (r ≡ q) × (xs ≡ ys) × (us ≡ vs)
-  open-determined ps work numbers = returned-determined (openArrays ps work numbers)
+  pub open-determined : (e : ℕ) (ps : List ℕ) (work : List Float) (numbers : List ℕ)
+      → returned r xs us ≡ openArrays e ps work numbers → returned q ys vs ≡ openArrays e ps work numbers → (r ≡ q) × (xs ≡ ys) × (us ≡ vs)
+  open-determined e ps work numbers = returned-determined (openArrays e ps work numbers)
 
-  pub step-determined : (numbers : List ℕ) (work : List Float) (b : ℕ)
-      → returned r xs us ≡ stepArrays numbers work b → returned q ys vs ≡ stepArrays numbers work b → (r ≡ q) × (xs ≡ ys) × (us ≡ vs)
-  step-determined numbers work b = returned-determined (stepArrays numbers work b)
+  pub step-determined : (numbers : List ℕ) (work : List Float) (e b : ℕ)
+      → returned r xs us ≡ stepArrays numbers work e b → returned q ys vs ≡ stepArrays numbers work e b → (r ≡ q) × (xs ≡ ys) × (us ≡ vs)
+  step-determined numbers work e b = returned-determined (stepArrays numbers work e b)
 
 -- ---- what a step reads is what the call before it wrote
 pub state-back : (s : State) (before : List ℕ) → StepFits doubles (steps.More s) → stateIn (walkValues (stepHeard doubles (steps.More s)) before) ≡ s
 state-back s before F =
     let f = doubles .format in
     λ i. stateOf (s .n) (ofBits-toBits f (s .sigma) (F .0) i) (ofBits-toBits f (s .t) (F .1) i) (ofBits-toBits f (s .tau) (F .2) i) (s .pending) (s .rounds)
+    (s .ensemble)
 
 -- ---- what a refusal leaves
 walk-left : (h : Heard) (before : List ℕ) → (codeOf h ≡ 0 → ⊥) → walkValues h before ≡ before
 walk-left h before n = let r = refused-code h n in ap (λ (x : Heard). walkValues x before) (r .2)
 
-module _ (ps : List ℕ) (work : List Float) (values : List ℕ) where
-  pub open-left : (openArrays ps work values .code ≡ 0 → ⊥) → Left (openArrays ps work values) work values
+module _ (e : ℕ) (ps : List ℕ) (work : List Float) (values : List ℕ) where
+  pub open-left : (openArrays e ps work values .code ≡ 0 → ⊥) → Left (openArrays e ps work values) work values
   unfolding openArrays
-  open-left = call-left (stepHeard doubles) steps.Refused (step-is doubles) (opened doubles ps work) work (refusals.open-leaves ps work)
+  open-left = call-left (stepHeard doubles) steps.Refused (step-is doubles) (opened doubles e ps work) work (λ k i. refusals.open-leaves ps work k i e)
       walkValues values walk-left
       (eqb (length values) walkNumbers) (tooManyOr4 ps)
 
-pub step-left : (values : List ℕ) (work : List Float) (b : ℕ) → (stepArrays values work b .code ≡ 0 → ⊥) → Left (stepArrays values work b) work values
+pub step-left : (values : List ℕ) (work : List Float) (e b : ℕ) → (stepArrays values work e b .code ≡ 0 → ⊥) → Left (stepArrays values work e b) work values
 unfolding stepArrays
-step-left values work b = call-left (stepHeard doubles) steps.Refused (step-is doubles) (stepped doubles (stateIn values) b work) work
-    (refusals.step-leaves (stateIn values) b work) walkValues values walk-left (eqb (length values) walkNumbers) 4
+step-left values work e b = call-left (stepHeard doubles) steps.Refused (step-is doubles) (stepped doubles (stateIn values) e b work) work
+    (refusals.step-leaves (stateIn values) e b work) walkValues values walk-left (eqb (length values) walkNumbers) 4

@@ -8,28 +8,45 @@ mod numbers;
 
 // Opens the walk of a list, as `walk::open` does. The state is ten numbers.
 #[no_mangle]
-pub extern "C" fn kewohiata_walk_open(list: &[u64], work: &mut [f64], state: &mut [u64]) -> u32
-    ensures { λ r. ⌜ returned r (now (work .exit)) (now (state .exit)) ≡ openArrays (now (list .entry)) (now (work .entry)) (now (state .entry)) ⌝ }
+pub extern "C" fn kewohiata_walk_open(
+    list: &[u64],
+    work: &mut [f64],
+    state: &mut [u64],
+    ensemble: u32,
+) -> u32
+    ensures { λ r. ⌜ returned r (now (work .exit)) (now (state .exit)) ≡ openArrays ensemble (now (list .entry)) (now (work .entry)) (now (state .entry)) ⌝ }
 {
     if state.len() != NUMBERS {
         return arrays::lengths::too_many_or_4(list);
     }
-    numbers::told(walk::open(list, work), state)
+    numbers::told(walk::open(list, work, ensemble), state)
 }
 
-// Takes one block of a walk, as `walk::step` does. Numbers that are no state's are 8, after 4.
+// Takes one block of a walk, as `walk::step` does. Numbers that are no state's are refused in the same order: 4; 21 where the eighth isn't the number named, as
+// none above 32 bits is; else 8.
 #[no_mangle]
-pub extern "C" fn kewohiata_walk_step(state: &mut [u64], work: &mut [f64], block: usize) -> u32
-    ensures { λ r. ⌜ returned r (now (work .exit)) (now (state .exit)) ≡ stepArrays (now (state .entry)) (now (work .entry)) block ⌝ }
+pub extern "C" fn kewohiata_walk_step(
+    state: &mut [u64],
+    work: &mut [f64],
+    block: usize,
+    ensemble: u32,
+) -> u32
+    ensures { λ r. ⌜ returned r (now (work .exit)) (now (state .exit)) ≡ stepArrays (now (state .entry)) (now (work .entry)) ensemble block ⌝ }
 {
     if state.len() != NUMBERS {
         return 4;
     }
     if numbers::readable(state) {
-        return numbers::told(walk::step(numbers::state(state), work, block), state);
+        return numbers::told(
+            walk::step(numbers::state(state), work, block, ensemble),
+            state,
+        );
     }
     if work.len() != state[4] as usize {
         return 4;
+    }
+    if ensemble as u64 != state[7] {
+        return 21;
     }
     8
 }

@@ -20,7 +20,7 @@ ghost use Rattle.step_calls.specs.Inner.{StepRefusal, readable};
 // The numbers of a walk.
 pub const NUMBERS: usize = 10;
 
-// The most rounds that a state's field holds.
+// The most that a state's field of 32 bits holds: its rounds, and its ensemble.
 const MOST: u64 = 0xFFFF_FFFF;
 
 fn state_numbers(s: State) -> [u64; NUMBERS]
@@ -31,7 +31,8 @@ fn state_numbers(s: State) -> [u64; NUMBERS]
     let tau = pattern(s.tau);
     let n = s.n as u64;
     let rounds = s.rounds as u64;
-    [1, sigma, t, tau, n, s.pending, rounds, 0, 0, 0]
+    let ensemble = s.ensemble as u64;
+    [1, sigma, t, tau, n, s.pending, rounds, ensemble, 0, 0]
 }
 
 // A state or a sum goes to the ten numbers; a refusal leaves them.
@@ -64,6 +65,7 @@ pub fn readable(numbers: &[u64]) -> bool
     ensures { λ r. ⌜ r ≡ readable (now (numbers .entry)) ⌝ }
 {
     (numbers[6] <= MOST)
+        & (numbers[7] <= MOST)
         & (numbers[1] % SIGN <= INFINITY)
         & (numbers[2] % SIGN <= INFINITY)
         & (numbers[3] % SIGN <= INFINITY)
@@ -80,5 +82,6 @@ pub fn state(numbers: &[u64]) -> State
         f64::from_bits(numbers[3]),
         numbers[5],
         numbers[6] as u32,
+        numbers[7] as u32,
     )
 }

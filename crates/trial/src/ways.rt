@@ -11,6 +11,9 @@ const FALLING: u64 = 1;
 
 const SEEDED: u64 = 2;
 
+// The ensemble that the walks by blocks are opened for.
+const ENSEMBLE: u32 = 0xDEAD_BEEF;
+
 // More steps than any walk has: 51 rounds of 64 blocks.
 const STEPS: u64 = 3264;
 
@@ -39,7 +42,7 @@ fn choice(order: u64, pending: u64, turn: u64) -> usize {
 
 // The walk block by block to its end.
 fn run(list: &[u64], work: &mut [f64], order: u64) -> Step {
-    let mut at = walk::open(list, work);
+    let mut at = walk::open(list, work, ENSEMBLE);
     let mut turn = lists::START;
     let mut steps = 0;
     while steps < STEPS {
@@ -47,7 +50,7 @@ fn run(list: &[u64], work: &mut [f64], order: u64) -> Step {
             break;
         };
         turn = lists::following(turn);
-        at = walk::step(s, work, choice(order, s.pending, turn));
+        at = walk::step(s, work, choice(order, s.pending, turn), ENSEMBLE);
         steps += 1;
     }
     text::named(b" steps ", steps);

@@ -26,9 +26,9 @@ use Rattle.rounds.specs.Closable.{Closable}
 use Rattle.rounds.specs.Fitting.{Fitting}
 use Rattle.rounds.specs.FreshRound.{exponent-some}
 
-pub admits : {W : Width} (F : Fitting W) (s : State) (b : ℕ) (xs : List Float) → T (fits (W .format) (s .sigma)) → gated W s b xs ≡ Good
+pub admits : {W : Width} (F : Fitting W) (s : State) (k b : ℕ) (xs : List Float) → T (fits (W .format) (s .sigma)) → gated W s k b xs ≡ Good
     → Admitted W (F .top) s b xs
-admits {W} F s b xs fit g = admitted W (F .top) (F .top-is) (λ n h. omega (arith, F .most-is n h, F .room)) s b xs fit g
+admits {W} F s k b xs fit g = admitted W (F .top) (F .top-is) (λ n h. omega (arith, F .most-is n h, F .room)) s k b xs fit g
 
 module _ {W : Width} (F : Fitting W) {s : State} {b : ℕ} {xs : List Float} (P : Admitted W (F .top) s b xs) (fit : Each (λ x. T (fits (W .format) x)) xs) where
   pub scale : Scale (W .format) (exponentOf (s .n)) (P .e) (s .sigma)

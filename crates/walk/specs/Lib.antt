@@ -8,4 +8,5 @@ pub mod Admitted
 pub mod Rising
 pub mod Run
 pub mod Undivided
+pub mod Ensembles
 pub mod NoRefusal

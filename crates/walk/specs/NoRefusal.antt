@@ -35,11 +35,12 @@ either : (t : Bool) {a b : Step} → Unrefused a → Unrefused b → Unrefused (
 either true A B = A
 either false A B = B
 
-pub fresh-accepted : (W : Width) (zero : Float) (n mu rounds : ℕ) → Unrefused (fresh W zero n mu rounds)
-fresh-accepted W zero n mu rounds = fresh-each Unrefused W zero n mu rounds (λ a. done) (λ a. more)
+pub fresh-accepted : (W : Width) (zero : Float) (n mu rounds ensemble : ℕ) → Unrefused (fresh W zero n mu rounds ensemble)
+fresh-accepted W zero n mu rounds ensemble = fresh-each Unrefused W zero n mu rounds ensemble (λ a. done) (λ a. more)
 
 closed-accepted : (W : Width) (mu : ℕ) (s : State) (xs : List Float) → Unrefused (closedBy W mu s xs)
-closed-accepted W mu s xs = closed-each Unrefused W mu s xs (λ z. fresh-accepted W (plusZero (W .format)) (s .n) mu (s .rounds + 1)) (λ z r. done) (λ z r. more)
+closed-accepted W mu s xs =
+    closed-each Unrefused W mu s xs (λ z. fresh-accepted W (plusZero (W .format)) (s .n) mu (s .rounds + 1) (s .ensemble)) (λ z r. done) (λ z r. more)
 
 pub taken-accepted : (W : Width) (s : State) (b : ℕ) (work : List Float) → Unrefused (taken W s b work .answer)
 unfolding taken

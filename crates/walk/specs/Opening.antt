@@ -42,9 +42,9 @@ module _ {W : Width} {ps : List ℕ} (A : Allowed W ps) where
       each-from (Small (W .format) (sizeOf W (W .magnitude))) (floats W ps) nan
       (λ i h. let l : i < length ps = omega (arith, floats-length) in record { number = allowed-float A i l; within = allowed-size A i l })
 
-  pub opens : (F : Fitting W) → length ps ≤ W .length → allZero (W .format) (floats W ps) ≡ false
-      → Begun W F (ceil (largest (W .format) (floats W ps))) (freshRound W (length ps) (largest (W .format) (floats W ps)) 0) (floats W ps)
-  opens F few z =
+  pub opens : (F : Fitting W) (k : ℕ) → length ps ≤ W .length → allZero (W .format) (floats W ps) ≡ false
+      → Begun W F (ceil (largest (W .format) (floats W ps))) (freshRound W (length ps) (largest (W .format) (floats W ps)) 0 k) (floats W ps)
+  opens F k few z =
       begins (largest (W .format) (floats W ps)) (omega (arith, some-left (W .format) (floats W ps) z, floats-length)) few floats-length
       (largest-small (W .format) _ (floats W ps) allowed-small)
       (omega (arith, least, zero-mul (prec (W .format) - exponentOf (length ps))))

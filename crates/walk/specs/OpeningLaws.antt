@@ -17,12 +17,12 @@ use Rattle.extract.specs.Extract.{largest}
 use Rattle.rounds.specs.Round.{fresh}
 use Rattle.walk.specs.Walk.{openedAfter}
 
-pub opened-refused : (W : Width) (v : Verdict) (k p : ℕ) (ps : List ℕ) (work : List Float) → v ≡ verdicts.Refused k p
-    → outcome (Refused k p) work ≡ openedAfter W v ps work
+pub opened-refused : (W : Width) (k : ℕ) (v : Verdict) (l p : ℕ) (ps : List ℕ) (work : List Float) → v ≡ verdicts.Refused l p
+    → outcome (Refused l p) work ≡ openedAfter W k v ps work
 unfolding openedAfter
-opened-refused W v k p ps work e = rw e
+opened-refused W k v l p ps work e = rw e
 
-pub opened-good : (W : Width) (ps : List ℕ) (work xs : List Float) (zero : Float) (q : Step) → zero ≡ nearestFloat (W .format) (zeroSign W ps) (pos 0)
-    → xs ≡ floats W ps → q ≡ fresh W zero (length ps) (largest (W .format) xs) 0 → outcome q xs ≡ openedAfter W verdicts.Good ps work
+pub opened-good : (W : Width) (k : ℕ) (ps : List ℕ) (work xs : List Float) (zero : Float) (q : Step) → zero ≡ nearestFloat (W .format) (zeroSign W ps) (pos 0)
+    → xs ≡ floats W ps → q ≡ fresh W zero (length ps) (largest (W .format) xs) 0 k → outcome q xs ≡ openedAfter W k verdicts.Good ps work
 unfolding openedAfter
-opened-good W ps work xs zero q z x e = rw (e, z, x)
+opened-good W k ps work xs zero q z x e = rw (e, z, x)

@@ -26,7 +26,7 @@ use Rattle.walk.specs.Stepping.{stepping, stepping-accepted}
 
 module _ {W : Width} {F : Fitting W} {e : ℕ} {s : State} {xs : List Float} (B : Begun W F e s xs) where
   -- ---- one block
-  accepted : (j : ℕ) → j < blocksOf W (s .n) → gated W (stateAt B j) j (workAt B j) ≡ Good
+  accepted : (j : ℕ) → j < blocksOf W (s .n) → gated W (stateAt B j) (stateAt B j .ensemble) j (workAt B j) ≡ Good
   unfolding stateAt tauAt workAt
   accepted j h =
       stepping-accepted
@@ -34,7 +34,7 @@ module _ {W : Width} {F : Fitting W} {e : ℕ} {s : State} {xs : List Float} (B 
       (omega (arith, pow-lt {i = j} {j = blocksOf W (s .n)} h)) (omega (arith, pow-pos j, pow-pos (blocksOf W (s .n)))))
       j h (has-from h)
 
-  takes : (j : ℕ) → j < blocksOf W (s .n) → stepped W (stateAt B j) j (workAt B j)
+  takes : (j : ℕ) → j < blocksOf W (s .n) → stepped W (stateAt B j) (stateAt B j .ensemble) j (workAt B j)
       ≡ outcome (cond (eqb (stateAt B (suc j) .pending) 0) (closed W (stateAt B (suc j)) (workAt B (suc j))) (More (stateAt B (suc j)))) (workAt B (suc j))
   unfolding steppedAfter taken stateAt
   takes j h =

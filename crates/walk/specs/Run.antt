@@ -75,7 +75,7 @@ module _ {W : Width} {F : Fitting W} {n : ℕ} {s : State} {xs : List Float} (R 
     where
       go : {q : Step} → Next W F s (allLeft W s xs) q → q ≡ More s' → Running W F n s' (allLeft W s xs) × (s' .rounds ≡ s .rounds + 1)
       go (ends x) h = apart (cc)
-      go (goes e next same more B) h =
+      go (goes e next same named more B) h =
           let z : next ≡ s' = cc in
           let r : Running W F n next (allLeft W s xs) = record { e = e; count = same ∙ R .count; begun = B } in
           subst (λ (q : State). Running W F n q (allLeft W s xs) × (q .rounds ≡ s .rounds + 1)) z (r, more)
@@ -86,14 +86,14 @@ module _ {W : Width} {F : Fitting W} {n : ℕ} {s : State} {xs : List Float} (R 
     where
       go : {q : Step} → Next W F s (allLeft W s xs) q → q ≡ Done x r → r ≡ s .rounds + 1
       go (ends y) h = cc
-      go (goes e next same more B) h = apart (cc)
+      go (goes e next same named more B) h = apart (cc)
 
   pub run-accepted : (k p : ℕ) → closed W (allTaken W s xs) (allLeft W s xs) ≡ Refused k p → ⊥
   run-accepted k p e = go (falls (R .begun)) e
     where
       go : {q : Step} → Next W F s (allLeft W s xs) q → q ≡ Refused k p → ⊥
       go (ends x) h = let z : _≡_ {A = ℕ} 0 1 = cc in omega arith
-      go (goes e next same more B) h = let z : _≡_ {A = ℕ} 0 1 = cc in omega arith
+      go (goes e next same named more B) h = let z : _≡_ {A = ℕ} 0 1 = cc in omega arith
 
 -- ---- the same with the rounds that are left to it, for the code's loop: q closes the state and the work area after all blocks
 module _ {W : Width} {F : Fitting W} {n : ℕ} {s : State} {xs : List Float} (R : Running W F n s xs) {taken : State} {ys : List Float}

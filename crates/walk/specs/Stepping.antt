@@ -70,8 +70,8 @@ module _ {W : Width} {F : Fitting W} {e : ℕ} {s : State} {xs : List Float} (I 
   pub stepping-sound : sound W s xs ≡ true
   stepping-sound = sound-all W s xs (numbers-true W (F .top) (F .top-is) s (I .numbers)) pending-sound (places-sound xs (I .work))
 
-  pub stepping-accepted : (b : ℕ) → b < blocksOf W (s .n) → has (s .pending) b ≡ true → gated W s b xs ≡ Good
-  stepping-accepted b h p = gated-good W s b xs (I .count) stepping-sound h p
+  pub stepping-accepted : (b : ℕ) → b < blocksOf W (s .n) → has (s .pending) b ≡ true → gated W s (s .ensemble) b xs ≡ Good
+  stepping-accepted b h p = gated-good W s (s .ensemble) b xs (I .count) refl stepping-sound h p
 
 module _ {W : Width} {F : Fitting W} {e : ℕ} {s : State} {xs : List Float} (B : Begun W F e s xs) where
   -- the numbers of a round that has begun are sound, whatever blocks are pending

@@ -1,5 +1,5 @@
--- The undivided call from its opening: a state that an opening answers opens a round of a run, and any other answer is the walk's. (That every walk ends is
--- Run.run-finishes.) Assumes nothing.
+-- The undivided walk from its opening, under any number: a state that an opening answers opens a round of a run, and any other answer is the walk's. (That
+-- every walk ends is Run.run-finishes.) Assumes nothing.
 use mathlib.Core.Path.{_≡_, refl, sym, ap, _∙_, subst}
 use mathlib.Core.Bool.{Bool, true, false, cond}
 use mathlib.Core.List.{List}
@@ -23,7 +23,7 @@ use Rattle.judge.specs.JudgeLaws.{list-when, list-passed, list-allowed}
 use Rattle.extract.specs.Extract.{largest}
 use Rattle.rounds.specs.Round.{allZero, freshRound, fresh}
 use Rattle.rounds.specs.Fitting.{Fitting}
-use Rattle.walk.specs.Walk.{Walked, openedAfter, opened, roundsFrom, faithfulOf}
+use Rattle.walk.specs.Walk.{Walked, openedAfter, opened, roundsFrom, undividedOf}
 use Rattle.walk.specs.Opening.{opens}
 use Rattle.walk.specs.Run.{Running, run-done, run-refused}
 
@@ -32,8 +32,8 @@ pub record FirstRound (W : Width) (F : Fitting W) (n : ℕ) (s : State) (xs : Li
   pub running : Running W F n s xs
   pub rounds : s .rounds ≡ 0
 
-module _ {W : Width} (F : Fitting W) (ps : List ℕ) (work : List Float) where
-  pub opened-first : (s : State) (xs : List Float) → opened W ps work ≡ outcome (More s) xs → FirstRound W F (length ps) s xs
+module _ {W : Width} (F : Fitting W) (k : ℕ) (ps : List ℕ) (work : List Float) where
+  pub opened-first : (s : State) (xs : List Float) → opened W k ps work ≡ outcome (More s) xs → FirstRound W F (length ps) s xs
   unfolding openedAfter fresh
   opened-first s xs e = by (judged W (eqb (length work) (length ps)) true ps) refl e
     where
@@ -41,12 +41,12 @@ module _ {W : Width} (F : Fitting W) (ps : List ℕ) (work : List Float) where
       n = length ps
 
       first : State
-      first = freshRound W n (largest (W .format) (floats W ps)) 0
+      first = freshRound W n (largest (W .format) (floats W ps)) 0 k
 
       round : allZero (W .format) (floats W ps) ≡ false → judged W (eqb (length work) n) true ps ≡ verdicts.Good → FirstRound W F n first (floats W ps)
       round z g =
           let v = list-when W (eqb (length work) n) true ps verdicts.Good .0 g in
-          record { running = record { e = _; count = refl; begun = opens (list-allowed v) F (list-passed v .few) z }; rounds = refl }
+          record { running = record { e = _; count = refl; begun = opens (list-allowed v) F k (list-passed v .few) z }; rounds = refl }
 
       zero : Float
       zero = nearestFloat (W .format) (zeroSign W ps) (pos 0)
@@ -62,28 +62,28 @@ module _ {W : Width} (F : Fitting W) (ps : List ℕ) (work : List Float) where
           let b : floats W ps ≡ xs = ap (λ (w : Walked). w .area) h in
           rw (a, b) at (round z g)
 
-      by : (v : Verdict) → judged W (eqb (length work) n) true ps ≡ v → openedAfter W v ps work ≡ outcome (More s) xs → FirstRound W F n s xs
+      by : (v : Verdict) → judged W (eqb (length work) n) true ps ≡ v → openedAfter W k v ps work ≡ outcome (More s) xs → FirstRound W F n s xs
       by verdicts.Good g h = starts (allZero (W .format) (floats W ps)) refl g h
-      by (verdicts.Refused k p) g h =
-          let m : Refused k p ≡ More s = ap (λ (w : Walked). w .answer) h in
+      by (verdicts.Refused l p) g h =
+          let m : Refused l p ≡ More s = ap (λ (w : Walked). w .answer) h in
           apart (cc)
 
   rest : Walked → Walked
   rest w = roundsFrom W (blocksOf W (length ps)) (suc (W .rounds)) w
 
-  module _ (q : Step) (xs : List Float) (e : outcome q xs ≡ opened W ps work) where
+  module _ (q : Step) (xs : List Float) (e : outcome q xs ≡ opened W k ps work) where
     -- an answer that isn't a state stays
-    stays : rest (outcome q xs) ≡ outcome q xs → outcome q xs ≡ faithfulOf W ps work
+    stays : rest (outcome q xs) ≡ outcome q xs → outcome q xs ≡ undividedOf W k ps work
     unfolding rest
     stays h = sym h ∙ ap rest e
 
-    pub faithful-done : (x : Float) (r : ℕ) → q ≡ Done x r → outcome q xs ≡ faithfulOf W ps work
+    pub faithful-done : (x : Float) (r : ℕ) → q ≡ Done x r → outcome q xs ≡ undividedOf W k ps work
     unfolding rest
     faithful-done x r d = stays (rw d (run-done W (blocksOf W (length ps)) (suc (W .rounds)) x r xs))
 
-    pub faithful-refused : (k p : ℕ) → q ≡ Refused k p → outcome q xs ≡ faithfulOf W ps work
+    pub faithful-refused : (l p : ℕ) → q ≡ Refused l p → outcome q xs ≡ undividedOf W k ps work
     unfolding rest
-    faithful-refused k p d = stays (rw d (run-refused W (blocksOf W (length ps)) (suc (W .rounds)) k p xs))
+    faithful-refused l p d = stays (rw d (run-refused W (blocksOf W (length ps)) (suc (W .rounds)) l p xs))
 
     module _ (s : State) (d : q ≡ More s) where
       first : FirstRound W F (length ps) s xs
@@ -92,8 +92,8 @@ module _ {W : Width} (F : Fitting W) (ps : List ℕ) (work : List Float) where
       pub faithful-running : Running W F (s .n) s xs
       faithful-running = subst (λ (n : ℕ). Running W F n s xs) (sym (first .running .count)) (first .running)
 
-      pub faithful-more : roundsFrom W (blocksOf W (s .n)) (suc (W .rounds) - s .rounds) (outcome (More s) xs) ≡ faithfulOf W ps work
+      pub faithful-more : roundsFrom W (blocksOf W (s .n)) (suc (W .rounds) - s .rounds) (outcome (More s) xs) ≡ undividedOf W k ps work
       unfolding rest
       faithful-more =
-          let k : suc (W .rounds) - s .rounds ≡ suc (W .rounds) = omega (arith, first .rounds) in
-          (λ i. roundsFrom W (blocksOf W (first .running .count i)) (k i) (outcome (sym d i) xs)) ∙ ap rest e
+          let j : suc (W .rounds) - s .rounds ≡ suc (W .rounds) = omega (arith, first .rounds) in
+          (λ i. roundsFrom W (blocksOf W (first .running .count i)) (j i) (outcome (sym d i) xs)) ∙ ap rest e

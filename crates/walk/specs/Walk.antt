@@ -23,16 +23,16 @@ use Rattle.rounds.specs.Round.{turned, takenState, fresh, closed}
 abbrev pub Walked : Type 0
 Walked = Outcome Step Float
 
--- ---- rules WO1 to WO3: the opening
-unfoldable pub openedAfter : Width → Verdict → List ℕ → List Float → Walked
-openedAfter W verdicts.Good ps work =
+-- ---- rules WO1 to WO3 and WS12: the opening, under the number k of an ensemble
+unfoldable pub openedAfter : Width → ℕ → Verdict → List ℕ → List Float → Walked
+openedAfter W k verdicts.Good ps work =
     let zero = nearestFloat (W .format) (zeroSign W ps) (pos 0) in
     let xs = floats W ps in
-    outcome (fresh W zero (length ps) (largest (W .format) xs) 0) xs
-openedAfter W (verdicts.Refused k p) ps work = outcome (Refused k p) work
+    outcome (fresh W zero (length ps) (largest (W .format) xs) 0 k) xs
+openedAfter W k (verdicts.Refused l p) ps work = outcome (Refused l p) work
 
-abbrev pub opened : Width → List ℕ → List Float → Walked
-opened W ps work = openedAfter W (judged W (eqb (length work) (length ps)) true ps) ps work
+abbrev pub opened : Width → ℕ → List ℕ → List Float → Walked
+opened W k ps work = openedAfter W k (judged W (eqb (length work) (length ps)) true ps) ps work
 
 -- ---- rules WB1 and WC1, a step of an accepted block: its numbers become their remainders, tau gathers them, and after the last pending block the round
 -- closes; no block is cut again before that (rule E3)
@@ -46,16 +46,17 @@ unfoldable pub steppedAfter : Width → Verdict → State → ℕ → List Float
 steppedAfter W verdicts.Good s b work = taken W s b work
 steppedAfter W (verdicts.Refused k p) s b work = outcome (Refused k p) work
 
-abbrev pub stepped : Width → State → ℕ → List Float → Walked
-stepped W s b work = steppedAfter W (gated W s b work) s b work
+-- a step that names the ensemble k
+abbrev pub stepped : Width → State → ℕ → ℕ → List Float → Walked
+stepped W s k b work = steppedAfter W (gated W s k b work) s b work
 
 -- ---- rule WR1
--- a step at block b of a walk that goes on; nothing of one that has ended
+-- a step at block b of a walk that goes on, under the number that its state has; nothing of one that has ended
 abbrev pub onward : Width → Walked → ℕ → Walked
 onward W w b = after (w .answer)
   where
     after : Step → Walked
-    after (More s) = stepped W s b (w .area)
+    after (More s) = stepped W s (s .ensemble) b (w .area)
     after (Done x r) = w
     after (Refused k p) = w
 
@@ -69,6 +70,10 @@ unfoldable pub roundsFrom : Width → ℕ → ℕ → Walked → Walked
 roundsFrom W blocks zero w = w
 roundsFrom W blocks (suc k) w = roundsFrom W blocks k (foldl (onward W) w (rising blocks))
 
--- one round more than a sound state has closed at most: no walk is cut short by that
+-- the undivided walk under the number k: one round more than a sound state has closed at most, so that no walk is cut short
+abbrev pub undividedOf : Width → ℕ → List ℕ → List Float → Walked
+undividedOf W k ps work = roundsFrom W (blocksOf W (length ps)) (suc (W .rounds)) (opened W k ps work)
+
+-- the undivided call is given no number, and answers no state that could have one
 abbrev pub faithfulOf : Width → List ℕ → List Float → Walked
-faithfulOf W ps work = roundsFrom W (blocksOf W (length ps)) (suc (W .rounds)) (opened W ps work)
+faithfulOf W ps work = undividedOf W 0 ps work

@@ -12,7 +12,7 @@ ghost use Rattle.walk.specs.Walk.{taken};
 
 // Takes the block; after the last pending one the round closes, and not before (rules WC1 and E3).
 pub fn accepted(s: State, work: &mut [f64], block: usize) -> Step
-    requires { ⌜ gated doubles s block (now work) ≡ Good ⌝ }
+    requires { ⌜ gated doubles s (s .ensemble) block (now work) ≡ Good ⌝ }
     ensures { λ r. ⌜ outcome r (now (work .exit)) ≡ taken doubles s block (now (work .entry)) ⌝ }
 {
     let next = round::take(s, work, block);

@@ -46,11 +46,11 @@ fn copy(list: &[u64], work: &mut [f64]) -> f64
 }
 
 // Rules WO1 to WO3. Of an allowed list only, as the copy asks.
-pub fn start(list: &[u64], work: &mut [f64]) -> Step
+pub fn start(list: &[u64], work: &mut [f64], ensemble: u32) -> Step
     requires { ⌜ (length (now work) ≡ length (now list)) × (length (now list) ≤ doubles .length) × (firstFault doubles (now list) 0 ≡ Good) ⌝ }
-    ensures { λ r. ⌜ outcome r (now (work .exit)) ≡ openedAfter doubles Good (now (list .entry)) (now (work .entry)) ⌝ }
+    ensures { λ r. ⌜ outcome r (now (work .exit)) ≡ openedAfter doubles ensemble Good (now (list .entry)) (now (work .entry)) ⌝ }
 {
     let mu = copy(list, work);
     let zero = zero(judge::zero_sign(list));
-    from_mu(zero, list.len(), mu, 0)
+    from_mu(zero, list.len(), mu, 0, ensemble)
 }

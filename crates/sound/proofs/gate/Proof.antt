@@ -16,141 +16,153 @@ use Rattle.sound.specs.Numbers.{Numbers}
 use Rattle.sound.specs.DoublesLaws.{magnitude-units, sigma-room}
 use Rattle.sound.specs.PlacesLaws.{bad-within}
 use Rattle.sound.specs.SoundLaws.{numbers-hold, sound-all}
-use Rattle.sound.specs.GateLaws.{gated-4, gated-8, gated-18, gated-19, gated-6, gated-7, gated-good, limit-number, limit-negative, limit-places}
+use Rattle.sound.specs.GateLaws.{gated-4, gated-21, gated-8, gated-18, gated-19, gated-6, gated-7, gated-good, limit-number, limit-negative, limit-places}
 use Rattle.sound.proofs.gate.Statement.{statement}
 use Rattle.sound.proofs.gate.Tie as tie
 
 returns : tie.Need-returns
 returns c =
     let a = c .before .before .before .args in
-    sym (gated-4 doubles (a .s) (a .block) (a .work .now) (omega arith))
+    sym (gated-4 doubles (a .s) (a .ensemble) (a .block) (a .work .now) (omega arith))
 
--- ---- the numbers
+-- ---- the ensemble
 returns-2 : tie.Need-returns-2
 returns-2 c =
     let a = c .before .before .before .before .before .args in
-    sym (gated-8 doubles (a .s) (a .block) (a .work .now) (omega arith) (sym (c .before .numbers .ensures) ∙ not-true _ (c .if2 .taken)))
+    sym (gated-21 doubles (a .s) (a .ensemble) (a .block) (a .work .now) (omega arith) (c .if2 .taken))
 
-good : (c : tie.Else2) → soundNumbers doubles (c .before .before .before .before .before .args .s) ≡ true
-good c = sym (c .before .numbers .ensures) ∙ not-false _ (c .if2 .left)
+-- ---- the numbers
+returns-3 : tie.Need-returns-3
+returns-3 c =
+    let a = c .before .before .before .before .before .before .before .args in
+    sym
+    (gated-8 doubles (a .s) (a .ensemble) (a .block) (a .work .now) (omega arith) (omega arith)
+    (sym (c .before .numbers .ensures) ∙ not-true _ (c .if3 .taken)))
 
-numbers : (c : tie.Else2) → Numbers doubles (c .before .before .before .before .before .args .s)
-numbers c = numbers-hold doubles 2074 magnitude-units (c .before .before .before .before .before .args .s) (good c)
+good : (c : tie.Else3) → soundNumbers doubles (c .before .before .before .before .before .before .before .args .s) ≡ true
+good c = sym (c .before .numbers .ensures) ∙ not-false _ (c .if3 .left)
+
+numbers : (c : tie.Else3) → Numbers doubles (c .before .before .before .before .before .before .before .args .s)
+numbers c = numbers-hold doubles 2074 magnitude-units (c .before .before .before .before .before .before .before .args .s) (good c)
 
 -- ---- the pending set
 pending-requires : tie.Need-pending-requires
 pending-requires c κs = (numbers c .counts .some, numbers c .counts .few)
 
-returns-3 : tie.Need-returns-3
-returns-3 c =
+returns-4 : tie.Need-returns-4
+returns-4 c =
     let g = c .before .before in
-    let a = g .before .before .before .before .before .args in
+    let a = g .before .before .before .before .before .before .before .args in
     sym
-    (gated-18 doubles (a .s) (a .block) (a .work .now) (omega arith) (good g) (sym (c .before .pending .ensures) ∙ not-true _ (c .if3 .taken)))
+    (gated-18 doubles (a .s) (a .ensemble) (a .block) (a .work .now) (omega arith) (omega arith) (good g)
+    (sym (c .before .pending .ensures) ∙ not-true _ (c .if4 .taken)))
 
 -- ---- the work area
 limit-requires : tie.Need-limit-requires
 limit-requires c κs = good (c .before .before)
 
-room : (c : tie.Else2) → exponentOf (c .before .before .before .before .before .args .s .n) + 2074 < powers binary64
-room c = sigma-room (c .before .before .before .before .before .args .s .n) (numbers c .counts .few)
+room : (c : tie.Else3) → exponentOf (c .before .before .before .before .before .before .before .args .s .n) + 2074 < powers binary64
+room c = sigma-room (c .before .before .before .before .before .before .before .args .s .n) (numbers c .counts .few)
 
 bad-place-requires : tie.Need-bad-place-requires
 bad-place-requires c κs =
     let g = c .before .before .before in
-    let s = g .before .before .before .before .before .args .s in
+    let s = g .before .before .before .before .before .before .before .args .s in
     rw (c .limit .ensures)
     (limit-number doubles 2074 magnitude-units s (numbers g) (room g) .fini, limit-negative doubles 2074 magnitude-units s (numbers g) (room g))
 
-place : (c : tie.After-bad-place) → let a = c .before .before .before .before .before .before .before .before .before .args in
+place : (c : tie.After-bad-place) → let a = c .before .before .before .before .before .before .before .before .before .before .before .args in
     c .bad-place .result ≡ badPlace doubles (a .s) (a .work .now)
 place c =
     let l = c .before in
     let g = l .before .before .before in
-    let a = g .before .before .before .before .before .args in
+    let a = g .before .before .before .before .before .before .before .args in
     c .bad-place .ensures
     ∙ ap (λ (x : Float). firstAbove doubles (magnitude binary64 x) (a .work .now)) (l .limit .ensures)
     ∙ limit-places doubles 2074 magnitude-units (a .s) (numbers g) (room g) (a .work .now)
 
-cast-t9 : tie.Need-cast-t9
-cast-t9 c = let g = c .before .before .before .before .before in omega (arith, numbers g .counts .few)
+cast-t10 : tie.Need-cast-t10
+cast-t10 c = let g = c .before .before .before .before .before in omega (arith, numbers g .counts .few)
 
-returns-4 : tie.Need-returns-4
-returns-4 c =
+returns-5 : tie.Need-returns-5
+returns-5 c =
     let p = c .before in
     let h = p .before .before in
     let g = h .before .before in
-    let a = g .before .before .before .before .before .args in
+    let a = g .before .before .before .before .before .before .before .args in
     rw (place p)
     (sym
-    (gated-19 doubles (a .s) (a .block) (a .work .now) (omega arith) (good g) (sym (h .before .pending .ensures) ∙ not-false _ (h .if3 .left))
+    (gated-19 doubles (a .s) (a .ensemble) (a .block) (a .work .now) (omega arith) (omega arith) (good g)
+    (sym (h .before .pending .ensures) ∙ not-false _ (h .if4 .left))
     (omega (arith, place p))))
 
 -- ---- a sound state: the block
-all-sound : (c : tie.Else4) → let a = c .before .before .before .before .before .before .before .before .before .before .args in
+all-sound : (c : tie.Else5) → let a = c .before .before .before .before .before .before .before .before .before .before .before .before .args in
     sound doubles (a .s) (a .work .now) ≡ true
 all-sound c =
     let p = c .before in
     let h = p .before .before in
     let g = h .before .before in
-    let a = g .before .before .before .before .before .args in
-    sound-all doubles (a .s) (a .work .now) (good g) (sym (h .before .pending .ensures) ∙ not-false _ (h .if3 .left))
+    let a = g .before .before .before .before .before .before .before .args in
+    sound-all doubles (a .s) (a .work .now) (good g) (sym (h .before .pending .ensures) ∙ not-false _ (h .if4 .left))
     (omega (arith, place p, bad-within doubles (a .s) (a .work .now)))
 
-few : (c : tie.Else4) → c .before .before .before .before .before .before .before .before .before .before .args .s .n ≤ doubles .length
+few : (c : tie.Else5) → c .before .before .before .before .before .before .before .before .before .before .before .before .args .s .n ≤ doubles .length
 few c = numbers (c .before .before .before .before .before) .counts .few
 
 blocks-requires : tie.Need-blocks-requires
 blocks-requires c κs = rw (c .of .ensures) (few (c .before))
 
 -- B
-count : (c : tie.After-blocks2) → let a = c .before .before .before .before .before .before .before .before .before .before .before .before .args in
+count : (c : tie.After-blocks2) →
+    let a = c .before .before .before .before .before .before .before .before .before .before .before .before .before .before .args in
     c .blocks2 .result ≡ blocksOf doubles (a .s .n)
 count c = c .blocks2 .ensures ∙ ap (blocksOf doubles) (c .before .of .ensures)
 
-returns-5 : tie.Need-returns-5
-returns-5 c =
+returns-6 : tie.Need-returns-6
+returns-6 c =
     let g = c .before .before .before in
-    let a = g .before .before .before .before .before .before .before .before .before .before .args in
-    sym (gated-6 doubles (a .s) (a .block) (a .work .now) (omega arith) (all-sound g) (omega (arith, count (c .before))))
+    let a = g .before .before .before .before .before .before .before .before .before .before .before .before .args in
+    sym (gated-6 doubles (a .s) (a .ensemble) (a .block) (a .work .now) (omega arith) (omega arith) (all-sound g) (omega (arith, count (c .before))))
 
 has-requires : tie.Need-has-requires
 has-requires c κs = omega (arith, count (c .before), few (c .before .before .before))
-
-returns-6 : tie.Need-returns-6
-returns-6 c =
-    let b = c .before .before in
-    let g = b .before .before .before in
-    let a = g .before .before .before .before .before .before .before .before .before .before .args in
-    sym
-    (gated-7 doubles (a .s) (a .block) (a .work .now) (omega arith) (all-sound g) (omega (arith, count (b .before)))
-    (sym (c .before .has .ensures) ∙ not-true _ (c .if6 .taken)))
 
 returns-7 : tie.Need-returns-7
 returns-7 c =
     let b = c .before .before in
     let g = b .before .before .before in
-    let a = g .before .before .before .before .before .before .before .before .before .before .args in
+    let a = g .before .before .before .before .before .before .before .before .before .before .before .before .args in
     sym
-    (gated-good doubles (a .s) (a .block) (a .work .now) (omega arith) (all-sound g) (omega (arith, count (b .before)))
-    (sym (c .before .has .ensures) ∙ not-false _ (c .if6 .left)))
+    (gated-7 doubles (a .s) (a .ensemble) (a .block) (a .work .now) (omega arith) (omega arith) (all-sound g) (omega (arith, count (b .before)))
+    (sym (c .before .has .ensures) ∙ not-true _ (c .if7 .taken)))
+
+returns-8 : tie.Need-returns-8
+returns-8 c =
+    let b = c .before .before in
+    let g = b .before .before .before in
+    let a = g .before .before .before .before .before .before .before .before .before .before .before .before .args in
+    sym
+    (gated-good doubles (a .s) (a .ensemble) (a .block) (a .work .now) (omega arith) (omega arith) (all-sound g) (omega (arith, count (b .before)))
+    (sym (c .before .has .ensures) ∙ not-false _ (c .if7 .left)))
 
 pub gate-spec : {M : Type 1} → statement M
 gate-spec =
     tie.close
     (tie.spec
     returns
-    (λ c κs. search needs)
     returns-2
-    pending-requires
+    (λ c κs. search needs)
     returns-3
+    pending-requires
+    returns-4
     limit-requires
     bad-place-requires
-    cast-t9
-    returns-4
+    cast-t10
+    returns-5
     (λ c κs. search needs)
     blocks-requires
-    returns-5
-    has-requires
     returns-6
-    returns-7)
+    has-requires
+    returns-7
+    returns-8)

@@ -14,7 +14,7 @@ returns c =
     let after-if1 = c .before in
     let a = after-if1 .before .before .before .before .args in
     ap (λ (n : ℕ). returned n (a .work .now) (a .state .now)) (c .too-many-or-4 .ensures)
-    ∙ sym (open-other (a .list .now) (a .work .now) (a .state .now) (after-if1 .if1 .taken))
+    ∙ sym (open-other (a .ensemble) (a .list .now) (a .work .now) (a .state .now) (after-if1 .if1 .taken))
 
 told-requires : tie.Need-told-requires
 told-requires c κs =
@@ -22,7 +22,7 @@ told-requires c κs =
     let after-if1 = after-open .before .before in
     let a = after-if1 .before .before .before .before .args in
     let answered = ap (λ (w : Walked). w .answer) (after-open .«open» .ensures) in
-    (after-if1 .if1 .left, subst StepRefusal (sym answered) (open-refusal (a .list .now) (a .work .now)))
+    (after-if1 .if1 .left, subst StepRefusal (sym answered) (open-refusal (a .ensemble) (a .list .now) (a .work .now)))
 
 returns-2 : tie.Need-returns-2
 returns-2 c =
@@ -31,7 +31,7 @@ returns-2 c =
     let after-if1 = after-open .before .before in
     let a = after-if1 .before .before .before .before .args in
     walk-returned (a .state .now) (after-told .told .ensures) (after-open .«open» .ensures)
-    ∙ sym (open-walked (a .list .now) (a .work .now) (a .state .now) (after-if1 .if1 .left))
+    ∙ sym (open-walked (a .ensemble) (a .list .now) (a .work .now) (a .state .now) (after-if1 .if1 .left))
 
 pub kewohiata-walk-open-spec : {M : Type 1} → statement M
 kewohiata-walk-open-spec =

@@ -16,7 +16,7 @@ run-requires : tie.Need-run-requires
 run-requires c κs =
     let o = c .before .before .before .before .before .before in
     let g = o .before .before .before .before in
-    faithful-running doubles-fit (g .args .list .now) (g .args .work .now) _ _ (o .«open» .ensures) _ (c .before .before .first .given .1)
+    faithful-running doubles-fit 0 (g .args .list .now) (g .args .work .now) _ _ (o .«open» .ensures) _ (c .before .before .first .given .1)
 
 enum-told : tie.Need-enum-told
 enum-told c = search needs
@@ -33,7 +33,7 @@ returns c =
     let o = r .before .before .before .before .before .before .before in
     let g = o .before .before .before .before in
     r .run .ensures
-    ∙ faithful-more doubles-fit (g .args .list .now) (g .args .work .now) _ _ (o .«open» .ensures) _ (r .before .before .before .first .given .1)
+    ∙ faithful-more doubles-fit 0 (g .args .list .now) (g .args .work .now) _ _ (o .«open» .ensures) _ (r .before .before .before .first .given .1)
 
 same-length-2 : tie.Need-same-length-2
 same-length-2 c = search needs
@@ -42,7 +42,7 @@ returns-2 : tie.Need-returns-2
 returns-2 c =
     let o = c .before .before .before .before in
     let g = o .before .before .before .before in
-    faithful-done doubles-fit (g .args .list .now) (g .args .work .now) _ _ (o .«open» .ensures) _ _ (c .enum-told .given .1)
+    faithful-done doubles-fit 0 (g .args .list .now) (g .args .work .now) _ _ (o .«open» .ensures) _ _ (c .enum-told .given .1)
 
 same-length-3 : tie.Need-same-length-3
 same-length-3 c = search needs
@@ -51,7 +51,7 @@ returns-3 : tie.Need-returns-3
 returns-3 c =
     let o = c .before .before .before .before in
     let g = o .before .before .before .before in
-    faithful-refused doubles-fit (g .args .list .now) (g .args .work .now) _ _ (o .«open» .ensures) _ _ (c .enum-told2 .given .1)
+    faithful-refused doubles-fit 0 (g .args .list .now) (g .args .work .now) _ _ (o .«open» .ensures) _ _ (c .enum-told2 .given .1)
 
 pub faithful-spec : {M : Type 1} → statement M
 faithful-spec =

@@ -33,7 +33,7 @@ returns : tie.Need-returns
 returns c =
     let j = c .before .before .before in
     let g = j .before .before .before in
-    opened-refused doubles _ _ _ (g .args .list .now) (g .args .work .now) (sym (j .judge .ensures) ∙ c .before .k .given .1)
+    opened-refused doubles (g .args .ensemble) _ _ _ (g .args .list .now) (g .args .work .now) (sym (j .judge .ensures) ∙ c .before .k .given .1)
 
 same-length : tie.Need-same-length
 same-length c = search needs
@@ -44,7 +44,7 @@ returns-2 c =
     let j = s .before .before .before .before in
     let g = j .before .before .before in
     let e = sym (j .judge .ensures) ∙ s .before .before .enum-told .given .1 in
-    s .start .ensures ∙ ap (λ (v : Verdict). openedAfter doubles v (g .args .list .now) (g .args .work .now)) (sym e)
+    s .start .ensures ∙ ap (λ (v : Verdict). openedAfter doubles (g .args .ensemble) v (g .args .list .now) (g .args .work .now)) (sym e)
 
 pub open-spec : {M : Type 1} → statement M
 open-spec = tie.close (tie.spec judge-requires enum-known-k enum-told start-requires returns same-length returns-2)

@@ -1,7 +1,11 @@
 -- `walk::step` meets its contract: a refusal is the gate's, and a block that it lets pass is taken. Assumes nothing.
-use mathlib.Core.Path.{sym, _∙_}
+use mathlib.Core.Path.{_≡_, sym, subst, _∙_}
+use Prim.Native.Nat.{ℕ}
 use borrow.Author.Needs.{needs}
 use Rattle.kinds.specs.Limits.{doubles}
+use Rattle.kinds.specs.declared.Verdict.the-variants.{Good}
+use Rattle.sound.specs.Sound.{gated}
+use Rattle.sound.specs.GateLaws.{gated-open}
 use Rattle.walk.specs.StepLaws.{stepped-refused, stepped-good}
 use Rattle.walk.proofs.step.Statement.{statement}
 use Rattle.walk.proofs.step.Tie as tie
@@ -16,7 +20,11 @@ enum-told : tie.Need-enum-told
 enum-told c = search needs
 
 accepted-requires : tie.Need-accepted-requires
-accepted-requires c κs = let g = c .before .before .before in sym (g .gate .ensures) ∙ c .before .enum-told .given .1
+accepted-requires c κs =
+    let j = c .before .before .before in
+    let a = j .before .before .before .args in
+    let g = sym (j .gate .ensures) ∙ c .before .enum-told .given .1 in
+    subst (λ (k : ℕ). gated doubles (a .s) k (a .block) (a .work .now) ≡ Good) (gated-open doubles (a .s) (a .ensemble) (a .block) (a .work .now) g .named) g
 
 same-length : tie.Need-same-length
 same-length c = search needs

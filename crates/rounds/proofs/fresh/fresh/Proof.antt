@@ -43,7 +43,7 @@ from-mu-requires c κs =
 returns : tie.Need-returns
 returns c =
     let s = c .before .before .before in
-    c .from-mu .ensures ∙ ap (λ (m : ℕ). fresh doubles (s .args .zero) (s .args .n) m (s .args .rounds)) (mu (c .before) .units)
+    c .from-mu .ensures ∙ ap (λ (m : ℕ). fresh doubles (s .args .zero) (s .args .n) m (s .args .rounds) (s .args .ensemble)) (mu (c .before) .units)
 
 pub fresh-spec : {M : Type 1} → statement M
 fresh-spec = tie.close (tie.spec largest-requires from-mu-requires returns)

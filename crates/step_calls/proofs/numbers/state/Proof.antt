@@ -35,6 +35,12 @@ cast-of c =
     let h : getD (start .args .numbers .now) 6 0 < 2 ^ 32 = fields (start .args .numbers .now) (start .pre .1) .rounds in
     search needs
 
+cast-of-2 : tie.Need-cast-of-2
+cast-of-2 c =
+    let start = c .before .before .before .before .before .before .before .before in
+    let h : getD (start .args .numbers .now) 7 0 < 2 ^ 32 = fields (start .args .numbers .now) (start .pre .1) .ensemble in
+    search needs
+
 pub state-spec : {M : Type 1} → statement M
 state-spec =
     tie.close
@@ -49,5 +55,7 @@ state-spec =
     (λ c. search needs)
     (λ c. search needs)
     cast-of
+    (λ c. search needs)
+    cast-of-2
     (λ c κs. search needs)
     (λ c. search needs))

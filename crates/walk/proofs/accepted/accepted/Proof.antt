@@ -15,7 +15,7 @@ use Rattle.walk.proofs.accepted.accepted.Tie as tie
 through : (c : tie.After-slice-known) → Admitted doubles (doubles-fit .top) (c .before .args .s) (c .before .args .block) (c .before .args .work .now)
 through c =
     let g = c .before in
-    admits doubles-fit (g .args .s) (g .args .block) (g .args .work .now) (subst T (sym (g .good .0 .1 .1 .0 .1)) tt) (g .pre)
+    admits doubles-fit (g .args .s) (g .args .s .ensemble) (g .args .block) (g .args .work .now) (subst T (sym (g .good .0 .1 .1 .0 .1)) tt) (g .pre)
 
 held : (c : tie.After-slice-known) → Each (λ x. T (fits binary64 x)) (c .before .args .work .now)
 held c = each-from (λ x. T (fits binary64 x)) (c .before .args .work .now) nan (λ i l. c .slice-known .given i)

@@ -71,8 +71,8 @@ returns c =
     let ps = g .args .list .now in
     let e = z .zero .ensures ∙ ap (λ (s : Bool). nearestFloat (doubles .format) s (pos 0)) (z .before .zero-sign .ensures) in
     let m = mu k .units ∙ ap (largest binary64) (sym (k .copy .ensures .0)) in
-    let q = c .from-mu .ensures ∙ ap (λ (u : ℕ). fresh doubles (z .zero .result) (length ps) u 0) m in
-    opened-good doubles ps (g .args .work .now) _ _ (c .from-mu .result) e (k .copy .ensures .0) q
+    let q = c .from-mu .ensures ∙ ap (λ (u : ℕ). fresh doubles (z .zero .result) (length ps) u 0 (g .args .ensemble)) m in
+    opened-good doubles (g .args .ensemble) ps (g .args .work .now) _ _ (c .from-mu .result) e (k .copy .ensures .0) q
 
 pub start-spec : {M : Type 1} → statement M
 start-spec = tie.close (tie.spec copy-requires zero-sign-requires zero-requires from-mu-requires same-length returns)

@@ -1,0 +1,107 @@
+"""Ensembles: two open side by side, and steps that name another."""
+import itertools
+
+import walk
+from calls import SIZE, TEN, VALUES, packed, started, step_of, total_of, undivided
+from exact import ONES
+from fixed import BASE, BASE_AREA, NANS, NUMBERS, PLACES, SETS
+from sequences import ORDERS, number, turn, unread
+
+
+def others(ensemble):
+    """Numbers that are easily taken for another: a bit off, half of it the same, the halves exchanged, and none."""
+    near = [ensemble ^ 1, ensemble ^ 1 << 31, ensemble ^ 1 << 16, ensemble % 2**16, ensemble >> 16, (ensemble << 16 | ensemble >> 16) % 2**32, 0, ONES % 2**32]
+    return [other for other in dict.fromkeys(near) if other != ensemble]
+
+
+def strangers(chance):
+    """21 beside 4, which comes before it, and beside each refusal that comes behind; and an eighth number above 32 bits, which is no ensemble's."""
+    for n, numbers, pending, places in itertools.product((65, 66), NUMBERS, SETS, PLACES[:4]):
+        area = list(BASE_AREA)
+        for place in places:
+            area[place] = chance.choice(NANS)
+        s, wide = BASE._replace(n=n, pending=pending, **numbers), chance.choice([1 << 32, 1 << 33, 1 << 63, ONES - ONES % 2**32])
+        for block in (0, 1, 2):
+            for own, named in [(s.ensemble, chance.choice(others(s.ensemble))), (s.ensemble | wide, s.ensemble), (wide, 0)]:
+                yield step_of([*unread(chance)[:1], *s[:6], own, *unread(chance)[1:]], area, block, named)[0]
+    for named in others(BASE.ensemble):
+        yield step_of([1, *BASE, 0, 0], BASE_AREA, 1, named)[0]
+
+
+# ---- side by side
+class Ensemble:
+    """A list that is walked under a number, and where its walk has come to."""
+
+    def __init__(self, chance, patterns, ensemble):
+        self.patterns, self.ensemble, self.order, self.steps = patterns, ensemble, chance.choice(ORDERS), 0
+        self.area = [0] * len(patterns)
+        self.answer = walk.opening(patterns, self.area, ensemble)
+
+    def opened(self, chance):
+        return started("kewohiata_walk_open", packed(self.patterns), chance.randbytes(SIZE * len(self.patterns)), chance.randbytes(SIZE * TEN), self.ensemble)
+
+    def undivided(self, chance):
+        data, n = packed(self.patterns), len(self.patterns)
+        return started("kewohiata_walk_faithful", data, chance.randbytes(SIZE * n), chance.randbytes(SIZE * VALUES["kewohiata_walk_faithful"]))
+
+    def goes_on(self):
+        return self.answer[0] == "more"
+
+    def numbers(self, chance):
+        first, *last = unread(chance)
+        return [first, *self.answer[1], *last]
+
+    def step(self, chance):
+        block = self.order(self.answer[1].pending, turn(chance))
+        request, self.answer, self.area = step_of(self.numbers(chance), self.area, block, self.ensemble, total_of(tuple(self.patterns)))
+        self.steps += 1
+        return request
+
+    def stepped_by(self, chance, other):
+        """Three mistakes: this state for the other's number, for some other number, and over the other's work area."""
+        block = chance.randrange(walk.blocks_of(len(self.patterns)) + 1)
+        yield step_of(self.numbers(chance), self.area, block, other.ensemble)[0]
+        yield step_of(self.numbers(chance), self.area, block, chance.choice(others(self.ensemble)))[0]
+        yield step_of(self.numbers(chance), other.area, block, other.ensemble)[0]
+
+
+def side_by_side(chance, one, other):
+    """Steps of two walks in any order, with wrongly named ones between: each ends as its undivided call does, after rounds times blocks steps."""
+    yield one.opened(chance)
+    yield other.opened(chance)
+    while one.goes_on() or other.goes_on():
+        a, b = chance.choice([(one, other), (other, one)])
+        if a.goes_on():
+            if chance.random() < 0.5:
+                yield from a.stepped_by(chance, b)
+            yield a.step(chance)
+    for walked in (one, other):
+        assert (walked.answer, walked.area) == undivided(tuple(walked.patterns)), f"side by side: {walked.patterns}"
+        assert walked.steps == walked.answer[2] * walk.blocks_of(len(walked.patterns)), f"{walked.steps} steps: {walked.patterns}"
+        yield walked.undivided(chance)
+
+
+def pair(chance, n, m):
+    """Two lists, under numbers that are easily taken for each other."""
+    ensemble = number(chance)
+    shapes = [walk.numbers, walk.cancelled]
+    lists = [chance.choice(shapes)(chance, k) for k in (n, m)]
+    return [Ensemble(chance, patterns, k) for patterns, k in zip(lists, (ensemble, chance.choice(others(ensemble))))]
+
+
+def two_ensembles(chance):
+    """Of one length and of two, one block and several."""
+    for n, m in [(1, 1), (2, 3), (16, 16), (64, 64), (64, 65), (130, 130), (200, 129), (513, 513)]:
+        for _ in range(6):
+            yield from side_by_side(chance, *pair(chance, n, m))
+
+
+# ---- at random
+def pairs(chance):
+    for _ in range(4):
+        n = chance.choice([1, 2, 3, 30, 64, 65, 130, chance.randint(4, 200)])
+        yield from side_by_side(chance, *pair(chance, n, chance.choice([n, n, chance.randint(1, 200)])))
+
+
+FIXED = [strangers, two_ensembles]
+DRAWN = [pairs]
