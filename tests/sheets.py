@@ -41,8 +41,8 @@ def sheet(patterns, version=1, count=None):
     return header + b"".join(pattern.to_bytes(8, "big") for pattern in patterns)
 
 
-def read(data):
-    """The patterns of a sheet, or the refusal: 11 for fewer than 5 bytes, 12, 1, 11, 13."""
+def count_of(data):
+    """The count that a sheet's header tells, or the refusal: 11 for fewer than 5 bytes, 12, 1."""
     if len(data) < 5:
         raise Refused(11, 0)
     if data[0] != 1:
@@ -50,6 +50,12 @@ def read(data):
     count = int.from_bytes(data[1:5], "big")
     if count > exact.LENGTH:
         raise Refused(1, 0)
+    return count
+
+
+def read(data):
+    """The patterns of a sheet, or the refusal: the header's, then 11, 13."""
+    count = count_of(data)
     if len(data) < 5 + 8 * count:
         raise Refused(11, 0)
     if len(data) > 5 + 8 * count:
@@ -65,14 +71,8 @@ def mark(entry):
 
 
 def rescue(data):
-    """The sheet that is saved of a damaged one, the marks, how many entries are missing and how many bytes lie over; or the refusal: 11, 12, 1."""
-    if len(data) < 5:
-        raise Refused(11, 0)
-    if data[0] != 1:
-        raise Refused(12, 0)
-    count = int.from_bytes(data[1:5], "big")
-    if count > exact.LENGTH:
-        raise Refused(1, 0)
+    """The sheet that is saved of a damaged one, the marks, how many entries are missing and how many bytes lie over; or the header's refusal."""
+    count = count_of(data)
     entries = [data[i : i + 8] for i in range(5, len(data), 8)][:count]
     entries = [entry for entry in entries if len(entry) == 8]
     marks = bytes(map(mark, entries))
