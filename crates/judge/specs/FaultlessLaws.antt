@@ -9,12 +9,9 @@ use Rattle.lists.specs.Apart.{apart}
 use Rattle.lists.specs.Every.{every}
 use Rattle.kinds.specs.Limits.{Width}
 use Rattle.kinds.specs.declared.Verdict.the-variants.{Good, Refused}
-use Rattle.judge.specs.Judge.{faultOf, firstFault}
+use Rattle.judge.specs.Judge.{faultOf, faultFree, firstFault}
 
--- a pattern without a fault; no pattern of a list has one
-abbrev pub faultFree : Width → ℕ → Bool
-faultFree W p = eqb (faultOf W p) 0
-
+-- no pattern of a list has a fault
 abbrev pub faultless : Width → List ℕ → Bool
 faultless W ps = every (faultFree W) ps
 

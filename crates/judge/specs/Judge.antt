@@ -19,6 +19,10 @@ faultOf W p =
     (cond (leb (magnitude (W .format) (ofBits (W .format) p)) (magnitude (W .format) (ofBits (W .format) (W .magnitude)))) 0 3)
     2
 
+-- a pattern without a fault
+abbrev pub faultFree : Width → ℕ → Bool
+faultFree W p = eqb (faultOf W p) 0
+
 -- the lowest bad place with its own fault, places counted from k
 unfoldable pub firstFault : Width → List ℕ → ℕ → Verdict
 firstFault W [] k = Good

@@ -7,8 +7,7 @@ use native.Mathlib.Omega.{arith}
 use borrow.Author.Tests.{eq-eqb, ne-eqb}
 use lib.ListN.{length, drop, getD}
 use Rattle.kinds.specs.Limits.{doubles}
-use Rattle.judge.specs.Judge.{faultOf}
-use Rattle.judge.specs.FaultlessLaws.{faultFree}
+use Rattle.judge.specs.Judge.{faultOf, faultFree}
 use Rattle.octets.specs.Octets.{big, bytesAt}
 use Rattle.octets.specs.EightsLaws.{eights-length, eights-at}
 use Rattle.sheet.specs.Sheet.{patternsOf}

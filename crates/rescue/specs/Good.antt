@@ -14,10 +14,10 @@ use Rattle.kinds.specs.Limits.{Width, doubles}
 use Rattle.kinds.specs.Outcome.{outcome}
 use Rattle.kinds.specs.declared.Sheet.the-variants.{Read}
 use Rattle.kinds.specs.declared.Verdict.the-variants.{Good}
-use Rattle.judge.specs.Judge.{judged}
+use Rattle.judge.specs.Judge.{faultFree, judged}
 use Rattle.judge.specs.Table.{Allowed, allowed}
 use Rattle.judge.specs.FirstFaultLaws.{first-good}
-use Rattle.judge.specs.FaultlessLaws.{faultFree, faultless, faultless-good}
+use Rattle.judge.specs.FaultlessLaws.{faultless, faultless-good}
 use Rattle.judge.specs.JudgeLaws.{list-when, list-allowed, list-passed}
 use Rattle.octets.specs.Octets.{big}
 use Rattle.octets.specs.OctetsLaws.{big-below}

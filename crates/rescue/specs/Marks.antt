@@ -13,10 +13,10 @@ use Rattle.lists.specs.Apart.{apart}
 use Rattle.lists.specs.Every.{every}
 use Rattle.lists.specs.Filter.{filter}
 use Rattle.kinds.specs.Limits.{Width}
-use Rattle.judge.specs.Judge.{faultOf}
+use Rattle.judge.specs.Judge.{faultOf, faultFree}
 use Rattle.judge.specs.Table.{floatOf, sizeOf, most}
 use Rattle.judge.specs.FaultLaws.{fault-0, fault-2, fault-3, fault-number}
-use Rattle.judge.specs.FaultlessLaws.{faultFree, faultless}
+use Rattle.judge.specs.FaultlessLaws.{faultless}
 use Rattle.rescue.specs.Rescue.{keptOf, faultMark, markOf, markedKept}
 
 -- the fault that a mark tells

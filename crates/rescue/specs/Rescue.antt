@@ -10,8 +10,7 @@ use lib.ListN.{length, drop}
 use Rattle.lists.specs.Filter.{filter, others}
 use Rattle.kinds.specs.Limits.{Width}
 use Rattle.kinds.specs.Heard.{Heard, refused, rescued, placeOf}
-use Rattle.judge.specs.Judge.{faultOf}
-use Rattle.judge.specs.FaultlessLaws.{faultFree}
+use Rattle.judge.specs.Judge.{faultOf, faultFree}
 use Rattle.sheet.specs.Sheet.{sheetOf, versionOf, countOf, patternsOf}
 use Rattle.sheet.specs.Table.{Begun}
 use Rattle.rescue.specs.declared.Report.{Report}

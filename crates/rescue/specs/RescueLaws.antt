@@ -20,7 +20,7 @@ use Rattle.kinds.specs.Limits.{Width}
 use Rattle.kinds.specs.OutcomeLaws.{same}
 use Rattle.kinds.specs.declared.Verdict.{Verdict}
 use Rattle.kinds.specs.declared.Verdict.the-variants as verdicts
-use Rattle.judge.specs.FaultlessLaws.{faultFree}
+use Rattle.judge.specs.Judge.{faultFree}
 use Rattle.octets.specs.Octets.{big}
 use Rattle.octets.specs.EightsLaws.{eights-length}
 use Rattle.sheet.specs.Sheet.{sheetOf, versionOf, countOf, patternsOf}

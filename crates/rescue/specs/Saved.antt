@@ -14,7 +14,7 @@ use Rattle.lists.specs.Front.{length-front, map-at}
 use Rattle.lists.specs.Filter.{filter-others}
 use Rattle.kinds.specs.Limits.{Width}
 use Rattle.judge.specs.Table.{floatOf, sizeOf, most}
-use Rattle.judge.specs.FaultlessLaws.{faultFree}
+use Rattle.judge.specs.Judge.{faultFree}
 use Rattle.octets.specs.Octets.{big}
 use Rattle.octets.specs.EightsLaws.{eights-length}
 use Rattle.sheet.specs.Sheet.{sheetOf, countOf}

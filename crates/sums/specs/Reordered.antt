@@ -15,9 +15,9 @@ use Rattle.lists.specs.Reordered.{length-reordered, every-reordered}
 use Rattle.kinds.specs.Limits.{Width, doubles}
 use Rattle.kinds.specs.declared.Verdict.{Verdict}
 use Rattle.kinds.specs.declared.Verdict.the-variants.{Good, Refused}
-use Rattle.judge.specs.Judge.{judged, zeroSign}
+use Rattle.judge.specs.Judge.{faultFree, judged, zeroSign}
 use Rattle.judge.specs.Table.{Allowed, Passed, ListWhen, too-many, wrong-area, wrong-parts, bad-number, allowed}
-use Rattle.judge.specs.FaultlessLaws.{faultFree, faultless-good}
+use Rattle.judge.specs.FaultlessLaws.{faultless-good}
 use Rattle.judge.specs.FirstFaultLaws.{found, first-good}
 use Rattle.judge.specs.JudgeLaws.{list-when, list-passed, list-allowed, judged-1, judged-4, judged-5}
 use Rattle.register.specs.Entries.{Change, add, patternOf, changeOf, run, zeros}

@@ -7,7 +7,7 @@ use lib.ListN.{length}
 use Rattle.lists.specs.Every.{Looked, looked-none, looked-over, looked-all}
 use Rattle.kinds.specs.Limits.{doubles}
 use Rattle.judge.specs.FaultLaws.{proper-doubles, pattern-test}
-use Rattle.judge.specs.FaultlessLaws.{faultFree}
+use Rattle.judge.specs.Judge.{faultFree}
 use Rattle.judge.proofs.faultless.Statement.{statement}
 use Rattle.judge.proofs.faultless.Tie as tie
 

@@ -6,7 +6,7 @@ use borrow.Author.Needs.{needs}
 use lib.ListN.{length, drop}
 use Rattle.lists.specs.Filter.{Sifted, sifted-none, sifted-pass, sifted-fail, sifted-all}
 use Rattle.kinds.specs.Limits.{doubles}
-use Rattle.judge.specs.FaultlessLaws.{faultFree}
+use Rattle.judge.specs.Judge.{faultFree}
 use Rattle.octets.specs.Octets.{big}
 use Rattle.octets.specs.EightsLaws.{eights-length}
 use Rattle.sheet.specs.Sheet.{patternsOf}

@@ -10,7 +10,7 @@ use lib.ListN.{length, getD, take, drop, take-append-drop}
 use lib.Seq.{take-all, length-take-le}
 use Rattle.lists.specs.Filter.{Sifted, sifted-none, sifted-inside, sifted-at, sifted-pass, sifted-fail, sifted-all}
 use Rattle.kinds.specs.Limits.{doubles}
-use Rattle.judge.specs.FaultlessLaws.{faultFree}
+use Rattle.judge.specs.Judge.{faultFree}
 use Rattle.octets.specs.Octets.{bigEndian, big}
 use Rattle.octets.specs.OctetsLaws.{big-length}
 use Rattle.octets.specs.EightsLaws.{eights-length, joined-none, joined-behind}
