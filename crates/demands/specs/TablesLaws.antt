@@ -3,7 +3,7 @@ use mathlib.Core.Path.{_≡_, refl, ap, _∙_}
 use mathlib.Core.Logic.{_↔_, inl, inr}
 use mathlib.Core.Bool.{Bool, true, false}
 use mathlib.Core.List.{List}
-use Prim.Native.Nat.{ℕ, _^_, _<_}
+use Prim.Native.Nat.{ℕ, _^_, _≤_, _<_}
 use native.Mathlib.Decide.{ℕ-discrete}
 use native.Mathlib.Omega.{arith}
 use lib.IntN.{natAbs}
@@ -101,15 +101,21 @@ module _ (W : Width) (top : ℕ) (is : sizeOf W (W .magnitude) ≡ 2 ^ top) (s :
   pub step-when : (v : Verdict) → (gated W s k b work ≡ v) ↔ StepWhen W s k b work v
   step-when = exactly (gated W s k b work) (StepWhen W s k b work) (λ v. row) some-row
 
+  -- the state's own refusals lie between 8 and 19, and of the others in this table none does
+  between : {l : ℕ} → OfState l → (8 ≤ l) × (l ≤ 19)
+  between (inl e) = (omega arith, omega arith)
+  between (inr (inl e)) = (omega arith, omega arith)
+  between (inr (inr e)) = (omega arith, omega arith)
+
   -- of an area of n numbers and a step that names the state's ensemble: the state is sound exactly where none of its own refusals is given
   of-state : {l i : ℕ} → StepWhen W s k b work (Refused l i) → OfState l → SoundState W s work → ⊥
-  of-state (wrong-length n) o S = elim o [ inl e ↦ omega arith | inr q ↦ elim q [ inl e ↦ omega arith | inr e ↦ omega arith ] ]
-  of-state (other-ensemble l n) o S = elim o [ inl e ↦ omega arith | inr q ↦ elim q [ inl e ↦ omega arith | inr e ↦ omega arith ] ]
+  of-state (wrong-length n) o S = omega (arith, between o .0, between o .1)
+  of-state (other-ensemble l n) o S = omega (arith, between o .0, between o .1)
   of-state (unsound-numbers l m n) o S = n (S .numbers)
   of-state (unsound-set l m N n) o S = n (S .set)
   of-state (unsound-place l m N P i F) o S = F .bad (each-at (SoundPlace W s) work i nan (S .work) (F .inside))
-  of-state (no-block l m P h) o S = elim o [ inl e ↦ omega arith | inr q ↦ elim q [ inl e ↦ omega arith | inr e ↦ omega arith ] ]
-  of-state (taken-before l m P h p) o S = elim o [ inl e ↦ omega arith | inr q ↦ elim q [ inl e ↦ omega arith | inr e ↦ omega arith ] ]
+  of-state (no-block l m P h) o S = omega (arith, between o .0, between o .1)
+  of-state (taken-before l m P h p) o S = omega (arith, between o .0, between o .1)
 
   none-given : {v : Verdict} → StepWhen W s k b work v → length work ≡ s .n → k ≡ s .ensemble → ((l i : ℕ) → OfState l → v ≡ Refused l i → ⊥)
       → SoundState W s work
