@@ -1,0 +1,8 @@
+-- Products of pairs, each with its exact error, and weighted sums. Definitions first, then laws.
+pub mod Limits
+pub mod Pairs
+pub mod Table
+pub mod FaultLaws
+pub mod ZipLaws
+pub mod JudgedLaws
+pub mod TableLaws
