@@ -3,7 +3,7 @@ use mathlib.Core.Path.{_≡_, refl, sym, ap, _∙_}
 use mathlib.Core.Logic.{_⊎_, inl, inr, _↔_}
 use mathlib.Core.Bool.{Bool, true, false, cond, not, _&&_, _||_}
 use Prim.Native.Nat.{ℕ, _*_, _%_, _≤_, _<_}
-use native.Mathlib.Nat.{zero-div, zero-mod}
+use native.Mathlib.Nat.{zero-div, zero-mod, mod-eq-of-lt}
 use native.Mathlib.Omega.{arith}
 use borrow.Author.Tests.{le-leb, lt-leb, lt-ltb, le-ltb, leb-true, leb-false, eq-eqb, ne-eqb, eqb-true, eqb-false}
 use lib.Dec.{T, leb, ltb, eqb, lit<}
@@ -205,6 +205,66 @@ module _ (P : Pairing) where
         go false true b = refl
         go false false true = refl
         go false false false = refl
+
+  -- ---- as the code tests it
+  -- a pattern without its sign has the same magnitude, and is itself
+  module _ (r : ℕ) (h : r < ones f * hid f) where
+    below : r < top f
+    below = omega arith
+
+    pub plain-test : Proper P → (not (eqb r 0) && (ltb r (P .least) || ltb (P .most) r)) ≡ not (inRange P r)
+    plain-test R = rw (mod-eq-of-lt below) at (outside-test R r (rw (mod-eq-of-lt below) h))
+
+  unsigned : (p : ℕ) → p % top f < ones f * hid f → inRange P (p % top f) ≡ inRange P p
+  unsigned p h = ap (λ (n : ℕ). eqb n 0 || (leb (sizeOf (P .width) (P .least)) n && leb n (sizeOf (P .width) (P .most)))) (plain (p % top f) h ∙ sym (units p h))
+
+  module _ (c : Pair) where
+    abbrev a : ℕ
+    a = c .0 % top f
+
+    abbrev b : ℕ
+    b = c .1 % top f
+
+    pub pattern-2 : (leb (ones f * hid f) a || leb (ones f * hid f) b) ≡ true → pairFault P c ≡ 2
+    unfolding pairFault
+    pattern-2 e = rw (← (finite-test (c .0)), ← (finite-test (c .1))) (go (leb (ones f * hid f) a) (leb (ones f * hid f) b) e _)
+      where
+        go : (s t : Bool) → (s || t) ≡ true → (r : ℕ) → _≡_ {A = ℕ} (cond (not s && not t) r 2) 2
+        go true t e r = refl
+        go false true e r = refl
+        go false false e r = apart (cc)
+
+    module _ (e : (leb (ones f * hid f) a || leb (ones f * hid f) b) ≡ false) where
+      pub a-below : a < ones f * hid f
+      a-below = leb-false (ones f * hid f) a (go (leb (ones f * hid f) a) (leb (ones f * hid f) b) e)
+        where
+          go : (s t : Bool) → (s || t) ≡ false → s ≡ false
+          go true t e = e
+          go false t e = refl
+
+      pub b-below : b < ones f * hid f
+      b-below = leb-false (ones f * hid f) b (go (leb (ones f * hid f) a) (leb (ones f * hid f) b) e)
+        where
+          go : (s t : Bool) → (s || t) ≡ false → t ≡ false
+          go true t e = apart (cc)
+          go false t e = e
+
+      pub pattern-ranges : pairFault P c ≡ cond (not (inRange P a) || not (inRange P b)) 23 0
+      unfolding pairFault
+      pattern-ranges =
+          rw (
+            ← (finite-test (c .0)),
+            ← (finite-test (c .1)),
+            lt-leb (ones f * hid f) a a-below,
+            lt-leb (ones f * hid f) b b-below,
+            ← (unsigned (c .0) a-below),
+            ← (unsigned (c .1) b-below),
+          ) (go (inRange P a) (inRange P b))
+        where
+          go : (r s : Bool) → _≡_ {A = ℕ} (cond (r && s) 0 23) (cond (not r || not s) 23 0)
+          go true true = refl
+          go true false = refl
+          go false s = refl
 
 -- ---- the limits at binary64
 pub proper-doubles : Proper doublePairs

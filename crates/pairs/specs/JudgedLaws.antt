@@ -7,11 +7,12 @@ use Prim.Native.Nat.{ℕ, suc, _≤_, _<_}
 use native.Mathlib.Decide.{ℕ-discrete}
 use native.Mathlib.Nat.{eq-or-lt-of-le, le-of-suc-le-suc}
 use native.Mathlib.Omega.{arith}
-use borrow.Author.Tests.{lt-ltb, le-ltb, eq-eqb, ne-eqb}
+use borrow.Author.Tests.{ltb-true, ltb-false, lt-ltb, le-ltb, eq-eqb, ne-eqb}
 use lib.Dec.{T, ltb, lit<}
 use lib.ListN.{length, getD}
 use lib.Ieee.Bits.{is-true, is-false}
 use Rattle.units.specs.Powers.{le-or-lt}
+use Rattle.lists.specs.Apart.{apart}
 use Rattle.kinds.specs.Heard.{Refusal}
 use Rattle.kinds.specs.Hearing.{exactly, placed, at-place-0}
 use Rattle.kinds.specs.declared.Verdict.{Verdict}
@@ -85,6 +86,24 @@ module _ (P : Pairing) (ps qs : List ℕ) (e : length ps ≡ length qs) where
 
 pub first-pair-number : {P : Pairing} {ps qs : List ℕ} {k i : ℕ} → FirstPair P ps qs k i → (k ≡ 2) ⊎ (k ≡ 23)
 first-pair-number {P} {ps} {qs} {i = i} F = rw (F .fault) at (pair-number P (pairAt ps qs i) (λ e. F .bad (sym (F .fault) ∙ e)))
+
+-- ---- either list is too long, or neither
+module _ (n l m : ℕ) where
+  pub either-above : (ltb n l || ltb n m) ≡ true → (n < l) ⊎ (n < m)
+  either-above = go (ltb n l) (ltb n m) (ltb-true n l) (ltb-true n m)
+    where
+      go : (a b : Bool) → (a ≡ true → n < l) → (b ≡ true → n < m) → (a || b) ≡ true → (n < l) ⊎ (n < m)
+      go true b f g e = inl (f refl)
+      go false true f g e = inr (g refl)
+      go false false f g e = apart (cc)
+
+  pub neither-above : (ltb n l || ltb n m) ≡ false → (l ≤ n) × (m ≤ n)
+  neither-above = go (ltb n l) (ltb n m) (ltb-false n l) (ltb-false n m)
+    where
+      go : (a b : Bool) → (a ≡ false → l ≤ n) → (b ≡ false → m ≤ n) → (a || b) ≡ false → (l ≤ n) × (m ≤ n)
+      go true b f g e = apart (cc)
+      go false true f g e = apart (cc)
+      go false false f g e = (f refl, g refl)
 
 -- ---- case by case
 module _ (P : Pairing) (area : Bool) (ps qs : List ℕ) where

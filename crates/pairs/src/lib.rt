@@ -1,4 +1,6 @@
 // Products of pairs, each with its exact error, and weighted sums.
+mod faults;
+
 ghost use mathlib.Core.Path.{_≡_};
 ghost use Rattle.pairs.specs.Limits.{doublePairs, Tied};
 
