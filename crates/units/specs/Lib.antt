@@ -23,3 +23,4 @@ pub mod WalkLaws
 pub mod Integers
 pub mod ExactSum
 pub mod AnyOrder
+pub mod Products
