@@ -24,3 +24,4 @@ pub mod Integers
 pub mod ExactSum
 pub mod AnyOrder
 pub mod Products
+pub mod Split
