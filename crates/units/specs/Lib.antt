@@ -25,3 +25,4 @@ pub mod ExactSum
 pub mod AnyOrder
 pub mod Products
 pub mod Split
+pub mod TwoProduct
