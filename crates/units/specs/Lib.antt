@@ -23,3 +23,6 @@ pub mod WalkLaws
 pub mod Integers
 pub mod ExactSum
 pub mod AnyOrder
+pub mod Products
+pub mod Split
+pub mod TwoProduct
