@@ -24,5 +24,6 @@ pub mod Integers
 pub mod ExactSum
 pub mod AnyOrder
 pub mod Products
+pub mod ScaledSums
 pub mod Split
 pub mod TwoProduct
