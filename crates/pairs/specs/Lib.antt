@@ -6,3 +6,4 @@ pub mod FaultLaws
 pub mod ZipLaws
 pub mod JudgedLaws
 pub mod TableLaws
+pub mod ProductLaws
