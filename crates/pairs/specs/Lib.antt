@@ -7,3 +7,4 @@ pub mod ZipLaws
 pub mod JudgedLaws
 pub mod TableLaws
 pub mod ProductLaws
+pub mod Reordered
