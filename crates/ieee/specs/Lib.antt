@@ -18,4 +18,5 @@ pub mod TwoFaithful
 pub mod InRange
 pub mod Zeros
 pub mod Scaled
+pub mod Split
 pub mod Instances
