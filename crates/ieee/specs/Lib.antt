@@ -19,4 +19,5 @@ pub mod InRange
 pub mod Zeros
 pub mod Scaled
 pub mod Split
+pub mod TwoProduct
 pub mod Instances
