@@ -3,7 +3,7 @@
 use mathlib.Core.Path.{_≡_, ap}
 use mathlib.Core.Logic.{_⊎_, inl, inr}
 use Prim.Native.Nat.{ℕ, suc, _+_, _*_, _^_, _≤_, _<_}
-use native.Mathlib.Nat.{mul-le-mul-left, mul-le-mul-right, le-trans}
+use native.Mathlib.Nat.{mul-le-mul, mul-sub}
 use native.Mathlib.Omega.{arith}
 use lib.IntN.{ℤ, pos, negsuc, _*ℤ_}
 use lib.Pow.{pow-add}
@@ -42,6 +42,10 @@ module _ (a b c : Whole) where
   unfolding _⊙_
   plus-times = omega arith
 
+pub nat-times : (k : ℕ) (a : Whole) → nat k ⊙ a ≈ k ⊗ a
+unfolding _⊙_
+nat-times k a = omega arith
+
 pub times-scale : (j k : ℕ) (a b : Whole) → (j ⊗ a) ⊙ (k ⊗ b) ≈ (j * k) ⊗ (a ⊙ b)
 unfolding _⊙_
 times-scale j k a b = omega arith
@@ -56,6 +60,9 @@ times-multiple {i} {j} {a} {b} A B = record { count = A .count ⊙ B .count; is 
     y = times-scale (2 ^ i) (2 ^ j) (A .count) (B .count)
 
 -- ---- magnitudes
+pub scale-mag : (k : ℕ) (a : Whole) → mag (k ⊗ a) ≡ k * mag a
+scale-mag k a = omega (arith, mul-sub k (a .up) (a .dn), mul-sub k (a .dn) (a .up))
+
 module _ (m n : ℕ) where
   nat-nat : nat m ⊙ nat n ≈ nat (m * n)
   unfolding _⊙_
@@ -98,7 +105,7 @@ times-mag a b = by (le-or-lt (a .dn) (a .up)) (le-or-lt (b .dn) (b .up))
 
 pub times-within : (a b : Whole) (c d : ℕ) → Within a c → Within b d → Within (a ⊙ b) (c * d)
 times-within a b c d h k =
-    let l : mag (a ⊙ b) ≤ c * d = rw (times-mag a b) (le-trans (mul-le-mul-right (mag b) (omega arith)) (mul-le-mul-left c (omega arith))) in
+    let l : mag (a ⊙ b) ≤ c * d = rw (times-mag a b) (mul-le-mul (omega arith) (omega arith)) in
     omega arith
 
 -- ---- the language's own product
