@@ -6,7 +6,7 @@ use Prim.Native.Nat.{ℕ, _*_, _%_, _≤_, _<_}
 use native.Mathlib.Nat.{zero-div, zero-mod, mod-eq-of-lt}
 use native.Mathlib.Omega.{arith}
 use borrow.Author.Tests.{le-leb, lt-leb, lt-ltb, le-ltb, leb-true, leb-false, eq-eqb, ne-eqb, eqb-true, eqb-false}
-use lib.Dec.{T, leb, ltb, eqb, lit<}
+use lib.Dec.{T, leb, ltb, eqb, ltb→lt, lit<}
 use lib.Ieee.{Format, ones, hid, top, ofBits}
 use lib.Ieee.Bits.{is-true, is-false}
 use lib.Ieee.Scale.{finite}
@@ -166,7 +166,7 @@ module _ (P : Pairing) where
         | inr h ↦ rw (lt-ltb (p % top f) (ones f * hid f) h, lt-leb (ones f * hid f) (p % top f) h)
       ]
 
-  module _ (R : Proper P) (p : ℕ) (h : p % top f < ones f * hid f) where
+  module _ (p : ℕ) (h : p % top f < ones f * hid f) where
     abbrev r : ℕ
     r = p % top f
 
@@ -174,7 +174,8 @@ module _ (P : Pairing) where
     unfolding patternUnits
     no-units = rw (zero-div (hid f), zero-mod (hid f))
 
-    nothing : eqb r 0 ≡ eqb (sizeOf (P .width) p) 0
+    -- no digit and no field, no unit
+    pub nothing : eqb (p % top (P .width .format)) 0 ≡ eqb (sizeOf (P .width) p) 0
     nothing = elim (le-or-lt r 0) [
       | inl z ↦
           let e : r ≡ 0 = omega arith in
@@ -184,27 +185,30 @@ module _ (P : Pairing) where
           rw (ne-eqb r 0 (λ e. omega arith), ne-eqb (sizeOf (P .width) p) 0 (λ e. omega (arith, units p h)))
     ]
 
-    least-test : not (ltb r (P .least)) ≡ leb (sizeOf (P .width) (P .least)) (sizeOf (P .width) p)
-    least-test = rw (units p h, plain (P .least) (R .least)) (elim (le-or-lt (P .least) r) [
+    least-test : Proper P → not (ltb r (P .least)) ≡ leb (sizeOf (P .width) (P .least)) (sizeOf (P .width) p)
+    least-test R = rw (units p h, plain (P .least) (R .least)) (elim (le-or-lt (P .least) r) [
       | inl l ↦ rw (le-ltb r (P .least) l, le-leb (patternUnits f (P .least)) (patternUnits f r) (pattern-le f .0 l))
       | inr l ↦ rw (lt-ltb r (P .least) l, lt-leb (patternUnits f (P .least)) (patternUnits f r) (pattern-lt f .0 l))
     ])
 
-    most-test : not (ltb (P .most) r) ≡ leb (sizeOf (P .width) p) (sizeOf (P .width) (P .most))
-    most-test = rw (units p h, plain (P .most) (R .most)) (elim (le-or-lt r (P .most)) [
+    most-test : Proper P → not (ltb (P .most) r) ≡ leb (sizeOf (P .width) p) (sizeOf (P .width) (P .most))
+    most-test R = rw (units p h, plain (P .most) (R .most)) (elim (le-or-lt r (P .most)) [
       | inl l ↦ rw (le-ltb (P .most) r l, le-leb (patternUnits f r) (patternUnits f (P .most)) (pattern-le f .0 l))
       | inr l ↦ rw (lt-ltb (P .most) r l, lt-leb (patternUnits f r) (patternUnits f (P .most)) (pattern-lt f .0 l))
     ])
 
-    pub outside-test : (not (eqb r 0) && (ltb r (P .least) || ltb (P .most) r)) ≡ not (inRange P p)
-    outside-test =
-        rw (← nothing, ← least-test, ← most-test) (go (eqb r 0) (ltb r (P .least)) (ltb (P .most) r))
+    outside-test : Proper P → (not (eqb r 0) && (ltb r (P .least) || ltb (P .most) r)) ≡ not (inRange P p)
+    outside-test R =
+        rw (← nothing, ← (least-test R), ← (most-test R)) (go (eqb r 0) (ltb r (P .least)) (ltb (P .most) r))
       where
         go : (z a b : Bool) → (not z && (a || b)) ≡ not (z || (not a && not b))
         go true a b = refl
         go false true b = refl
         go false false true = refl
         go false false false = refl
+
+  pub finite-below : (p : ℕ) → Finite P p → p % top (P .width .format) < ones (P .width .format) * hid (P .width .format)
+  finite-below p t = ltb→lt (p % top f) (ones f * hid f) (rw (pattern-finite f p) at t)
 
   -- ---- as the code tests it
   -- a pattern without its sign has the same magnitude, and is itself
@@ -213,7 +217,7 @@ module _ (P : Pairing) where
     below = omega arith
 
     pub plain-test : Proper P → (not (eqb r 0) && (ltb r (P .least) || ltb (P .most) r)) ≡ not (inRange P r)
-    plain-test R = rw (mod-eq-of-lt below) at (outside-test R r (rw (mod-eq-of-lt below) h))
+    plain-test R = rw (mod-eq-of-lt below) at (outside-test r (rw (mod-eq-of-lt below) h) R)
 
   unsigned : (p : ℕ) → p % top f < ones f * hid f → inRange P (p % top f) ≡ inRange P p
   unsigned p h = ap (λ (n : ℕ). eqb n 0 || (leb (sizeOf (P .width) (P .least)) n && leb n (sizeOf (P .width) (P .most)))) (plain (p % top f) h ∙ sym (units p h))

@@ -169,6 +169,9 @@ module _ {P : Pairing} {area : Bool} {ps qs : List ℕ} where
   pub when-matching : PairsWhen P area ps qs Good → Matching P ps qs
   when-matching (allowed M a A) = M
 
+  pub when-area : PairsWhen P area ps qs Good → T area
+  when-area (allowed M a A) = a
+
   pub when-allowed : PairsWhen P area ps qs Good → AllowedPairs P ps qs
   when-allowed (allowed M a A) = A
 

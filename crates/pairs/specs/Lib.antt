@@ -2,9 +2,14 @@
 pub mod Limits
 pub mod Pairs
 pub mod Table
+pub mod Promise
 pub mod FaultLaws
 pub mod ZipLaws
 pub mod JudgedLaws
 pub mod TableLaws
 pub mod ProductLaws
 pub mod Reordered
+pub mod WriteLaws
+pub mod PairLaws
+pub mod ListLaws
+pub mod Instances

@@ -84,7 +84,7 @@ module _ (f : Format) where
       ∙ sym (mul-number f x y X Y)
 
   -- one is
-  zero-product : (x y : Float) → magnitude f x ≡ 0 → value f x *ℤ value f y ≡ pos 0
+  pub zero-product : (x y : Float) → magnitude f x ≡ 0 → value f x *ℤ value f y ≡ pos 0
   unfolding value
   zero-product x y e = ap (λ (z : ℤ). z *ℤ value f y) (go (negative x) (magnitude f x) e) ∙ zero-*ℤ (value f y)
     where

@@ -1,8 +1,20 @@
 // Products of pairs, each with its exact error, and weighted sums.
+use crate::two::multiply;
+use kinds::Nearest;
+use kinds::Verdict;
+
 mod faults;
+mod two;
 
 ghost use mathlib.Core.Path.{_≡_};
+ghost use mathlib.Core.List.{zip};
+ghost use Prim.Native.Nat.{_*_, _≤_};
+ghost use lib.ListN.{length};
+ghost use Rattle.kinds.specs.Limits.{doubles};
+ghost use Rattle.kinds.specs.Outcome.{outcome};
 ghost use Rattle.pairs.specs.Limits.{doublePairs, Tied};
+ghost use Rattle.pairs.specs.Pairs.{productsOf, multipliedOf, weightedOf};
+ghost use Rattle.pairs.specs.Table.{AllowedPairs, Matching};
 
 // Two lists of binary64 patterns by their length. Rule M3: the limits on pairs are constants of this type.
 pub struct Pairs {
@@ -47,4 +59,34 @@ impl Pairs {
 pub enum Paired {
     Multiplied,
     Refused(u32, u32),
+}
+
+// Rule M7: the two numbers of each pair, at the places 2i and 2i + 1.
+fn write(a: &[u64], b: &[u64], out: &mut [u64])
+    requires { ⌜
+        Matching doublePairs (now a) (now b) × AllowedPairs doublePairs (now a) (now b) × (length (now out) ≡ 2 * length (now a))
+        ⌝ }
+    ensures { λ _. ⌜ now (out .exit) ≡ productsOf (doubles .format) (zip (now (a .entry)) (now (b .entry))) ⌝ }
+{
+    let mut i = 0;
+    while i < a.len() {
+        let two = multiply(a[i], b[i]);
+        out[2 * i] = two.product;
+        out[2 * i + 1] = two.error;
+        i += 1;
+    }
+}
+
+// The products of pairs, each with its exact error.
+pub fn products(a: &[u64], b: &[u64], out: &mut [u64]) -> Paired
+    ensures { λ r. ⌜ outcome r (now (out .exit)) ≡ multipliedOf doublePairs (now (a .entry)) (now (b .entry)) (now (out .entry)) ⌝ }
+{
+    let fits = (out.len() / 2 == a.len()) & (out.len() % 2 == 0);
+    match faults::judge(a, b, fits) {
+        Verdict::Refused(k, place) => Paired::Refused(k, place),
+        Verdict::Good => {
+            write(a, b, out);
+            Paired::Multiplied
+        }
+    }
 }
