@@ -25,10 +25,13 @@ use Rattle.judge.specs.JudgeLaws.{list-when}
 use Rattle.judge.specs.ZeroLaws.{zero-plus}
 use Rattle.sums.specs.Sums.{sumOf, nearestAfter, nearestOf}
 use Rattle.pairs.specs.Limits.{Pairing}
-use Rattle.pairs.specs.Pairs.{Pair, nearestProduct, productOf, errorOf, productsOf, weightedSum, pairFault}
-use Rattle.pairs.specs.Table.{pairAt, AllowedPairs, Matching}
+use Rattle.pairs.specs.Pairs.{Pair, nearestProduct, productOf, errorOf, productsOf, weightedSum, pairFault, weightedOf}
+use Rattle.pairs.specs.Table as pair-rows
+use Rattle.pairs.specs.Table.{AllowedPairs, Matching}
 use Rattle.pairs.specs.Promise.{TwoNumbers}
 use Rattle.pairs.specs.ZipLaws.{zip-length, zip-at}
+use Rattle.pairs.specs.JudgedLaws.{pairs-when}
+use Rattle.pairs.specs.TableLaws.{good-weighs}
 use Rattle.pairs.specs.WriteLaws.{products-length}
 use Rattle.pairs.specs.ProductLaws.{nearest-scaled}
 
@@ -103,3 +106,7 @@ module _ (P : Pairing) (N : EachPair P) where
         let S = sumOf f (productsOf f cs) in
         rw (list-when (P .width) true true (productsOf f cs) Good .1 (products-taken true true tt tt), products-plus cs F)
         (ap nearests.Sum (sym (nearest-scaled f S) ∙ ap (nearestProduct f) (products-sum cs F)))
+
+    -- so the call's answer is the nearest sum of the list
+    pub weighted-nearest : weightedOf P ps qs ≡ nearestOf (P .width) (productsOf (P .width .format) (zip ps qs))
+    weighted-nearest = good-weighs P ps qs (pairs-when P true ps qs Good .1 (pair-rows.allowed M tt A)) ∙ sym products-nearest

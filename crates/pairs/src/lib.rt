@@ -5,6 +5,7 @@ use kinds::Verdict;
 
 mod faults;
 mod two;
+mod weighted;
 
 ghost use mathlib.Core.Path.{_≡_};
 ghost use mathlib.Core.List.{zip};
@@ -53,6 +54,14 @@ impl Pairs {
     {
         Pairs { n }
     }
+
+    // rule A2: the places that the numbers of so many pairs take
+    pub fn places(self) -> usize
+        requires { ⌜ self .n ≤ doublePairs .length ⌝ }
+        ensures { λ r. ⌜ r ≡ 2 * self .n ⌝ }
+    {
+        2 * self.n
+    }
 }
 
 // of the products of pairs
@@ -87,6 +96,21 @@ pub fn products(a: &[u64], b: &[u64], out: &mut [u64]) -> Paired
         Verdict::Good => {
             write(a, b, out);
             Paired::Multiplied
+        }
+    }
+}
+
+// Rule M9: the nearest weighted sum.
+pub fn nearest(a: &[u64], b: &[u64]) -> Nearest
+    ensures { λ r. ⌜ r ≡ weightedOf doublePairs (now (a .entry)) (now (b .entry)) ⌝ }
+{
+    match faults::judge(a, b, true) {
+        Verdict::Refused(k, place) => Nearest::Refused(k, place),
+        Verdict::Good => {
+            if a.len() <= 64 {
+                return weighted::short(a, b);
+            }
+            weighted::long(a, b)
         }
     }
 }
