@@ -220,7 +220,8 @@ module _ (P : Pairing) where
     plain-test R = rw (mod-eq-of-lt below) at (outside-test r (rw (mod-eq-of-lt below) h) R)
 
   unsigned : (p : ℕ) → p % top f < ones f * hid f → inRange P (p % top f) ≡ inRange P p
-  unsigned p h = ap (λ (n : ℕ). eqb n 0 || (leb (sizeOf (P .width) (P .least)) n && leb n (sizeOf (P .width) (P .most)))) (plain (p % top f) h ∙ sym (units p h))
+  unsigned p h =
+      ap (λ (n : ℕ). eqb n 0 || (leb (sizeOf (P .width) (P .least)) n && leb n (sizeOf (P .width) (P .most)))) (plain (p % top f) h ∙ sym (units p h))
 
   module _ (c : Pair) where
     abbrev a : ℕ

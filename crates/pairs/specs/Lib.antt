@@ -8,8 +8,9 @@ pub mod ZipLaws
 pub mod JudgedLaws
 pub mod TableLaws
 pub mod ProductLaws
-pub mod Reordered
 pub mod WriteLaws
 pub mod PairLaws
 pub mod ListLaws
 pub mod Instances
+pub mod Reordered
+pub mod Promised

@@ -13,7 +13,7 @@ use lib.Ieee.{Format, prec, low, top, ofBits, toBits}
 use Rattle.units.specs.ScaledSums.{scale-plus}
 use Rattle.ieee.specs.Units.{value}
 use Rattle.ieee.specs.Zeros.{minus-value}
-use Rattle.lists.specs.Each.{Each, each-from}
+use Rattle.lists.specs.Each.{Each, each-at, each-from}
 use Rattle.kinds.specs.declared.Verdict.the-variants.{Good}
 use Rattle.kinds.specs.declared.Nearest.{Nearest}
 use Rattle.kinds.specs.declared.Nearest.the-variants as nearests
@@ -37,7 +37,9 @@ use Rattle.pairs.specs.ProductLaws.{nearest-scaled}
 
 -- what is promised of each pair that has no fault
 abbrev pub EachPair : Pairing → Type 0
-EachPair P = (c : Pair) → pairFault P c ≡ 0 → TwoNumbers (P .width) c (toBits (P .width .format) (productOf (P .width .format) c)) (toBits (P .width .format) (errorOf (P .width .format) c))
+EachPair P =
+    let f = P .width .format in
+    (c : Pair) → pairFault P c ≡ 0 → TwoNumbers (P .width) c (toBits f (productOf f c)) (toBits f (errorOf f c))
 
 -- pairs without a fault, one by one
 abbrev pub Faultless : Pairing → List Pair → Type 0
@@ -48,11 +50,19 @@ faultless-pairs P ps qs e A = each-from (λ (c : Pair). pairFault P c ≡ 0) (zi
     let l : i < length ps = rw (zip-length ps qs e) at h in
     ap (pairFault P) (zip-at ps qs e 0 0 i l) ∙ A .none i l)
 
+pub pairs-back : (P : Pairing) (ps qs : List ℕ) → length ps ≡ length qs → Faultless P (zip ps qs) → AllowedPairs P ps qs
+pairs-back P ps qs e F = record {
+  none = λ i h.
+      sym (ap (pairFault P) (zip-at ps qs e 0 0 i h))
+      ∙ each-at (λ (c : Pair). pairFault P c ≡ 0) (zip ps qs) i (0, 0) F (rw (zip-length ps qs e) h);
+}
+
 module _ (P : Pairing) (N : EachPair P) where
   abbrev f : Format
   f = P .width .format
 
-  pub products-sum : (cs : List Pair) → Faultless P cs → pos (2 ^ low (P .width .format)) *ℤ sumOf (P .width .format) (productsOf (P .width .format) cs) ≡ weightedSum (P .width .format) cs
+  pub products-sum : (cs : List Pair) → Faultless P cs
+      → pos (2 ^ low (P .width .format)) *ℤ sumOf (P .width .format) (productsOf (P .width .format) cs) ≡ weightedSum (P .width .format) cs
   unfolding productsOf
   products-sum [] F = *ℤ-zero (pos (2 ^ low f))
   products-sum (c ∷ cs) F =

@@ -136,8 +136,8 @@ module _ (P : Pairing) (R : Roomy P) (c : Pair) (A : Between (P .width .format) 
   error-nearest = error-is (P .width) c x (value g y) product-mul (E .exact)
 
   -- an error of -0 is made +0
-  pub error-add : errorOf (P .width .format) c
-      ≡ add (P .width .format) (productError (P .width .format) (ofBits (P .width .format) (c .0)) (ofBits (P .width .format) (c .1))) (ofBits (P .width .format) 0)
+  pub error-add : let f = P .width .format in
+      errorOf f c ≡ add f (productError f (ofBits f (c .0)) (ofBits f (c .1))) (ofBits f 0)
   error-add = error-nearest ∙ sym (add-plus (E .error))
 
   below-limit : magnitude g y < limit g
