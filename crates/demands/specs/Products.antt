@@ -1,6 +1,6 @@
--- Rules M8 and M10: over the list of the products of accepted pairs the undivided call ends, and every faithful walk, undivided or with its blocks in any order,
--- ends with a sum that is faithful to the exact sum of the products; a register that took the list holds that sum; and the pairs in another order have equal or
--- neighbouring faithful sums, and everything else the same. Assumes nothing.
+-- Rules M8 and M10: over the list of the products of accepted pairs the undivided call ends, and every faithful walk, undivided or with its blocks in any
+-- order, ends with a sum that is faithful to the exact sum of the products; a register that took the list holds that sum; and the pairs in another order have
+-- equal or neighbouring faithful sums, and everything else the same. Assumes nothing.
 use mathlib.Core.Path.{_≡_, sym, ap, _∙_}
 use mathlib.Core.Bool.{true}
 use mathlib.Core.List.{List, zip, map, Perm}
@@ -47,7 +47,8 @@ module _ (ps qs : List ℕ) (G : PairsWhen doublePairs true ps qs Good) where
   listed = L .taken true true tt tt
 
   -- ---- however a walk over the list has ended
-  pub weighted-faithful : {x : Float} {k : ℕ} {xs : List Float} → Summed doubles (productsOf binary64 (zip ps qs)) x k xs → FaithfulWeighted binary64 (zip ps qs) x
+  pub weighted-faithful : {x : Float} {k : ℕ} {xs : List Float} → Summed doubles (productsOf binary64 (zip ps qs)) x k xs
+      → FaithfulWeighted binary64 (zip ps qs) x
   weighted-faithful S = record { units = _; exact = L .sum; faithful = summed-faithful doubles-fit S }
 
   -- and the undivided call ends, over every work area with two places for each pair

@@ -1,7 +1,7 @@
 -- What pairs are refused for, case by case, and that each verdict is given exactly when rule O6 says. Assumes nothing.
 use mathlib.Core.Path.{_≡_, refl, sym, ap, _∙_}
 use mathlib.Core.Logic.{_⊎_, inl, inr, _↔_}
-use mathlib.Core.Bool.{Bool, true, false, not, _||_}
+use mathlib.Core.Bool.{Bool, true, false, not, _||_, or-true}
 use mathlib.Core.List.{List, zip}
 use Prim.Native.Nat.{ℕ, suc, _≤_, _<_}
 use native.Mathlib.Decide.{ℕ-discrete}
@@ -111,10 +111,6 @@ module _ (P : Pairing) (area : Bool) (ps qs : List ℕ) where
   unfolding pairsJudged
   judged-1 (inl h) = rw (lt-ltb (P .length) (length ps) h)
   judged-1 (inr h) = rw (lt-ltb (P .length) (length qs) h, or-true (ltb (P .length) (length ps)))
-    where
-      or-true : (b : Bool) → (b || true) ≡ true
-      or-true true = refl
-      or-true false = refl
 
   module _ (h : length ps ≤ P .length) (g : length qs ≤ P .length) where
     pub judged-22 : (length ps ≡ length qs → ⊥) → pairsJudged P area ps qs ≡ Refused 22 0

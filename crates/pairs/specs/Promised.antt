@@ -50,7 +50,8 @@ products-at P (c ∷ cs) d (suc i) h =
 module _ (P : Pairing) (R : Roomy P) {ps qs : List ℕ} where
   module _ (M : Matching P ps qs) (A : AllowedPairs P ps qs) where
     two : (i : ℕ) → i < length ps
-        → TwoNumbers (P .width) (pairAt ps qs i) (getD (productsOf (P .width .format) (zip ps qs)) (2 * i) 0) (getD (productsOf (P .width .format) (zip ps qs)) (2 * i + 1) 0)
+        → let out = productsOf (P .width .format) (zip ps qs) in
+        TwoNumbers (P .width) (pairAt ps qs i) (getD out (2 * i) 0) (getD out (2 * i + 1) 0)
     two i h =
         let at = products-at P (zip ps qs) (0, 0) i (rw (zip-length ps qs (M .alike)) h) in
         rw (at .0, at .1, zip-at ps qs (M .alike) 0 0 i h) (each-pair P R (pairAt ps qs i) (A .none i h))
@@ -65,7 +66,8 @@ module _ (P : Pairing) (R : Roomy P) {ps qs : List ℕ} where
 
   -- what an accepted call leaves
   pub multiplied-promised : (area : List ℕ) → PairsWhen P (twoEach ps area) ps qs Good → PairsList P ps qs (multipliedOf P ps qs area .area)
-  multiplied-promised area G = rw (good-multiplies P ps qs area (pairs-when P (twoEach ps area) ps qs Good .1 G)) (pairs-list (when-matching G) (when-allowed G))
+  multiplied-promised area G =
+      rw (good-multiplies P ps qs area (pairs-when P (twoEach ps area) ps qs Good .1 G)) (pairs-list (when-matching G) (when-allowed G))
 
   -- the nearest weighted sum is the nearest sum of the list
   pub weighted-list : PairsWhen P true ps qs Good → weightedOf P ps qs ≡ nearestOf (P .width) (productsOf (P .width .format) (zip ps qs))
@@ -85,7 +87,8 @@ module _ (P : Pairing) (R : Roomy P) (ps qs rs ss : List ℕ) (π : Perm (zip ps
   pub weighted-reordered : weightedOf P ps qs ≡ weightedOf P rs ss
   weighted-reordered =
       weighted-list P R G
-      ∙ nearest-reordered (products-reordered (P .width .format) π) {W = P .width} (list-allowed (pairs-list P R (when-matching G) (when-allowed G) .taken true true tt tt))
+      ∙ nearest-reordered (products-reordered (P .width .format) π) {W = P .width}
+      (list-allowed (pairs-list P R (when-matching G) (when-allowed G) .taken true true tt tt))
       ∙ sym (weighted-list P R pairs-again)
 
 -- ---- at the scope's width: the double nearest to the exact sum of the products
