@@ -30,7 +30,7 @@ fn other_length(a: &[u64], b: &[u64]) -> u32
     4
 }
 
-// The nearest weighted sum, as `pairs::nearest` has it: its pattern. The products are kept aside, in an area of the call's own.
+// The nearest weighted sum, as `pairs::nearest` has it: its pattern. The call is lent no area for the products, and keeps 33 words of its own.
 #[no_mangle]
 pub extern "C" fn kewohiata_pairs_nearest(a: &[u64], b: &[u64], out: &mut [u64]) -> u32
     ensures { λ r. ⌜ outcome r (now (out .exit)) ≡ weightedArrays (now (a .entry)) (now (b .entry)) (now (out .entry)) ⌝ }

@@ -9,6 +9,7 @@ pub mod JudgedLaws
 pub mod TableLaws
 pub mod ProductLaws
 pub mod WriteLaws
+pub mod TotalLaws
 pub mod PairLaws
 pub mod ListLaws
 pub mod Instances

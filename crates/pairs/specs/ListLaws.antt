@@ -11,7 +11,7 @@ use lib.ListN.{length, getD}
 use lib.Pow.{pow-pos}
 use lib.Ieee.{Format, prec, low, top, ofBits, toBits}
 use Rattle.units.specs.ScaledSums.{scale-plus}
-use Rattle.ieee.specs.Units.{value}
+use Rattle.ieee.specs.Units.{value, nearestFloat}
 use Rattle.ieee.specs.Zeros.{minus-value}
 use Rattle.lists.specs.Each.{Each, each-at, each-from}
 use Rattle.kinds.specs.declared.Verdict.the-variants.{Good}
@@ -117,6 +117,13 @@ module _ (P : Pairing) (N : EachPair P) where
         rw (list-when (P .width) true true (productsOf f cs) Good .1 (products-taken true true tt tt), products-plus cs F)
         (ap nearests.Sum (sym (nearest-scaled f S) ∙ ap (nearestProduct f) (products-sum cs F)))
 
-    -- so the call's answer is the nearest sum of the list
+    -- so the call's answer is the nearest sum of the list, and the nearest float of its exact sum
+    answered : weightedOf P ps qs ≡ nearests.Sum (nearestProduct f (weightedSum f cs))
+    answered = good-weighs P ps qs (pairs-when P true ps qs Good .1 (pair-rows.allowed M tt A))
+
     pub weighted-nearest : weightedOf P ps qs ≡ nearestOf (P .width) (productsOf (P .width .format) (zip ps qs))
-    weighted-nearest = good-weighs P ps qs (pairs-when P true ps qs Good .1 (pair-rows.allowed M tt A)) ∙ sym products-nearest
+    weighted-nearest = answered ∙ sym products-nearest
+
+    pub weighted-float : weightedOf P ps qs
+        ≡ nearests.Sum (nearestFloat (P .width .format) false (sumOf (P .width .format) (productsOf (P .width .format) (zip ps qs))))
+    weighted-float = answered ∙ ap nearests.Sum (sym (sym (nearest-scaled f (sumOf f (productsOf f cs))) ∙ ap (nearestProduct f) (products-sum cs F)))

@@ -7,7 +7,7 @@ use native.Mathlib.Nat.{div-add-mod'}
 use native.Mathlib.Omega.{arith}
 use borrow.Author.Tests.{eq-eqb, ne-eqb, eqb-true, eqb-false}
 use lib.Dec.{eqb}
-use lib.ListN.{length, getD, take, drop, set, replicate, length-append, length-replicate, drop-of-length-le}
+use lib.ListN.{length, getD, take, drop, set, length-append, drop-of-length-le}
 use lib.Seq.{take-all, length-take-le}
 use lib.Ieee.{Format, toBits}
 use Rattle.lists.specs.Front.{store-front, take-next}
@@ -24,10 +24,6 @@ two-each n m = go (eqb (n / 2) m) (eqb (n % 2) 0) refl refl
     go true true e g = sym (eq-eqb n (2 * m) (omega (arith, parts, eqb-true (n / 2) m e, eqb-true (n % 2) 0 g)))
     go true false e g = sym (ne-eqb n (2 * m) (λ h. eqb-false (n % 2) 0 g (omega (arith, h, parts))))
     go false b e g = sym (ne-eqb n (2 * m) (λ h. eqb-false (n / 2) m e (omega (arith, h, parts))))
-
--- the first n places of an area that has m
-pub front-length : (m n : ℕ) → n ≤ m → length (take n (replicate {A = ℕ} m 0)) ≡ n
-front-length m n h = length-take-le n (replicate m 0) (rw (length-replicate m) h)
 
 module _ (f : Format) where
   pub products-length : (cs : List Pair) → length (productsOf f cs) ≡ 2 * length cs

@@ -2,6 +2,7 @@
 use crate::two::multiply;
 use kinds::Nearest;
 use kinds::Verdict;
+use words::WORDS;
 
 mod faults;
 mod two;
@@ -9,7 +10,8 @@ mod weighted;
 
 ghost use mathlib.Core.Path.{_≡_};
 ghost use mathlib.Core.List.{zip};
-ghost use Prim.Native.Nat.{_*_, _≤_};
+ghost use Prim.Native.Nat.{_*_};
+ghost use lib.Dec.{eqb};
 ghost use lib.ListN.{length};
 ghost use Rattle.kinds.specs.Limits.{doubles};
 ghost use Rattle.kinds.specs.Outcome.{outcome};
@@ -55,12 +57,11 @@ impl Pairs {
         Pairs { n }
     }
 
-    // rule A2: the places that the numbers of so many pairs take
-    pub fn places(self) -> usize
-        requires { ⌜ self .n ≤ doublePairs .length ⌝ }
-        ensures { λ r. ⌜ r ≡ 2 * self .n ⌝ }
+    // rule A2: whether an area of so many places has two for each pair
+    pub fn fits(self, places: usize) -> bool
+        ensures { λ r. ⌜ r ≡ eqb places (2 * self .n) ⌝ }
     {
-        2 * self.n
+        (places / 2 == self.n) & (places % 2 == 0)
     }
 }
 
@@ -90,7 +91,7 @@ fn write(a: &[u64], b: &[u64], out: &mut [u64])
 pub fn products(a: &[u64], b: &[u64], out: &mut [u64]) -> Paired
     ensures { λ r. ⌜ outcome r (now (out .exit)) ≡ multipliedOf doublePairs (now (a .entry)) (now (b .entry)) (now (out .entry)) ⌝ }
 {
-    let fits = (out.len() / 2 == a.len()) & (out.len() % 2 == 0);
+    let fits = Pairs::of(a.len()).fits(out.len());
     match faults::judge(a, b, fits) {
         Verdict::Refused(k, place) => Paired::Refused(k, place),
         Verdict::Good => {
@@ -100,17 +101,16 @@ pub fn products(a: &[u64], b: &[u64], out: &mut [u64]) -> Paired
     }
 }
 
-// Rule M9: the nearest weighted sum.
+// Rule M9: the nearest weighted sum. No product is zero but +0, so that a zero sum is +0.
 pub fn nearest(a: &[u64], b: &[u64]) -> Nearest
     ensures { λ r. ⌜ r ≡ weightedOf doublePairs (now (a .entry)) (now (b .entry)) ⌝ }
 {
     match faults::judge(a, b, true) {
         Verdict::Refused(k, place) => Nearest::Refused(k, place),
         Verdict::Good => {
-            if a.len() <= 64 {
-                return weighted::short(a, b);
-            }
-            weighted::long(a, b)
+            let mut words = [0u64; WORDS];
+            weighted::total(a, b, &mut words);
+            Nearest::Sum(nearest::nearest_double(&words, false))
         }
     }
 }
