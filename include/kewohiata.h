@@ -251,8 +251,7 @@ uint32_t kewohiata_weights_hand_on(const uint64_t *list, size_t list_length, siz
 uint32_t kewohiata_pairs_products(const uint64_t *a, size_t a_length, const uint64_t *b, size_t b_length, uint64_t *out, size_t out_length);
 
 /* The nearest weighted sum (rule M9): no double is nearer to the exact sum of the products, at a tie the one with the even significand; zero gives +0.
- * out: 1 number, its pattern. Refusals: 1; 22; 4; 2 or 23 of the lowest bad pair, 2 where that has both. Needs the environment above.
- * Stack: below 35,000 bytes, whatever the number of pairs. */
+ * out: 1 number, its pattern. Refusals: 1; 22; 4; 2 or 23 of the lowest bad pair, 2 where that has both. Needs the environment above. */
 uint32_t kewohiata_pairs_nearest(const uint64_t *a, size_t a_length, const uint64_t *b, size_t b_length, uint64_t *out, size_t out_length);
 
 /* ---- a contribution sheet (rule H1): the byte 1, the count in 4 bytes, and 8 bytes for each number, all with the highest byte first */
