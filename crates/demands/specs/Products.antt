@@ -3,7 +3,7 @@
 -- equal or neighbouring faithful sums, and everything else the same. Assumes nothing.
 use mathlib.Core.Path.{_≡_, sym, ap, _∙_}
 use mathlib.Core.Bool.{true}
-use mathlib.Core.List.{List, zip, map, Perm}
+use mathlib.Core.List.{List, zip, map}
 use Prim.Native.Nat.{ℕ, _*_, _^_}
 use native.Mathlib.Nat.{lt-of-le-of-lt}
 use borrow.Author.Tests.{eq-eqb}
@@ -30,7 +30,7 @@ use Rattle.runs.specs.Reordered.{summed-faithful, summed-reordered}
 use Rattle.pairs.specs.Limits.{doublePairs}
 use Rattle.pairs.specs.Pairs.{productsOf, weightedSum}
 use Rattle.pairs.specs.Table.{PairsWhen}
-use Rattle.pairs.specs.Promise.{PairsList, FaithfulWeighted}
+use Rattle.pairs.specs.Promise.{PairsList, FaithfulWeighted, BothReordered}
 use Rattle.pairs.specs.JudgedLaws.{when-matching, when-allowed}
 use Rattle.pairs.specs.Reordered.{products-reordered}
 use Rattle.pairs.specs.Promised.{pairs-list}
@@ -65,10 +65,10 @@ module _ (ps qs : List ℕ) (G : PairsWhen doublePairs true ps qs Good) where
       ap (λ (z : ℤ). pos (2 ^ low binary64) *ℤ z) (list-whole out (lt-of-le-of-lt (list-passed listed .few) (lit< tt)) (list-allowed listed)) ∙ L .sum
 
   -- ---- the same pairs in another order
-  module _ (rs ss : List ℕ) (π : Perm (zip ps qs) (zip rs ss)) where
+  module _ (rs ss : List ℕ) (π : BothReordered ps qs rs ss) where
     pub weighted-same : SameSums (productsOf binary64 (zip ps qs)) (productsOf binary64 (zip rs ss))
-    weighted-same = sums-reordered (products-reordered binary64 π) listed
+    weighted-same = sums-reordered (products-reordered binary64 (π .order)) listed
 
     pub weighted-neighbours : {x y : Float} {j k : ℕ} {xs ys : List Float}
         → Summed doubles (productsOf binary64 (zip ps qs)) x j xs → Summed doubles (productsOf binary64 (zip rs ss)) y k ys → EqualOrNeighbouring binary64 x y
-    weighted-neighbours = summed-reordered doubles-fit (products-reordered binary64 π)
+    weighted-neighbours = summed-reordered doubles-fit (products-reordered binary64 (π .order))

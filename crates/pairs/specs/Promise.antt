@@ -2,7 +2,7 @@
 use mathlib.Core.Path.{_≡_}
 use mathlib.Core.Logic.{_⊎_}
 use mathlib.Core.Bool.{Bool}
-use mathlib.Core.List.{List, zip}
+use mathlib.Core.List.{List, zip, Perm}
 use Prim.Native.Nat.{ℕ, _+_, _*_, _^_, _≤_, _<_}
 use lib.Dec.{T}
 use lib.IntN.{ℤ, pos, _+ℤ_, _*ℤ_}
@@ -53,3 +53,8 @@ pub record NearestWeighted (f : Format) (cs : List Pair) (x : Float) : Type 0 wh
   pub units : ℤ
   pub exact : pos (2 ^ low f) *ℤ units ≡ weightedSum f cs
   pub nearest : NearestTo f units x
+
+-- rule M10: two lists, both reordered alike
+pub record BothReordered (ps qs rs ss : List ℕ) : Type 0 where
+  pub alike : length rs ≡ length ss
+  pub order : Perm (zip ps qs) (zip rs ss)

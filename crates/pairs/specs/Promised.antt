@@ -2,7 +2,7 @@
 -- order is accepted too, with the same sum. Assumes nothing.
 use mathlib.Core.Path.{_≡_, refl, sym, ap, _∙_}
 use mathlib.Core.Bool.{true}
-use mathlib.Core.List.{List, [], _∷_, zip, Perm}
+use mathlib.Core.List.{List, [], _∷_, zip}
 use Prim.Native.Nat.{ℕ, zero, suc, _+_, _*_, _<_}
 use native.Mathlib.Omega.{arith}
 use lib.ListN.{length, getD}
@@ -20,7 +20,7 @@ use Rattle.sums.specs.Reordered.{nearest-reordered}
 use Rattle.pairs.specs.Limits.{Pairing, doublePairs}
 use Rattle.pairs.specs.Pairs.{Pair, productOf, errorOf, productsOf, twoEach, multipliedOf, weightedOf}
 use Rattle.pairs.specs.Table.{pairAt, AllowedPairs, Matching, PairsWhen, allowed}
-use Rattle.pairs.specs.Promise.{TwoNumbers, PairsList, NearestWeighted}
+use Rattle.pairs.specs.Promise.{TwoNumbers, PairsList, NearestWeighted, BothReordered}
 use Rattle.pairs.specs.ZipLaws.{zip-length, zip-at}
 use Rattle.pairs.specs.JudgedLaws.{pairs-when, when-matching, when-allowed}
 use Rattle.pairs.specs.TableLaws.{good-multiplies}
@@ -74,20 +74,20 @@ module _ (P : Pairing) (R : Roomy P) {ps qs : List ℕ} where
   weighted-list G = weighted-nearest P (each-pair P R) ps qs (when-matching G) (when-allowed G) (R .twice)
 
 -- ---- the same pairs in another order
-module _ (P : Pairing) (R : Roomy P) (ps qs rs ss : List ℕ) (π : Perm (zip ps qs) (zip rs ss)) (e : length rs ≡ length ss)
-    (G : PairsWhen P true ps qs Good) where
+module _ (P : Pairing) (R : Roomy P) {ps qs rs ss : List ℕ} (π : BothReordered ps qs rs ss) (G : PairsWhen P true ps qs Good) where
   pub pairs-again : PairsWhen P true rs ss Good
-  pairs-again = allowed matching tt (pairs-back P rs ss e (faultless-reordered P π (faultless-pairs P ps qs (when-matching G .alike) (when-allowed G))))
+  pairs-again = allowed matching tt
+      (pairs-back P rs ss (π .alike) (faultless-reordered P (π .order) (faultless-pairs P ps qs (when-matching G .alike) (when-allowed G))))
     where
       matching : Matching P rs ss
       matching =
-          let l : length ps ≡ length rs = sym (zip-length ps qs (when-matching G .alike)) ∙ length-reordered π ∙ zip-length rs ss e in
-          record { few = omega (arith, l, when-matching G .few); alike = e }
+          let l : length ps ≡ length rs = sym (zip-length ps qs (when-matching G .alike)) ∙ length-reordered (π .order) ∙ zip-length rs ss (π .alike) in
+          record { few = omega (arith, l, when-matching G .few); alike = π .alike }
 
   pub weighted-reordered : weightedOf P ps qs ≡ weightedOf P rs ss
   weighted-reordered =
       weighted-list P R G
-      ∙ nearest-reordered (products-reordered (P .width .format) π) {W = P .width}
+      ∙ nearest-reordered (products-reordered (P .width .format) (π .order)) {W = P .width}
       (list-allowed (pairs-list P R (when-matching G) (when-allowed G) .taken true true tt tt))
       ∙ sym (weighted-list P R pairs-again)
 
