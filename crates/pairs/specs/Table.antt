@@ -12,6 +12,8 @@ use Rattle.kinds.specs.declared.Verdict.the-variants.{Good, Refused}
 use Rattle.judge.specs.Table.{floatOf, sizeOf}
 use Rattle.pairs.specs.Limits.{Pairing}
 use Rattle.pairs.specs.Pairs.{Pair, pairFault}
+use Rattle.pairs.specs.declared.Paired.{Paired}
+use Rattle.pairs.specs.declared.Paired.the-variants as paireds
 
 -- ---- one number of a pair
 -- not a NaN and not infinite
@@ -52,6 +54,11 @@ pub record FirstPair (P : Pairing) (ps qs : List ℕ) (k i : ℕ) : Type 0 where
 pub record Matching (P : Pairing) (ps qs : List ℕ) : Type 0 where
   pub few : length ps ≤ P .length
   pub alike : length ps ≡ length qs
+
+-- which verdict an answer of the products comes from
+abbrev pub verdictOf : Paired → Verdict
+verdictOf paireds.Multiplied = Good
+verdictOf (paireds.Refused k i) = Refused k i
 
 -- the table, a row for each verdict; no other number is given for pairs
 pub data PairsWhen (P : Pairing) (area : Bool) (ps qs : List ℕ) : Verdict → Type 0 where

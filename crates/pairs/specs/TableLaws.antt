@@ -18,16 +18,12 @@ use Rattle.kinds.specs.declared.Nearest.the-variants as nearests
 use Rattle.pairs.specs.Limits.{Pairing}
 use Rattle.pairs.specs.Pairs.{nearestProduct, productsOf, weightedSum, pairsJudged, twoEach}
 use Rattle.pairs.specs.Pairs.{multipliedAfter, multipliedOf, weightedAfter, weightedOf, pairedHeard}
-use Rattle.pairs.specs.Table.{PairsWhen}
+use Rattle.pairs.specs.Table.{PairsWhen, verdictOf}
 use Rattle.pairs.specs.JudgedLaws.{pairs-when, pairs-refusal}
 use Rattle.pairs.specs.declared.Paired.{Paired}
 use Rattle.pairs.specs.declared.Paired.the-variants.{Multiplied, Refused}
 
--- ---- which verdict an answer comes from
-abbrev pub verdictOf : Paired → Verdict
-verdictOf Multiplied = verdicts.Good
-verdictOf (Refused k i) = verdicts.Refused k i
-
+-- ---- which answer a verdict gives, and which verdict an answer comes from
 abbrev answerFor : Verdict → Paired
 answerFor verdicts.Good = Multiplied
 answerFor (verdicts.Refused k i) = Refused k i
@@ -71,11 +67,12 @@ module _ (P : Pairing) (ps qs area : List ℕ) where
       back Multiplied = refl
       back (Refused k i) = refl
 
-  pub good-multiplies : verdict ≡ verdicts.Good → multipliedOf P ps qs area ≡ outcome Multiplied (productsOf (P .width .format) (zip ps qs))
+  pub good-multiplies : pairsJudged P (twoEach ps area) ps qs ≡ verdicts.Good
+      → multipliedOf P ps qs area ≡ outcome Multiplied (productsOf (P .width .format) (zip ps qs))
   unfolding multipliedAfter
   good-multiplies e = rw e
 
-  pub refused-multiplies : {k i : ℕ} → verdict ≡ verdicts.Refused k i → multipliedOf P ps qs area ≡ outcome (Refused k i) area
+  pub refused-multiplies : {k i : ℕ} → pairsJudged P (twoEach ps area) ps qs ≡ verdicts.Refused k i → multipliedOf P ps qs area ≡ outcome (Refused k i) area
   unfolding multipliedAfter
   refused-multiplies e = rw e
 
