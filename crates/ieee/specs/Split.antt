@@ -9,6 +9,7 @@ use native.Mathlib.Omega.{arith}
 use lib.Dec.{lit<, lit≤}
 use lib.Pow.{pow-add, pow-pos, pow-mono}
 use lib.Ieee.{Float, Format, binary32, binary64, prec, low, unlike, ofBits, mul}
+use lib.Ieee.Fits.{two, reach}
 use lib.Ieee.Nearest.{closest}
 use Rattle.units.specs.Whole.{Whole, nat, _⊗_, _⊙_, _≈_, Within, Multiple}
 use Rattle.units.specs.Rounding.{dropped}
@@ -31,7 +32,7 @@ pub half-least : (f : Format) → prec f ≤ halfPrec f + halfPrec f
 half-least binary32 = lit≤ tt
 half-least binary64 = lit≤ tt
 
-pub half-most : (f : Format) → halfPrec f + halfPrec f ≤ suc (prec f)
+pub half-most : (f : Format) → halfPrec f + halfPrec f ≤ prec f + 2
 half-most binary32 = lit≤ tt
 half-most binary64 = lit≤ tt
 
@@ -78,7 +79,7 @@ module _ {f : Format} {l h : ℕ} {a : Float} (R : Room f l h) (A : Between f l 
   far = rw (← (pow-add 2 (prec f) (suc l - prec f)), all, pow-succ' 2 l) (mul-le-mul-left 2 (A .least))
     where
       all : prec f + (suc l - prec f) ≡ suc l
-      all = omega (arith, R .above)
+      all = omega (arith, R .above, two f, reach f)
 
   pub place-least : suc l ≤ prec f + lastPlace f a
   place-least = omega (arith, dropped-ge (prec f) (magnitude f a) far)

@@ -1,9 +1,9 @@
 -- TwoProduct: with the halves of A and B every partial product and every difference is exact, so the product A B is its rounding and a number of p digits.
--- Document 000's Algorithm 1.1, for every p and half of it rounded up. Each step is a multiple of 2 ^ j of at most 2 ^ (p + j). Assumes nothing.
+-- Document 000's Algorithm 1.1, for every p and s from half of p to one more. Each step is a multiple of 2 ^ j of at most 2 ^ (p + j). Assumes nothing.
 use mathlib.Core.Path.{_≡_, ap, _∙_}
 use mathlib.Core.Logic.{inl, inr}
-use Prim.Native.Nat.{ℕ, suc, _+_, _-_, _*_, _^_, _≤_, _<_}
-use native.Mathlib.Nat.{le-of-lt, mul-le-mul, mul-le-mul-left, mul-le-mul-right, mul-lt-mul-of-pos-right, mul-pos, pow-succ'}
+use Prim.Native.Nat.{ℕ, _+_, _-_, _*_, _^_, _≤_, _<_}
+use native.Mathlib.Nat.{le-of-lt, mul-le-mul, mul-le-mul-left, mul-le-mul-right, mul-lt-mul-of-pos-right, mul-pos}
 use native.Mathlib.Omega.{arith}
 use lib.Pow.{pow-add, pow-pos, pow-mono}
 use Rattle.units.specs.Whole.{Whole, nat, _⊕_, _⊖_, neg, _⊗_, _⊙_, _≈_, mag, Within, Under, Multiple}
@@ -36,8 +36,8 @@ module _ (a b : Whole) (c d : ℕ) where
       let m : mag b * c < d * c = mul-lt-mul-of-pos-right k c⁺ in
       omega (arith, times-mag a b)
 
--- s is half of p rounded up, as 27 of 53 and 12 of 24
-module _ (p s i j : ℕ) (least : p ≤ s + s) (most : s + s ≤ suc p) (l : s < p) {A B a₁ a₂ b₁ b₂ : Whole} (LA : LastPlace p i A) (LB : LastPlace p j B)
+-- s is half of p rounded up, as 27 of 53 and 12 of 24; or one more, where p is even
+module _ (p s i j : ℕ) (least : p ≤ s + s) (most : s + s ≤ p + 2) (l : s < p) {A B a₁ a₂ b₁ b₂ : Whole} (LA : LastPlace p i A) (LB : LastPlace p j B)
     (HA : Halves p s i A a₁ a₂) (HB : Halves p s j B b₁ b₂) where
   P : 0 < p
   P = omega arith
@@ -112,7 +112,7 @@ module _ (p s i j : ℕ) (least : p ≤ s + s) (most : s + s ≤ suc p) (l : s <
   }
     where
       room : 2 ^ p * (2 ^ i * 2 ^ j) ≤ 2 ^ (s + s + (i + j))
-      room = rw (pow-add 2 (s + s) (i + j), pow-add 2 i j) (mul-le-mul-right (2 ^ i * 2 ^ j) (pow-mono least))
+      room = rw (pow-add 2 (s + s) (i + j), pow-add 2 i j) (mul-le-mul-right (2 ^ i * 2 ^ j) (pow-mono {i = p} {j = s + s} (omega arith)))
 
   upper-lower : Representable p (a₁ ⊙ b₂)
   upper-lower = record { exp = s + (i + j); on = upper-lower-on; small = rw s-place (omega (arith, upper-lower-small)) }
@@ -127,8 +127,8 @@ module _ (p s i j : ℕ) (least : p ≤ s + s) (most : s + s ≤ suc p) (l : s <
     small = rw (pow-add 2 i j) (omega (arith, lower-lower-small, mul-le-mul-right (2 ^ i * 2 ^ j) room));
   }
     where
-      room : 2 ^ s * 2 ^ s ≤ 2 * 2 ^ p
-      room = rw (← (pow-add 2 s s), ← (pow-succ' 2 p)) (pow-mono most)
+      room : 2 ^ s * 2 ^ s ≤ 2 ^ p * 2 ^ 2
+      room = rw (← (pow-add 2 s s), ← (pow-add 2 p 2)) (pow-mono {i = s + s} {j = p + 2} (omega arith))
 
   -- ---- the differences
   one-place : 1 * (2 ^ p * (2 ^ i * 2 ^ j)) ≤ 2 ^ s * (2 ^ p * (2 ^ i * 2 ^ j))
