@@ -73,6 +73,24 @@ module _ (P : Pairing) (c : Pair) where
   abbrev y : Bool
   y = finite (floatOf (P .width) (c .1))
 
+  pub pair-2 : (pairFault P c ≡ 2) ↔ (T (not x) ⊎ T (not y))
+  unfolding pairFault
+  pair-2 = (there x y (inRange P (c .0)) (inRange P (c .1)), back x y (inRange P (c .0)) (inRange P (c .1)))
+    where
+      there : (a b r s : Bool) → chosen a b r s ≡ 2 → T (not a) ⊎ T (not b)
+      there true true true true e = absurd (omega arith)
+      there true true true false e = absurd (omega arith)
+      there true true false true e = absurd (omega arith)
+      there true true false false e = absurd (omega arith)
+      there true false r s e = inr tt
+      there false b r s e = inl tt
+
+      back : (a b r s : Bool) → T (not a) ⊎ T (not b) → chosen a b r s ≡ 2
+      back true true r s (inl h) = absurd h
+      back true true r s (inr h) = absurd h
+      back true false r s h = refl
+      back false b r s h = refl
+
   pub pair-0 : (pairFault P c ≡ 0) ↔ ((Finite P (c .0) × Ranged P (c .0)) × (Finite P (c .1) × Ranged P (c .1)))
   unfolding pairFault
   pair-0 = (
@@ -87,23 +105,6 @@ module _ (P : Pairing) (c : Pair) where
       there true true false s f g e = absurd (omega arith)
       there true false r s f g e = absurd (omega arith)
       there false b r s f g e = absurd (omega arith)
-
-  pub pair-2 : (pairFault P c ≡ 2) ↔ (T (not x) ⊎ T (not y))
-  unfolding pairFault
-  pair-2 = (there x y (inRange P (c .0)) (inRange P (c .1)), back x y (inRange P (c .0)) (inRange P (c .1)))
-    where
-      there : (a b r s : Bool) → chosen a b r s ≡ 2 → T (not a) ⊎ T (not b)
-      there true true true true e = absurd (omega arith)
-      there true true true false e = absurd (omega arith)
-      there true true false s e = absurd (omega arith)
-      there true false r s e = inr tt
-      there false b r s e = inl tt
-
-      back : (a b r s : Bool) → T (not a) ⊎ T (not b) → chosen a b r s ≡ 2
-      back true true r s (inl h) = absurd h
-      back true true r s (inr h) = absurd h
-      back true false r s h = refl
-      back false b r s h = refl
 
   pub pair-23 : (pairFault P c ≡ 23) ↔ (Finite P (c .0) × Finite P (c .1) × (Outside P (c .0) ⊎ Outside P (c .1)))
   unfolding pairFault
