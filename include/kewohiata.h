@@ -244,8 +244,8 @@ uint32_t kewohiata_weights_hand_on(const uint64_t *list, size_t list_length, siz
  * and M2). a, b: the two lists' patterns. They may be one array, for squares. */
 
 /* Multiplies pairs without losing anything (rules M4 to M7): of pair i the product, rounded to nearest, goes to place 2i of `out`, and to place 2i + 1 its exact
- * error, so that the two add up to the exact product. Where a factor is zero both are +0, and a zero error is +0. Every call that takes a list takes what
- * was written, and its exact sum is that of the products (rule M8): so kewohiata_walk_faithful of it is a faithful weighted sum.
+ * error, so that the two add up to the exact product. Where a factor is zero both are +0, and a zero error is +0. Every sum takes what was written,
+ * and its exact sum is that of the products (rule M8): so kewohiata_walk_faithful of it is a faithful weighted sum.
  * out: 2n numbers, n being the length of either list.
  * Refusals: 1; 22; 4; 2 or 23 of the lowest bad pair, 2 where that has both. Needs the environment above. */
 uint32_t kewohiata_pairs_products(const uint64_t *a, size_t a_length, const uint64_t *b, size_t b_length, uint64_t *out, size_t out_length);

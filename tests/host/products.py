@@ -71,7 +71,7 @@ def pair_refusals(chance):
 def scale(chance, n):
     """Weights from 0 to 1 and offsets of clocks, some microseconds."""
     weights = [exact.nearest(chance.randrange(2**30) << 1044) for _ in range(n)]
-    return weights, [exact.nearest(chance.randrange(-(2**70), 2**70) << 980) for _ in range(n)]
+    return weights, [exact.nearest(chance.randrange(-(2**70), 2**70) << 987) for _ in range(n)]
 
 
 def longest(chance):

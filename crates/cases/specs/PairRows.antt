@@ -62,4 +62,7 @@ pairs =
     ∷ record { call = weightedSum [] (0xFFF0000000000000 ∷ []); expected = outcome (refused 22 nowhere) [] }
     ∷ record { call = weightedSum (0 ∷ 1 ∷ []) (0 ∷ 0x7FF0000000000001 ∷ []); expected = outcome (refused 2 (at 1)) [] }
     ∷ record { call = weightedSum (0 ∷ 1 ∷ []) (0 ∷ 0 ∷ []); expected = outcome (refused 23 (at 1)) [] }
+    -- the double below 2^-400 is no factor, though its partner is zero; 2,047 pairs are taken
+    ∷ record { call = weightedSum (0x26EFFFFFFFFFFFFF ∷ []) (0 ∷ []); expected = outcome (refused 23 (at 0)) [] }
+    ∷ record { call = weightedSum (replicate 2047 0) (replicate 2047 0); expected = outcome (nearest 0) [] }
     ∷ []

@@ -1,10 +1,10 @@
 -- The error-free product: Algorithms 1.1 and 1.2 of document 000 by the format's own operations, and what they stand for: a product is its rounding and an
 -- error, both numbers of the format. Definitions only. Which factors are far enough from underflow and overflow is said by `Room`.
 use mathlib.Core.Path.{_≡_}
-use Prim.Native.Nat.{ℕ, _+_, _*_, _/_, _^_, _≤_}
-use lib.IntN.{ℤ, pos, _+ℤ_, _-ℤ_, _*ℤ_}
-use lib.Ieee.{Float, Format, binary32, binary64, prec, emax, low, unlike, ofBits, sub, mul}
-use Rattle.ieee.specs.Units.{Number, negative, magnitude, signed, value}
+use Prim.Native.Nat.{ℕ, _+_, _*_, _^_, _≤_}
+use lib.IntN.{ℤ, pos, _+ℤ_, _*ℤ_}
+use lib.Ieee.{Float, Format, binary32, binary64, prec, emax, low, ofBits, sub, mul}
+use Rattle.ieee.specs.Units.{Number, magnitude, value}
 
 -- ---- Algorithm 1.2, Split
 
@@ -34,13 +34,6 @@ productError f a b =
     sub f (mul f a₂ b₂) (sub f (sub f (sub f (mul f a b) (mul f a₁ b₁)) (mul f a₂ b₁)) (mul f a₁ b₂))
 
 -- ---- what it stands for
-
--- the exact product in units, and its rounding's error. The division leaves no remainder at factors that are far enough from underflow.
-unfoldable pub productUnits : Format → Float → Float → ℤ
-productUnits f a b = signed (unlike (negative a) (negative b)) (magnitude f a * magnitude f b / 2 ^ low f)
-
-unfoldable pub errorUnits : Format → Float → Float → ℤ
-errorUnits f a b = productUnits f a b -ℤ value f (mul f a b)
 
 -- x and y are numbers of the format, and x + y is a times b exactly: a unit times a unit is 2 ^ -low units
 pub record ErrorFree (f : Format) (a b x y : Float) : Type 0 where

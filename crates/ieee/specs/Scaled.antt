@@ -3,8 +3,8 @@
 use mathlib.Core.Path.{_≡_, refl, sym, ap, _∙_}
 use mathlib.Core.Logic.{inl, inr}
 use mathlib.Core.Bool.{Bool, true, false, not, _&&_}
-use Prim.Native.Nat.{ℕ, _+_, _*_, _/_, _^_, _≤_, _<_}
-use native.Mathlib.Nat.{le-of-mul-le-mul-left, mul-comm, mul-div-cancel, mul-lt-mul-of-pos-right}
+use Prim.Native.Nat.{ℕ, _+_, _*_, _^_, _≤_, _<_}
+use native.Mathlib.Nat.{le-of-mul-le-mul-left, mul-comm, mul-lt-mul-of-pos-right}
 use native.Mathlib.Omega.{arith}
 use lib.Pow.{pow-add, pow-pos, pow-mono}
 use lib.Ieee.{Float, Format, prec, emax, low, unlike, sub, mul}
@@ -13,13 +13,11 @@ use Rattle.units.specs.Rounding.{fl}
 use Rattle.units.specs.Powers.{le-or-lt, twice-le}
 use Rattle.units.specs.Scaling.{fl-scale}
 use Rattle.units.specs.SignedRounding.{fl-same}
-use Rattle.units.specs.Integers.{int-same}
 use Rattle.units.specs.Products.{times-mag, scale-mag}
 use Rattle.ieee.specs.Units.{RoundedTo, Number, negative, magnitude, signed, signedWhole, whole, nearestFloat}
-use Rattle.ieee.specs.ErrorFree.{productUnits}
 use Rattle.ieee.specs.Finite.{facts}
 use Rattle.ieee.specs.Rounded.{prec-pos}
-use Rattle.ieee.specs.Sum.{signed-int, whole-mag, nearest-at}
+use Rattle.ieee.specs.Sum.{whole-mag, nearest-at}
 use Rattle.ieee.specs.Product.{mul-whole}
 use Rattle.ieee.specs.InRange.{capped, nearest-rounds, sub-rounds}
 
@@ -70,13 +68,6 @@ module _ {f : Format} {x y : Float} (X : Number f x) (Y : Number f y) (z : Whole
   mul-nearest =
       mul-whole f x y (negative x) (negative y) (magnitude f x) (magnitude f y) (mag z) (facts f x X .is) (facts f y Y .is) exact-units
       ∙ nearest-at f u z u (mag z) sign (λ e. refl)
-
-  -- the exact product in units, with no remainder left
-  pub product-units : productUnits f x y ≡ int z
-  unfolding productUnits u
-  product-units = ap (signed u) (ap (λ (n : ℕ). n / 2 ^ low f) exact-units ∙ mul-div-cancel (mag z) (pow-pos (low f)))
-      ∙ signed-int u (mag z)
-      ∙ int-same (signedWhole u (mag z)) z (sym sign)
 
   pub mul-rounds : (k : ℕ) → k ≤ low f + emax f → Within z (2 ^ k) → RoundedTo f (unlike (negative x) (negative y)) z (mul f x y)
   mul-rounds k K h = rw mul-nearest (nearest-rounds f k K (unlike (negative x) (negative y)) z h)

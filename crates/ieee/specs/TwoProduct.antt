@@ -1,13 +1,12 @@
 -- The error-free product: of two factors that are far enough from underflow and overflow, Algorithm 1.1 gives the rounded product and its error, both numbers
 -- of the format, whose sum is the exact product; the error is no larger than 2 ^ -prec times the product. Assumes nothing.
 use mathlib.Core.Path.{_≡_, sym, ap, _∙_}
-use mathlib.Core.Bool.{false}
 use Prim.Native.Nat.{ℕ, suc, _+_, _-_, _*_, _^_, _≤_}
 use native.Mathlib.Nat.{le-trans, le-of-mul-le-mul-left, mul-le-mul-right, mul-comm}
 use native.Mathlib.Omega.{arith}
-use lib.IntN.{ℤ, pos, _+ℤ_, _-ℤ_, _*ℤ_, +ℤ-comm, +ℤ-negℤ-cancel}
+use lib.IntN.{ℤ, pos, _+ℤ_, _*ℤ_}
 use lib.Pow.{pow-add, pow-pos, pow-mono}
-use lib.Ieee.{Float, Format, prec, low, ofBits, add, mul}
+use lib.Ieee.{Float, Format, prec, low, mul}
 use Rattle.units.specs.Whole.{Whole, nat, _⊕_, _⊖_, _⊗_, _⊙_, _≈_, mag, Within, Multiple, int}
 use Rattle.units.specs.Rounding.{fl}
 use Rattle.units.specs.Powers.{pow-split, pow-le-back}
@@ -16,13 +15,12 @@ use Rattle.units.specs.SignedRounding.{fl-relative-result}
 use Rattle.units.specs.Integers.{int-same, int-plus, int-difference}
 use Rattle.units.specs.Products.{nat-times, times-multiple, times-within, scale-mag, int-times}
 use Rattle.units.specs.TwoProduct as Units
-use Rattle.ieee.specs.Units.{Between, Number, magnitude, value, whole, nearestFloat}
-use Rattle.ieee.specs.ErrorFree.{halfPrec, upperHalf, lowerHalf, productError, productUnits, errorUnits, ErrorFree, Room}
+use Rattle.ieee.specs.Units.{Between, Number, magnitude, value, whole}
+use Rattle.ieee.specs.ErrorFree.{halfPrec, upperHalf, lowerHalf, productError, ErrorFree, Room}
 use Rattle.ieee.specs.Rounded.{prec-pos}
 use Rattle.ieee.specs.Sum.{value-int, whole-mag}
 use Rattle.ieee.specs.InRange.{capped}
-use Rattle.ieee.specs.Zeros.{add-plus}
-use Rattle.ieee.specs.Scaled.{Scaled, product-units, mul-scaled, sub-scaled}
+use Rattle.ieee.specs.Scaled.{Scaled, mul-scaled, sub-scaled}
 use Rattle.ieee.specs.Split.{half-least, half-most, half-less, lastPlace, place-least, last-place, halves}
 use Rattle.ieee.specs.Split.{upper-number, lower-number, upper-small, lower-small}
 
@@ -116,23 +114,6 @@ module _ {f : Format} {l h : ℕ} {a b : Float} (R : Room f l h) (A : Between f 
         ∙ int-times (whole f a) (whole f b)
         ∙ (λ i. sym (value-int f a) i *ℤ sym (value-int f b) i);
   }
-
-  -- ---- by meaning: y is the exact product less the rounded one
-  product-value : productUnits f a b ≡ value f (mul f a b) +ℤ value f (productError f a b)
-  unfolding sum
-  product-value = product-units (A .number) (B .number) sum (sym product-sum) ∙ sym sum-value
-
-  pub product-exact : pos (2 ^ low f) *ℤ productUnits f a b ≡ value f a *ℤ value f b
-  product-exact = ap (λ (S : ℤ). pos (2 ^ low f) *ℤ S) product-value ∙ two-product .exact
-
-  pub error-units : value f (productError f a b) ≡ errorUnits f a b
-  unfolding errorUnits
-  error-units = sym (ap (λ (S : ℤ). S -ℤ value f (mul f a b)) (product-value ∙ +ℤ-comm (value f (mul f a b)) (value f (productError f a b)))
-      ∙ +ℤ-negℤ-cancel (value f (productError f a b)) (value f (mul f a b)))
-
-  -- a zero error can have either sign, and +0 added to it makes it +0
-  pub error-nearest : add f (productError f a b) (ofBits f 0) ≡ nearestFloat f false (errorUnits f a b)
-  error-nearest = add-plus (error .number) ∙ ap (nearestFloat f false) error-units
 
   -- ---- bounds: 2 ^ low times a magnitude is the magnitude of 2 ^ low times the units
   scaled-mag : (x : Float) → mag (2 ^ low f ⊗ whole f x) ≡ 2 ^ low f * magnitude f x

@@ -1,11 +1,13 @@
 -- The limits on pairs of doubles: 2^-400 is 2^674 units and 2^400 is 2^1474 units, so that products and errors are of at most 2^1874 units, 2^800; and what is
 -- promised of every pair and of every list of pairs, at the scope's width. Assumes nothing.
-use mathlib.Core.Path.{_≡_}
-use Prim.Native.Nat.{ℕ, _^_, _≤_}
-use lib.Dec.{lit<, lit≤}
-use lib.Ieee.{binary64, toBits}
+use mathlib.Core.Path.{_≡_, refl}
+use Prim.Native.Nat.{_^_}
+use lib.Dec.{lit≤}
+use lib.Ieee.{binary64, ofBits, toBits}
+use Rattle.ieee.specs.Units.{magnitude}
 use Rattle.ieee.specs.Instances.{factors-64, factor-64}
 use Rattle.kinds.specs.Limits.{doubles}
+use Rattle.judge.specs.Table.{sizeOf}
 use Rattle.judge.specs.FaultLaws.{most-doubles}
 use Rattle.pairs.specs.Limits.{doublePairs}
 use Rattle.pairs.specs.Pairs.{Pair, productOf, errorOf, pairFault}
@@ -25,3 +27,12 @@ roomy-doubles = record {
 
 pub pair-64 : (c : Pair) → pairFault doublePairs c ≡ 0 → TwoNumbers doubles c (toBits binary64 (productOf binary64 c)) (toBits binary64 (errorOf binary64 c))
 pair-64 = each-pair doublePairs roomy-doubles
+
+-- rule M2's two ends, in units of 2^-1074: 2^-400 and 2^400
+pub least-64 : sizeOf doubles (doublePairs .least) ≡ 2 ^ 674
+unfolding magnitude ofBits
+least-64 = refl
+
+pub most-64 : sizeOf doubles (doublePairs .most) ≡ 2 ^ 1474
+unfolding magnitude ofBits
+most-64 = refl

@@ -38,7 +38,7 @@ pub record TwoNumbers (W : Width) (c : Pair) (x y : ℕ) : Type 0 where
 pub record PairsList (P : Pairing) (ps qs out : List ℕ) : Type 0 where
   pub as-long : length out ≡ 2 * length ps
   pub two : (i : ℕ) → i < length ps → TwoNumbers (P .width) (pairAt ps qs i) (getD out (2 * i) 0) (getD out (2 * i + 1) 0)
-  -- no call that takes a list refuses it for the list itself, with right lengths of what else it is lent
+  -- no sum refuses it for the list itself, with right lengths of what else it is lent
   pub taken : (area parts : Bool) → T area → T parts → ListWhen (P .width) area parts out Good
   -- its exact sum in units is that of the products in units of a unit
   pub sum : pos (2 ^ low (P .width .format)) *ℤ sumOf (P .width .format) out ≡ weightedSum (P .width .format) (zip ps qs)

@@ -1,4 +1,4 @@
-// The two numbers of a pair: the rounded product and its exact error, by Algorithm 1.1 of 000, whose line (1.1) prints a sum where the product is meant.
+// The two numbers of a pair: the rounded product and its exact error, by Algorithm 1.1 of 000, whose line (1.1) has a + b for a · b.
 use kinds::SIGN;
 ghost use mathlib.Core.Path.{_≡_};
 ghost use lib.Ieee.{mul, toBits};
@@ -8,7 +8,7 @@ ghost use Rattle.pairs.specs.Limits.{doublePairs};
 ghost use Rattle.pairs.specs.Pairs.{productOf, errorOf, pairFault};
 
 // Rule F12: 2^27 + 1, by which a number is split.
-const FACTOR: f64 = 134217729.0;
+const SPLITTER: f64 = 134217729.0;
 
 pub struct Halves {
     pub upper: f64,
@@ -30,7 +30,7 @@ pub struct Two {
 fn split(a: f64) -> Halves
     ensures { λ r. ⌜ (r .upper ≡ upperHalf (doubles .format) a) × (r .lower ≡ lowerHalf (doubles .format) a) ⌝ }
 {
-    let c = FACTOR * a;
+    let c = SPLITTER * a;
     let upper = c - (c - a);
     Halves {
         upper,
