@@ -1,8 +1,8 @@
 -- The limits on pairs of doubles: 2^-400 is 2^674 units and 2^400 is 2^1474 units, so that products and errors are of at most 2^1874 units, 2^800; and what is
 -- promised of every pair and of every list of pairs, at the scope's width. Assumes nothing.
 use mathlib.Core.Path.{_≡_}
-use Prim.Native.Nat.{ℕ, _^_, _≤_}
-use lib.Dec.{lit<, lit≤}
+use Prim.Native.Nat.{_^_, _≤_}
+use lib.Dec.{lit≤}
 use lib.Ieee.{binary64, toBits}
 use Rattle.ieee.specs.Instances.{factors-64, factor-64}
 use Rattle.kinds.specs.Limits.{doubles}
