@@ -6,7 +6,7 @@ use mathlib.Core.Bool.{Bool, true, false, cond, not}
 use Prim.Native.Nat.{ℕ, zero, suc, _+_, _-_, _*_, _/_, _%_, _^_, _≤_, _<_}
 use native.Mathlib.Nat.{le-of-eq, le-of-lt, le-antisymm, le-of-suc-le-suc, lt-of-lt-of-le, lt-of-not-le, not-le-of-lt, eq-or-lt-of-le, zero-lt-suc}
 use native.Mathlib.Nat.{mul-one, mul-comm, mul-pos, mul-le-mul-left, mul-le-mul-right, mul-lt-mul-of-pos-right, pow-succ'}
-use native.Mathlib.Nat.{mod-lt, mod-eq-of-lt, div-add-mod', mod-mod-of-dvd, dvd-mul-right, div-lt-iff-lt-mul, le-div-iff-mul-le}
+use native.Mathlib.Nat.{mod-lt, mod-eq-of-lt, div-add-mod', mod-mod-of-dvd, dvd-mul-right, div-lt-iff-lt-mul, le-div-iff-mul-le, zero-div, zero-mod}
 use native.Mathlib.Omega.{arith}
 use lib.Dec.{T, leb, ltb, eqb, eqb→eq, lt→ltb, ltb→lt}
 use lib.Arith.{le→nltb, lt→nleb}
@@ -84,6 +84,10 @@ module _ (f : Format) where
 
   -- ---- a larger pattern is a larger magnitude
 
+  pub no-units : patternUnits f 0 ≡ 0
+  unfolding patternUnits
+  no-units = rw (zero-div (hid f), zero-mod (hid f))
+
   -- a field x stands for less than hid * 2 ^ x units, and a larger field for no less
   under : (x t : ℕ) → t < hid f → fieldUnits f x t < hid f * 2 ^ x
   under zero t h = omega arith
@@ -117,10 +121,10 @@ module _ (f : Format) where
   pattern-le = (not-falling, λ h. le-of-suc-le-suc (lt-of-not-le (λ g. not-le-of-lt (rising g) h)))
 
   -- a bound on patterns is a bound on magnitudes
-  magnitude-is : (b : ℕ) → b % top f < ones f * hid f → magnitude f (ofBits f b) ≡ patternUnits f (b % top f)
+  pub magnitude-is : (b : ℕ) → b % top f < ones f * hid f → magnitude f (ofBits f b) ≡ patternUnits f (b % top f)
   magnitude-is b l = is-units f (ofBits f b) (leb (top f) b) (patternUnits f (b % top f)) (pattern-is b l) .1
 
-  finite-below : (b : ℕ) → T (finite (ofBits f b)) → b % top f < ones f * hid f
+  pub finite-below : (b : ℕ) → T (finite (ofBits f b)) → b % top f < ones f * hid f
   finite-below b t = ltb→lt (b % top f) (ones f * hid f) (rw (pattern-finite b) at t)
 
   pub pattern-within : (b L : ℕ) → L < ones f * hid f → (b % top f ≤ L) ↔ (T (finite (ofBits f b)) × (magnitude f (ofBits f b) ≤ patternUnits f L))

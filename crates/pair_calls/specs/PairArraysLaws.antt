@@ -1,10 +1,10 @@
 -- The nearest weighted sum as a C call, case by case: another length of the array of the value, and what the library's own call answers otherwise; when each
 -- code for another length is given; and that each refusal is one of the table. Assumes nothing.
 use mathlib.Core.Path.{_≡_, refl}
-use mathlib.Core.Logic.{_⊎_, inl, inr, _↔_}
+use mathlib.Core.Logic.{inl, inr, _↔_}
 use mathlib.Core.Bool.{or-true}
 use mathlib.Core.List.{List}
-use Prim.Native.Nat.{ℕ, _≤_, _<_}
+use Prim.Native.Nat.{ℕ, _≤_}
 use native.Mathlib.Decide.{ℕ-discrete}
 use native.Mathlib.Omega.{arith}
 use borrow.Author.Tests.{lt-ltb, le-ltb, eq-eqb, ne-eqb}
@@ -21,8 +21,7 @@ use Rattle.arrays.specs.Arrays.{codeOf, valuesOf}
 use Rattle.arrays.specs.ArraysLaws.{nearest-by}
 use Rattle.arrays.specs.Inner.{NearestRefusal}
 use Rattle.pairs.specs.Limits.{doublePairs}
-use Rattle.pairs.specs.Pairs.{weightedOf, twoEach, multipliedOf}
-use Rattle.pairs.specs.Table.{PairsWhen}
+use Rattle.pairs.specs.Pairs.{weightedOf, multipliedOf}
 use Rattle.pairs.specs.JudgedLaws.{pairs-refusal}
 use Rattle.pairs.specs.TableLaws.{weighted-when, multiplied-when}
 use Rattle.pairs.specs.declared.Paired.the-variants.{Refused}

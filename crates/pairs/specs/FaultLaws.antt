@@ -2,18 +2,18 @@
 use mathlib.Core.Path.{_≡_, refl, sym, ap, _∙_}
 use mathlib.Core.Logic.{_⊎_, inl, inr, _↔_}
 use mathlib.Core.Bool.{Bool, true, false, cond, not, _&&_, _||_}
-use Prim.Native.Nat.{ℕ, _*_, _%_, _≤_, _<_}
-use native.Mathlib.Nat.{zero-div, zero-mod, mod-eq-of-lt}
+use Prim.Native.Nat.{ℕ, _*_, _%_, _<_}
+use native.Mathlib.Nat.{mod-eq-of-lt}
 use native.Mathlib.Omega.{arith}
 use borrow.Author.Tests.{le-leb, lt-leb, lt-ltb, le-ltb, leb-true, leb-false, eq-eqb, ne-eqb, eqb-true, eqb-false}
-use lib.Dec.{T, leb, ltb, eqb, ltb→lt, lit<}
+use lib.Dec.{T, leb, ltb, eqb, lit<}
 use lib.Ieee.{Format, ones, hid, top, ofBits}
-use lib.Ieee.Bits.{is-true, is-false}
+use lib.Ieee.Bits.{is-true}
 use lib.Ieee.Scale.{finite}
 use Rattle.units.specs.Powers.{le-or-lt}
 use Rattle.ieee.specs.Units.{patternUnits}
 use Rattle.ieee.specs.Finite.{is-units}
-use Rattle.ieee.specs.Pattern.{pattern-is, pattern-positive, pattern-finite, pattern-lt, pattern-le}
+use Rattle.ieee.specs.Pattern.{pattern-positive, pattern-finite, no-units, pattern-lt, pattern-le, magnitude-is}
 use Rattle.lists.specs.Apart.{apart}
 use Rattle.judge.specs.Table.{floatOf, sizeOf}
 use Rattle.pairs.specs.Limits.{Pairing, doublePairs}
@@ -151,9 +151,6 @@ module _ (P : Pairing) where
   abbrev f : Format
   f = P .width .format
 
-  units : (p : ℕ) → p % top f < ones f * hid f → sizeOf (P .width) p ≡ patternUnits f (p % top f)
-  units p h = is-units f (ofBits f p) (leb (top f) p) (patternUnits f (p % top f)) (pattern-is f p h) .1
-
   -- a pattern without a sign
   plain : (r : ℕ) → r < ones f * hid f → sizeOf (P .width) r ≡ patternUnits f r
   plain r h = is-units f (ofBits f r) false (patternUnits f r) (pattern-positive f r h) .1
@@ -171,29 +168,25 @@ module _ (P : Pairing) where
     abbrev r : ℕ
     r = p % top f
 
-    no-units : patternUnits f 0 ≡ 0
-    unfolding patternUnits
-    no-units = rw (zero-div (hid f), zero-mod (hid f))
-
     -- no digit and no field, no unit
     pub nothing : eqb (p % top (P .width .format)) 0 ≡ eqb (sizeOf (P .width) p) 0
     nothing = elim (le-or-lt r 0) [
       | inl z ↦
           let e : r ≡ 0 = omega arith in
-          rw (eq-eqb r 0 e, eq-eqb (sizeOf (P .width) p) 0 (units p h ∙ ap (patternUnits f) e ∙ no-units))
+          rw (eq-eqb r 0 e, eq-eqb (sizeOf (P .width) p) 0 (magnitude-is f p h ∙ ap (patternUnits f) e ∙ no-units f))
       | inr l ↦
-          let m : 0 < patternUnits f r = rw no-units at (pattern-lt f .0 l) in
-          rw (ne-eqb r 0 (λ e. omega arith), ne-eqb (sizeOf (P .width) p) 0 (λ e. omega (arith, units p h)))
+          let m : 0 < patternUnits f r = rw (no-units f) at (pattern-lt f .0 l) in
+          rw (ne-eqb r 0 (λ e. omega arith), ne-eqb (sizeOf (P .width) p) 0 (λ e. omega (arith, magnitude-is f p h)))
     ]
 
     least-test : Proper P → not (ltb r (P .least)) ≡ leb (sizeOf (P .width) (P .least)) (sizeOf (P .width) p)
-    least-test R = rw (units p h, plain (P .least) (R .least)) (elim (le-or-lt (P .least) r) [
+    least-test R = rw (magnitude-is f p h, plain (P .least) (R .least)) (elim (le-or-lt (P .least) r) [
       | inl l ↦ rw (le-ltb r (P .least) l, le-leb (patternUnits f (P .least)) (patternUnits f r) (pattern-le f .0 l))
       | inr l ↦ rw (lt-ltb r (P .least) l, lt-leb (patternUnits f (P .least)) (patternUnits f r) (pattern-lt f .0 l))
     ])
 
     most-test : Proper P → not (ltb (P .most) r) ≡ leb (sizeOf (P .width) p) (sizeOf (P .width) (P .most))
-    most-test R = rw (units p h, plain (P .most) (R .most)) (elim (le-or-lt r (P .most)) [
+    most-test R = rw (magnitude-is f p h, plain (P .most) (R .most)) (elim (le-or-lt r (P .most)) [
       | inl l ↦ rw (le-ltb (P .most) r l, le-leb (patternUnits f r) (patternUnits f (P .most)) (pattern-le f .0 l))
       | inr l ↦ rw (lt-ltb (P .most) r l, lt-leb (patternUnits f r) (patternUnits f (P .most)) (pattern-lt f .0 l))
     ])
@@ -208,9 +201,6 @@ module _ (P : Pairing) where
         go false false true = refl
         go false false false = refl
 
-  pub finite-below : (p : ℕ) → Finite P p → p % top (P .width .format) < ones (P .width .format) * hid (P .width .format)
-  finite-below p t = ltb→lt (p % top f) (ones f * hid f) (rw (pattern-finite f p) at t)
-
   -- ---- as the code tests it
   -- a pattern without its sign has the same magnitude, and is itself
   module _ (r : ℕ) (h : r < ones f * hid f) where
@@ -222,7 +212,7 @@ module _ (P : Pairing) where
 
   unsigned : (p : ℕ) → p % top f < ones f * hid f → inRange P (p % top f) ≡ inRange P p
   unsigned p h =
-      ap (λ (n : ℕ). eqb n 0 || (leb (sizeOf (P .width) (P .least)) n && leb n (sizeOf (P .width) (P .most)))) (plain (p % top f) h ∙ sym (units p h))
+      ap (λ (n : ℕ). eqb n 0 || (leb (sizeOf (P .width) (P .least)) n && leb n (sizeOf (P .width) (P .most)))) (plain (p % top f) h ∙ sym (magnitude-is f p h))
 
   module _ (c : Pair) where
     abbrev a : ℕ

@@ -1,13 +1,13 @@
 -- The list of the products of pairs that have no fault: no list is refused for it, it is not nothing but -0, its exact sum is that of the products, and its
 -- nearest sum the nearest weighted sum. Of pairs it takes what is promised of their two numbers. Assumes nothing.
-use mathlib.Core.Path.{_≡_, refl, sym, ap, _∙_}
+use mathlib.Core.Path.{_≡_, sym, ap, _∙_}
 use mathlib.Core.Bool.{Bool, true, false}
 use mathlib.Core.List.{List, [], _∷_, zip}
 use Prim.Native.Nat.{ℕ, _-_, _*_, _^_, _≤_, _<_}
 use native.Mathlib.Omega.{arith}
 use lib.Dec.{T}
 use lib.IntN.{ℤ, pos, _+ℤ_, _*ℤ_, +ℤ-assoc, *ℤ-zero}
-use lib.ListN.{length, getD}
+use lib.ListN.{length}
 use lib.Pow.{pow-pos}
 use lib.Ieee.{Format, prec, low, top, ofBits, toBits}
 use Rattle.units.specs.ScaledSums.{scale-plus}
@@ -15,7 +15,6 @@ use Rattle.ieee.specs.Units.{value, nearestFloat}
 use Rattle.ieee.specs.Zeros.{minus-value}
 use Rattle.lists.specs.Each.{Each, each-at, each-from}
 use Rattle.kinds.specs.declared.Verdict.the-variants.{Good}
-use Rattle.kinds.specs.declared.Nearest.{Nearest}
 use Rattle.kinds.specs.declared.Nearest.the-variants as nearests
 use Rattle.judge.specs.Judge.{zeroSign}
 use Rattle.judge.specs.Table.{Allowed, ListWhen, MinusZeros, allowed}

@@ -17,6 +17,7 @@ use Rattle.ieee.specs.ErrorFree.{productError, ErrorFree, Room}
 use Rattle.ieee.specs.TwoProduct.{two-product, product-small, error-smaller}
 use Rattle.ieee.specs.Sum.{value-mag}
 use Rattle.ieee.specs.Overflow.{power-below}
+use Rattle.ieee.specs.Pattern.{finite-below}
 use Rattle.ieee.specs.Nearest.{nearest-number}
 use Rattle.ieee.specs.Zeros.{zero-bits, zero-value, add-plus}
 use Rattle.lists.specs.Apart.{apart}
@@ -26,7 +27,7 @@ use Rattle.pairs.specs.Limits.{Pairing}
 use Rattle.pairs.specs.Pairs.{Pair, exactProduct, nearestProduct, productOf, errorOf, pairFault}
 use Rattle.pairs.specs.Table.{Finite, Ranged}
 use Rattle.pairs.specs.Promise.{TwoNumbers}
-use Rattle.pairs.specs.FaultLaws.{pair-0, nothing, finite-below}
+use Rattle.pairs.specs.FaultLaws.{pair-0, nothing}
 use Rattle.pairs.specs.ProductLaws.{nearest-scaled, nearest-mul, zero-product, nearest-zero, nearest-own}
 
 -- the limits are far enough from underflow and overflow for Algorithm 1.1, and from the limits on lists
@@ -190,7 +191,7 @@ module _ (P : Pairing) (R : Roomy P) (c : Pair) (e : pairFault P c ≡ 0) where
   sides = pair-0 P c .0 e
 
   same : (eqb (c .0 % top k) 0 || eqb (c .1 % top k) 0) ≡ (eqb (sizeOf (P .width) (c .0)) 0 || eqb (sizeOf (P .width) (c .1)) 0)
-  same = λ i. nothing P (c .0) (finite-below P (c .0) (sides .0 .0)) i || nothing P (c .1) (finite-below P (c .1) (sides .1 .0)) i
+  same = λ i. nothing P (c .0) (finite-below (P .width .format) (c .0) (sides .0 .0)) i || nothing P (c .1) (finite-below (P .width .format) (c .1) (sides .1 .0)) i
 
   pub tested-zero : (eqb (c .0 % top (P .width .format)) 0 || eqb (c .1 % top (P .width .format)) 0) ≡ true
       → (toBits (P .width .format) (productOf (P .width .format) c) ≡ 0) × (toBits (P .width .format) (errorOf (P .width .format) c) ≡ 0)

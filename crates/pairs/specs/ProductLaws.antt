@@ -7,7 +7,7 @@ use native.Mathlib.Nat.{mul-pos}
 use native.Mathlib.Omega.{arith}
 use lib.IntN.{ℤ, pos, negsuc, negℤ, natAbs, _*ℤ_, zero-*ℤ, *ℤ-zero}
 use lib.Pow.{pow-pos}
-use lib.Ieee.{Float, Format, prec, low, unlike, round, mul, toBits}
+use lib.Ieee.{Float, Format, prec, low, unlike, round, mul}
 use lib.Ieee.Scale.{round-same}
 use Rattle.units.specs.NaturalRounding.{exact}
 use Rattle.units.specs.ScaledSums.{scale-abs}
@@ -17,7 +17,6 @@ use Rattle.ieee.specs.Rounded.{prec-pos}
 use Rattle.ieee.specs.Sum.{value-mag}
 use Rattle.ieee.specs.Product.{mul-number}
 use Rattle.ieee.specs.Overflow.{nearest-is}
-use Rattle.ieee.specs.Zeros.{zero-bits, zero-value}
 use Rattle.pairs.specs.Pairs.{nearestProduct}
 
 -- ---- signs and magnitudes

@@ -5,7 +5,7 @@ use mathlib.Core.List.{List, [], _∷_, map}
 use Prim.Native.Nat.{ℕ, zero, suc, _*_}
 use native.Mathlib.Omega.{arith}
 use lib.IntN.{ℤ, pos, negsuc, negℤ, natAbs, _+ℤ_, _-ℤ_, _*ℤ_, *ℤ-zero}
-use Rattle.units.specs.Whole.{Whole, nat, _⊕_, _⊖_, neg, _⊙_, _≈_, int, difference, exactSum}
+use Rattle.units.specs.Whole.{Whole, nat, _⊕_, _⊖_, _⊙_, int, difference, exactSum}
 use Rattle.units.specs.Integers.{int-same, int-plus, int-minus, int-difference}
 use Rattle.units.specs.Products.{times-plus, int-times}
 

@@ -1,8 +1,6 @@
 -- `pairs::faults::fault` meets its contract: each return is a case of the definition. Assumes nothing.
 use mathlib.Core.Path.{_≡_, sym, ap, _∙_}
 use mathlib.Core.Bool.{Bool, true, false, cond, _||_}
-use Prim.Native.Nat.{ℕ}
-use borrow.Author.Needs.{needs}
 use Rattle.pairs.specs.Limits.{doublePairs}
 use Rattle.pairs.specs.Pairs.{pairFault}
 use Rattle.pairs.specs.FaultLaws.{pattern-2, a-below, b-below, pattern-ranges}

@@ -1,5 +1,5 @@
 -- `pairs::faults::first_fault` meets its contract: the pairs passed have no fault, so the first that has one is the lowest. Assumes nothing.
-use mathlib.Core.Path.{_≡_, sym, _∙_}
+use mathlib.Core.Path.{sym, _∙_}
 use Prim.Native.Nat.{_-_}
 use native.Mathlib.Numerals.{add-one}
 use native.Mathlib.Omega.{arith}

@@ -4,14 +4,13 @@ use mathlib.Core.Bool.{not}
 use Prim.Native.Nat.{ℕ}
 use borrow.Author.Needs.{needs}
 use lib.Dec.{T}
-use lib.Ieee.{Float, mul, add, ofBits, toBits, isNan, nanBits}
+use lib.Ieee.{Float, add, ofBits, toBits, nanBits}
 use lib.Ieee.Bits.{nanBits-is}
 use Rattle.kinds.specs.Limits.{doubles}
 use Rattle.ieee.specs.Units.{Number}
 use Rattle.ieee.specs.Finite.{finite-no-nan}
-use Rattle.ieee.specs.ErrorFree.{productError}
 use Rattle.pairs.specs.Limits.{doublePairs}
-use Rattle.pairs.specs.Pairs.{Pair, productOf, errorOf, pairFault}
+use Rattle.pairs.specs.Pairs.{Pair, productOf, errorOf}
 use Rattle.pairs.specs.Table.{Finite}
 use Rattle.pairs.specs.FaultLaws.{pair-0}
 use Rattle.pairs.specs.PairLaws.{product-mul, error-add, product-number, error-number, tested-zero, tested-first, tested-second}

@@ -1,5 +1,5 @@
 -- `pairs::weighted::total` meets its contract: after i pairs the words are those of the start and the sum of the numbers of the first i. Assumes nothing.
-use mathlib.Core.Path.{_≡_, refl, sym, ap, _∙_}
+use mathlib.Core.Path.{_≡_, sym, ap, _∙_}
 use mathlib.Core.List.{zip}
 use Prim.Native.Nat.{ℕ, _-_, _≤_, _<_}
 use native.Mathlib.Omega.{arith}
@@ -13,7 +13,6 @@ use Rattle.kinds.specs.Limits.{doubles}
 use Rattle.words.specs.Words.{wordCount, wholeOf, wordsOf}
 use Rattle.addend.specs.Addend.{unitsOf}
 use Rattle.addend.specs.RegisterWords.{held}
-use Rattle.pairs.specs.Limits.{doublePairs}
 use Rattle.pairs.specs.Pairs.{Pair, productOf, errorOf}
 use Rattle.pairs.specs.ZipLaws.{zip-length, zip-at}
 use Rattle.pairs.specs.TotalLaws.{sumTo, total-begins, total-goes-on, total-ends}
