@@ -31,6 +31,10 @@ module _ (f : Format) (sigma : Float) where
   unfolding remainders
   remainders-join xs ys = map-append (remainderOf f sigma) xs ys
 
+  pub remainders-next : (xs : List Float) (x : Float) → remainders f sigma (xs ++ (x ∷ [])) ≡ remainders f sigma xs ++ (remainderOf f sigma x ∷ [])
+  unfolding remainders
+  remainders-next xs x = remainders-join xs (x ∷ [])
+
   pub remainders-length : (xs : List Float) → length (remainders f sigma xs) ≡ length xs
   unfolding remainders
   remainders-length xs = length-map xs (remainderOf f sigma)
