@@ -1,8 +1,8 @@
--- The largest magnitude of a float and a list is a float again, with no sign: in units, and as a pattern. Assumes nothing.
-use mathlib.Core.Path.{_≡_, refl, sym, _∙_}
+-- The largest magnitude of a float and a list is a float again, with no sign: in units, of lists that are joined, and as a pattern. Assumes nothing.
+use mathlib.Core.Path.{_≡_, refl, sym, ap, _∙_}
 use mathlib.Core.Logic.{inl, inr}
 use mathlib.Core.Bool.{false}
-use mathlib.Core.List.{List, [], _∷_}
+use mathlib.Core.List.{List, [], _∷_, _++_}
 use Prim.Native.Nat.{ℕ, zero, suc, _%_, _<_, max}
 use native.Mathlib.Nat.{mod-eq-of-lt}
 use native.Mathlib.Omega.{arith}
@@ -22,6 +22,7 @@ use Rattle.ieee.specs.Overflow.{nearest-round, nearest-fits}
 use Rattle.ieee.specs.Pattern.{bits-units}
 use Rattle.lists.specs.Each.{Each, each-map}
 use Rattle.extract.specs.Extract.{highPart, remainderOf, remainders, largest, largestWith}
+use Rattle.extract.specs.ExtractLaws.{largest-none, largest-join}
 use Rattle.extract.specs.LargestLaws.{Positive, Stands, number-stands, stands-is, zero-positive}
 
 -- a float of n units exists
@@ -68,6 +69,17 @@ module _ (f : Format) where
   pub with-positive : {m : Float} {n : ℕ} → Positive f m n → (xs : List Float) → Each (Number f) xs → Positive f (largestWith f m xs) (max n (largest f xs))
   unfolding largestWith
   with-positive M xs h = rw (M .units) (nearest-positive (larger-sized (rw (M .units) at (number-sized (M .number))) (largest-sized xs h)))
+
+  pub with-none : {m : Float} {n : ℕ} → Positive f m n → largestWith f m [] ≡ m
+  with-none {n = n} M =
+      let e : max n (largest f []) ≡ n = rw (largest-none f) (omega arith) in
+      positive-same (rw e at (with-positive M [] tt)) M
+
+  pub with-join : {m : Float} {n : ℕ} → Positive f m n → (xs ys : List Float) → Each (Number f) xs
+      → largestWith f (largestWith f m xs) ys ≡ largestWith f m (xs ++ ys)
+  unfolding largestWith
+  with-join {m} {n} M xs ys h =
+      ap (λ (k : ℕ). nearestFloat f false (pos k)) (rw (with-positive M xs h .units, M .units, largest-join f xs ys) (omega arith))
 
   -- ---- a pattern that stands for it is its pattern
   pub positive-stands : {x : Float} {n : ℕ} → Positive f x n → Stands f (toBits f x) n

@@ -1,7 +1,7 @@
--- A round of a run as it opens, and tau after some of its numbers were taken in rising order. Assumes nothing.
-use mathlib.Core.Path.{_≡_}
+-- A round of a run as it opens, tau and the largest remainder after some of its numbers were taken in rising order, and mu of its close. Assumes nothing.
+use mathlib.Core.Path.{_≡_, ap}
 use mathlib.Core.List.{List}
-use Prim.Native.Nat.{ℕ, suc, _+_, _-_, _*_, _^_, _≤_, _<_}
+use Prim.Native.Nat.{ℕ, suc, _+_, _-_, _*_, _^_, _≤_, _<_, max}
 use native.Mathlib.Nat.{mul-le-mul-left, mul-le-mul-right, lt-of-mul-lt-mul-right}
 use native.Mathlib.Omega.{arith}
 use lib.ListN.{length, take, length-take}
@@ -10,20 +10,21 @@ use lib.Pow.{pow-add, pow-mono}
 use lib.Ieee.{Float, prec, top}
 use Rattle.units.specs.Ceiling.{ceil-ge}
 use Rattle.units.specs.Turns.{tau-zero}
-use Rattle.ieee.specs.Units.{whole}
+use Rattle.ieee.specs.Units.{Number, whole}
 use Rattle.ieee.specs.Sum.{whole-mag}
 use Rattle.lists.specs.Bitset.{full}
-use Rattle.lists.specs.Each.{Each, each-take}
+use Rattle.lists.specs.Each.{Each, each-take, each-weaker}
 use Rattle.kinds.specs.Limits.{Width, exponentOf, blocksOf}
 use Rattle.kinds.specs.declared.State.{State}
-use Rattle.extract.specs.Extract.{plusZero, gathered}
-use Rattle.extract.specs.LargestLaws.{zero-positive}
-use Rattle.rounds.specs.Round.{allTaken}
+use Rattle.extract.specs.Extract.{plusZero, gathered, remainders, largest}
+use Rattle.extract.specs.LargestLaws.{Positive, zero-positive}
+use Rattle.extract.specs.LargestWithLaws.{with-positive}
+use Rattle.rounds.specs.Round.{allTaken, allLeft, closedBy, closed}
 use Rattle.rounds.specs.Fitting.{Fitting}
-use Rattle.rounds.specs.InUnits.{Small, Scale, Tau, gathers}
+use Rattle.rounds.specs.InUnits.{Small, Scale, Tau, gathers, remainders-small}
 
 -- a state that opens a round of a run, with its work area: sigma is 2^(M + e) units, the work numbers are at most 2^e, each round closed has lowered e by
--- prec - M or more, nothing was gathered and every block is pending
+-- prec - M or more, nothing was gathered, every block is pending and no remainder was seen
 pub record Begun (W : Width) (F : Fitting W) (e : ℕ) (s : State) (xs : List Float) : Type 0 where
   pub some : 1 ≤ s .n
   pub few : s .n ≤ W .length
@@ -34,6 +35,7 @@ pub record Begun (W : Width) (F : Fitting W) (e : ℕ) (s : State) (xs : List Fl
   pub work : Each (Small (W .format) (2 ^ e)) xs
   pub tau : s .tau ≡ plusZero (W .format)
   pub pending : s .pending ≡ full (blocksOf W (s .n))
+  pub largest : s .largest ≡ plusZero (W .format)
 
 module _ {W : Width} {F : Fitting W} {e : ℕ} {s : State} {xs : List Float} (B : Begun W F e s xs) where
   -- the rounds closed are fewer than the width allows
@@ -55,6 +57,28 @@ module _ {W : Width} {F : Fitting W} {e : ℕ} {s : State} {xs : List Float} (B 
         units = rw (z .sign, z .units) (tau-zero (prec (W .format)) (exponentOf (s .n)) e);
         plus = λ h. z .sign;
       })
+
+  pub begun-largest : Positive (W .format) (s .largest) 0
+  begun-largest = rw (B .largest) (zero-positive (W .format))
+
+  -- the remainders of the first k numbers, and of all
+  pub taken-numbers : (k : ℕ) → Each (Number (W .format)) (remainders (W .format) (s .sigma) (take k xs))
+  taken-numbers k =
+      each-weaker _ _ (λ y Y. Y .number) (remainders (W .format) (s .sigma) (take k xs))
+      (remainders-small (B .scale) (take k xs) (each-take (Small (W .format) (2 ^ e)) k xs (B .work)))
+
+  left-numbers : Each (Number (W .format)) (allLeft W s xs)
+  left-numbers = rw (take-all (length xs) xs (omega arith)) at (taken-numbers (length xs))
+
+  -- mu of its close is the largest magnitude of its area
+  pub largest-left : Positive (W .format) (allTaken W s xs .largest) (largest (W .format) (allLeft W s xs))
+  largest-left =
+      let f = W .format in
+      let z : max 0 (largest f (allLeft W s xs)) ≡ largest f (allLeft W s xs) = omega arith in
+      rw z at (with-positive f begun-largest (allLeft W s xs) left-numbers)
+
+  pub closes-by : closed W (allTaken W s xs) (allLeft W s xs) ≡ closedBy W (largest (W .format) (allLeft W s xs)) (allTaken W s xs) (allLeft W s xs)
+  closes-by = ap (λ (mu : ℕ). closedBy W mu (allTaken W s xs) (allLeft W s xs)) (largest-left .units)
 
   fewer : (k : ℕ) → length (take k xs) ≤ 2 ^ exponentOf (s .n)
   fewer k = omega (arith, length-take k xs, B .count, ceil-ge (s .n + 2))

@@ -48,6 +48,7 @@ module _ {W : Width} {F : Fitting W} {n rounds ensemble : ℕ} {xs : List Float}
     work = each-weaker (Small f mu) (Small f (2 ^ ceil mu)) (λ y Y. record { number = Y .number; within = omega (arith, Y .within, ceil-ge mu) }) xs work;
     tau = refl;
     pending = refl;
+    largest = refl;
   }
     where
       f : Format

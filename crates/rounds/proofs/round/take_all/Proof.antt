@@ -5,7 +5,7 @@ use Rattle.rounds.proofs.round.take_all.Statement.{statement}
 use Rattle.rounds.proofs.round.take_all.Tie as tie
 
 extract-requires : tie.Need-extract-requires
-extract-requires c κs = search needs
+extract-requires c κs = let p = c .before .before .pre in (p .fini, p .positive, p .remainders)
 
 of-requires : tie.Need-of-requires
 of-requires c κs = search needs
@@ -17,7 +17,7 @@ returns : tie.Need-returns
 returns c =
     let s = c .before .before .before .before .before .before .args .s in
     let e = c .before .before .before .extract .ensures in
-    (rw (c .of .ensures) (λ i. inRound s (e .0 i) 0), e .1)
+    (rw (c .of .ensures) (λ i. inRound s (e .0 i) (e .1 i) 0), e .2)
 
 pub take-all-spec : {M : Type 1} → statement M
 take-all-spec = tie.close (tie.spec extract-requires of-requires same-length returns)
