@@ -1,10 +1,13 @@
 -- What a list's high parts, remainders and sum are where it is joined of two, and what its largest magnitude is and bounds. Assumes nothing.
 use mathlib.Core.Path.{_≡_, refl, _∙_}
+use mathlib.Core.Logic.{inl, inr}
 use mathlib.Core.List.{List, [], _∷_, _++_, foldl, map-append}
-use Prim.Native.Nat.{ℕ, max, _≤_}
+use Prim.Native.Nat.{ℕ, max, _*_, _≤_}
+use native.Mathlib.Nat.{mul-zero}
 use native.Mathlib.Omega.{arith}
 use lib.ListN.{length, length-map}
 use lib.Ieee.{Float, Format, add}
+use Rattle.units.specs.Powers.{le-or-lt}
 use Rattle.lists.specs.Each.{Each, each-weaker}
 use Rattle.ieee.specs.Units.{magnitude}
 use Rattle.extract.specs.Extract.{highPart, remainderOf, remainders, gathered, lastSum, plusZero, largest}
@@ -76,6 +79,14 @@ module _ (f : Format) where
   unfolding largest
   largest-le c [] h = omega arith
   largest-le c (x ∷ xs) h = let l : largest f xs ≤ c = largest-le c xs (h .1) in omega (arith, h .0)
+
+  pub largest-scaled : (k c : ℕ) (xs : List Float) → Each (λ x. k * magnitude f x ≤ c) xs → k * largest f xs ≤ c
+  unfolding largest
+  largest-scaled k c [] h = rw (mul-zero k) (omega arith)
+  largest-scaled k c (x ∷ xs) h = elim (le-or-lt (magnitude f x) (largest f xs)) [
+    | inl l ↦ let e : max (magnitude f x) (largest f xs) ≡ largest f xs = omega arith in rw e (largest-scaled k c xs (h .1))
+    | inr l ↦ let e : max (magnitude f x) (largest f xs) ≡ magnitude f x = omega arith in rw e (h .0)
+  ]
 
   pub largest-zero : (xs : List Float) → Each (λ x. magnitude f x ≡ 0) xs → largest f xs ≡ 0
   largest-zero xs h =
