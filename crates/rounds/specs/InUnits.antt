@@ -120,13 +120,13 @@ module _ {f : Format} {M e : ℕ} {sigma : Float} (σ : Scale f M e sigma) where
   remainder-eps : {x : Float} → Small f (2 ^ e) x → 2 ^ prec f * magnitude f (remainderOf f sigma x) ≤ magnitude f sigma
   remainder-eps {x} X = rw (σ .power .units) (elim (le-or-lt (prec f) (M + e)) [
     | inl l ↦
-      let z : suc (M + e) - prec f ≡ suc (M + e - prec f) = omega arith in
-      let h : magnitude f r ≤ 2 ^ (M + e - prec f) = omega (arith, remainder-small X .1, ap (λ (k : ℕ). 2 ^ k) z, pow-add 2 1 (M + e - prec f)) in
-      omega (arith, mul-le-mul-left (2 ^ prec f) h, pow-split l)
+        let z : suc (M + e) - prec f ≡ suc (M + e - prec f) = omega arith in
+        let h : magnitude f r ≤ 2 ^ (M + e - prec f) = omega (arith, remainder-small X .1, ap (λ (k : ℕ). 2 ^ k) z, pow-add 2 1 (M + e - prec f)) in
+        omega (arith, mul-le-mul-left (2 ^ prec f) h, pow-split l)
     | inr l ↦
-      let z : suc (M + e) - prec f ≡ 0 = omega arith in
-      let h : magnitude f r ≡ 0 = omega (arith, remainder-small X .1, ap (λ (k : ℕ). 2 ^ k) z) in
-      rw (h, mul-zero (2 ^ prec f)) (omega arith)
+        let z : suc (M + e) - prec f ≡ 0 = omega arith in
+        let h : magnitude f r ≡ 0 = omega (arith, remainder-small X .1, ap (λ (k : ℕ). 2 ^ k) z) in
+        rw (h, mul-zero (2 ^ prec f)) (omega arith)
   ])
     where
       r : Float

@@ -20,7 +20,16 @@ pub fn begin(n: usize, sigma: f64, t: f64, rounds: u32, ensemble: u32) -> State
     ensures { λ r. ⌜ r ≡ roundOf doubles n sigma t rounds ensemble ⌝ }
 {
     let blocks = Doubles::of(n).blocks();
-    State::of(n, sigma, t, 0.0, bitset::full(blocks), rounds, ensemble, 0.0)
+    State::of(
+        n,
+        sigma,
+        t,
+        0.0,
+        bitset::full(blocks),
+        rounds,
+        ensemble,
+        0.0,
+    )
 }
 
 // sigma of rule WO3.

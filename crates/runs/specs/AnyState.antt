@@ -18,7 +18,13 @@ pub record Floats (W : Width) (s : State) (xs : List Float) : Type 0 where
   pub sigma : T (fits (W .format) (s .sigma))
   pub t : T (fits (W .format) (s .t))
   pub tau : T (fits (W .format) (s .tau))
+  pub largest : T (fits (W .format) (s .largest))
   pub work : Each (λ x. T (fits (W .format) x)) xs
+
+-- a largest remainder, kept or told: a number without a sign
+pub record Shown (W : Width) (x : Float) : Type 0 where
+  pub number : Number (W .format) x
+  pub positive : negative x ≡ false
 
 -- the next state: no NaN and no infinity, and a sigma of rule WS6. It need not be sound (rule WS11): tau may pass 2^1012
 pub record StateNumbers (W : Width) (s : State) : Type 0 where
@@ -26,6 +32,7 @@ pub record StateNumbers (W : Width) (s : State) : Type 0 where
   pub bounds : SigmaBetween W (s .n) (s .sigma)
   pub t : Number (W .format) (s .t)
   pub tau : Number (W .format) (s .tau)
+  pub largest : Shown W (s .largest)
 
 -- the finished sum: no NaN, no infinity and not -0
 pub record SumNumber (W : Width) (x : Float) : Type 0 where
@@ -34,7 +41,7 @@ pub record SumNumber (W : Width) (x : Float) : Type 0 where
 
 -- the answer, which is no refusal, and the work area
 abbrev pub Answered : Width → Step → Type 0
-Answered W (More s) = StateNumbers W s
+Answered W (More s told) = StateNumbers W s × Shown W told
 Answered W (Done x r) = SumNumber W x
 Answered W (Refused k p) = ⊥
 

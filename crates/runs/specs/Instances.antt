@@ -96,10 +96,10 @@ pub any-run-32 : (e : ℕ) (ps : List ℕ) (work : List Float) → Accepted sing
 any-run-32 = any-run singles-fit
 
 module _ (e : ℕ) (ps : List ℕ) (work : List Float) (bs : List ℕ) where
-  pub goes-64 : Accepted doubles ps work → (s : State) → runOf doubles e ps work bs .walk .answer ≡ More s → Going doubles e ps (runOf doubles e ps work bs) s
+  pub goes-64 : Accepted doubles ps work → (s : State) (told : Float) → runOf doubles e ps work bs .walk .answer ≡ More s told → Going doubles e ps (runOf doubles e ps work bs) s
   goes-64 G = run-goes doubles-fit e ps work G bs
 
-  pub goes-32 : Accepted singles ps work → (s : State) → runOf singles e ps work bs .walk .answer ≡ More s → Going singles e ps (runOf singles e ps work bs) s
+  pub goes-32 : Accepted singles ps work → (s : State) (told : Float) → runOf singles e ps work bs .walk .answer ≡ More s told → Going singles e ps (runOf singles e ps work bs) s
   goes-32 G = run-goes singles-fit e ps work G bs
 
   pub finishes-64 : Accepted doubles ps work → (x : Float) (k : ℕ) → runOf doubles e ps work bs .walk .answer ≡ Done x k
@@ -126,12 +126,12 @@ module _ (e : ℕ) (ps : List ℕ) (work : List Float) (bs : List ℕ) where
       → (k ≡ 0) × (runOf singles e ps work bs .steps ≡ 0)
   at-once-32 G = run-at-once singles-fit e ps work G bs
 
-  pub left-64 : Accepted doubles ps work → (s : State) → runOf doubles e ps work bs .walk .answer ≡ More s → (cs : List ℕ)
+  pub left-64 : Accepted doubles ps work → (s : State) (told : Float) → runOf doubles e ps work bs .walk .answer ≡ More s told → (cs : List ℕ)
       → runOf doubles e ps work (bs ++ cs) .steps
       ≤ runOf doubles e ps work bs .steps + ((50 - s .rounds) * blocksOf doubles (length ps) + members (s .pending) (blocksOf doubles (length ps)))
   left-64 G = run-left doubles-fit e ps work G bs
 
-  pub left-32 : Accepted singles ps work → (s : State) → runOf singles e ps work bs .walk .answer ≡ More s → (cs : List ℕ)
+  pub left-32 : Accepted singles ps work → (s : State) (told : Float) → runOf singles e ps work bs .walk .answer ≡ More s told → (cs : List ℕ)
       → runOf singles e ps work (bs ++ cs) .steps
       ≤ runOf singles e ps work bs .steps + ((19 - s .rounds) * blocksOf singles (length ps) + members (s .pending) (blocksOf singles (length ps)))
   left-32 G = run-left singles-fit e ps work G bs

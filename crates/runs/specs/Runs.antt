@@ -22,7 +22,7 @@ abbrev pub heeded : Ran → Walked → Ran
 heeded r w = by (w .answer)
   where
     by : Step → Ran
-    by (More s) = record { walk = w; steps = r .steps + 1 }
+    by (More s told) = record { walk = w; steps = r .steps + 1 }
     by (Done x k) = record { walk = w; steps = r .steps + 1 }
     by (Refused k p) = record { walk = outcome (r .walk .answer) (w .area); steps = r .steps }
 
@@ -30,7 +30,7 @@ abbrev pub tried : Width → ℕ → Ran → ℕ → Ran
 tried W k r b = by (r .walk .answer)
   where
     by : Step → Ran
-    by (More s) = heeded r (stepped W s k b (r .walk .area))
+    by (More s told) = heeded r (stepped W s k b (r .walk .area))
     by (Done x n) = r
     by (Refused l p) = r
 

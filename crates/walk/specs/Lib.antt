@@ -10,3 +10,4 @@ pub mod Run
 pub mod Undivided
 pub mod Ensembles
 pub mod NoRefusal
+pub mod Told

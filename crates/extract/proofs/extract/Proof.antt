@@ -111,10 +111,10 @@ loop-again c =
       stored (a .sigma) (a .tau) (a .block .now) (l .loop .block) (l .loop .i) (l .loop .sum) (v .1) (v .2) h,
       summed (a .sigma) (a .tau) (a .block .now) (l .loop .block) (l .loop .i) (l .loop .sum) (v .1) (v .2) h,
       rw (most-next (a .sigma) (a .tau) (a .block .now) (l .loop .block) (l .loop .i) (l .loop .sum) (v .1) (v .2) h (magnitude binary64 (a .largest)))
-      (elim (c .if1 .came) [
-        | inl g ↦ rw (g .1) (larger binary64 (v .3) Q (omega arith))
-        | inr g ↦ rw (g .1) (kept binary64 (v .3) Q (omega arith))
-      ]),
+          (elim (c .if1 .came) [
+            | inl g ↦ rw (g .1) (larger binary64 (v .3) Q (omega arith))
+            | inr g ↦ rw (g .1) (kept binary64 (v .3) Q (omega arith))
+          ]),
     )
 
 float-from-bits-t18 : tie.Need-float-from-bits-t18 Inv-loop μ-loop
