@@ -75,7 +75,7 @@ sums-to f x y xs S h =
     ∙ int-difference S
 
 -- a step that the gate lets pass is heeded, and turns its block
-accepted-walk : (W : Width) (k : ℕ) (r : Ran) (s : State) (told : Float) (xs : List Float) (b : ℕ) → r .walk ≡ outcome (More s told) xs
+pub accepted-walk : (W : Width) (k : ℕ) (r : Ran) (s : State) (told : Float) (xs : List Float) (b : ℕ) → r .walk ≡ outcome (More s told) xs
     → gated W s k b xs ≡ Good → tried W k r b .walk ≡ taken W s b xs
 accepted-walk W k r s told xs b e g =
     ap (λ (q : Ran). q .walk) (tried-more W k r b s told xs e ∙ ap (heeded r) (sym (stepped-good W s b xs (gated W s k b xs) g)))

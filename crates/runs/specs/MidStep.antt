@@ -77,7 +77,7 @@ module _ {W : Width} {F : Fitting W} {e : ℕ} {s : State} {xs : List Float} (B 
   last-largest T = positive-same (rw all-of at (T .kept)) (largest-left B)
 
   -- ---- one block
-  there : {P : ℕ} {tau m : Float} → Mid B P tau m → (b : ℕ) → has P b ≡ true → b < blocksOf W (length xs)
+  pub there : {P : ℕ} {tau m : Float} → Mid B P tau m → (b : ℕ) → has P b ≡ true → b < blocksOf W (length xs)
   there {P} T b h = rw (B .count) (has-below P b h (blocksOf W (s .n)) (T .inside))
 
   -- the state after block b, whose numbers are still those of the list
@@ -86,7 +86,7 @@ module _ {W : Width} {F : Fitting W} {e : ℕ} {s : State} {xs : List Float} (B 
       let f = W .format in
       inRound s (gathered f (s .sigma) tau (blockOf W b xs)) (largestWith f m (remainders f (s .sigma) (blockOf W b xs))) (without P b)
 
-  step-state : {P : ℕ} {tau m : Float} → Mid B P tau m → (b : ℕ) → has P b ≡ true
+  pub step-state : {P : ℕ} {tau m : Float} → Mid B P tau m → (b : ℕ) → has P b ≡ true
       → takenState W (inRound s tau m P) b (midArea W s P xs) ≡ after P tau m b
   step-state {P} {tau} {m} T b h =
       let f = W .format in

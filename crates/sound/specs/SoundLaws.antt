@@ -51,7 +51,7 @@ module _ (W : Width) (sigma x : Float) where
         small = leb-true (2 ^ prec f * magnitude f x) (magnitude f sigma) (c .1);
       }
 
-  largest-true : UpToEps f sigma x → soundLargest W sigma x ≡ true
+  pub largest-true : UpToEps f sigma x → soundLargest W sigma x ≡ true
   unfolding soundLargest
   largest-true X = simp (is-true (finite x) (X .fini), X .positive, le-leb _ _ (X .small))
 

@@ -11,3 +11,5 @@ pub mod Undivided
 pub mod Ensembles
 pub mod NoRefusal
 pub mod Told
+pub mod Before
+pub mod BeforeLaws
