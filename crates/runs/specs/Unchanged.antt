@@ -35,25 +35,10 @@ use Rattle.runs.specs.Taken.{midArea}
 use Rattle.runs.specs.OneBlock.{own-block}
 use Rattle.runs.specs.MidRound.{mid-takes, mid-stepping}
 use Rattle.runs.specs.MidStep.{all-left, last-largest, there, step-state}
-use Rattle.runs.specs.Runs.{Ran, heeded, tried, runOf}
+use Rattle.runs.specs.Runs.{Ran, heeded, tried, runOf, triedBefore, runBefore, forgottenRun}
 use Rattle.runs.specs.Reached.{During, Reached, reached-opens, reached-step}
 use Rattle.runs.specs.GoingLaws.{accepted-walk}
 use Rattle.runs.specs.Faithful.{faithful-promised}
-
--- ---- a run of the walk as it was before, and a run without what is kept and told
-abbrev triedBefore : Width → ℕ → Ran → ℕ → Ran
-triedBefore W k r b = by (r .walk .answer)
-  where
-    by : Step → Ran
-    by (More s told) = heeded r (steppedBefore W s k b (r .walk .area))
-    by (Done x n) = r
-    by (Refused l p) = r
-
-abbrev pub runBefore : Width → ℕ → List ℕ → List Float → List ℕ → Ran
-runBefore W k ps work bs = foldl (triedBefore W k) (record { walk = opened W k ps work; steps = 0 }) bs
-
-abbrev pub forgottenRun : Width → Ran → Ran
-forgottenRun W r = record { walk = forgotten W (r .walk); steps = r .steps }
 
 module _ {W : Width} (F : Fitting W) (k : ℕ) (ps : List ℕ) (work : List Float) where
   -- ---- a step of a run, at any block
