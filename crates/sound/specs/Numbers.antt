@@ -42,7 +42,7 @@ pub record Counts (W : Width) (n closed : ℕ) : Type 0 where
 -- rule WS15: eps is 2^-prec
 pub record UpToEps (f : Format) (sigma x : Float) : Type 0 where
   pub fini : T (finite x)
-  pub positive : negative x ≡ false
+  pub unsigned : negative x ≡ false
   pub small : 2 ^ prec f * magnitude f x ≤ magnitude f sigma
 
 pub record Numbers (W : Width) (s : State) : Type 0 where

@@ -47,13 +47,13 @@ module _ (W : Width) (sigma x : Float) where
       let b = both-true A B (c .0) in
       record {
         fini = rw (b .0) tt;
-        positive = not-true (negative x) (b .1);
+        unsigned = not-true (negative x) (b .1);
         small = leb-true (2 ^ prec f * magnitude f x) (magnitude f sigma) (c .1);
       }
 
   pub largest-true : UpToEps f sigma x → soundLargest W sigma x ≡ true
   unfolding soundLargest
-  largest-true X = simp (is-true (finite x) (X .fini), X .positive, le-leb _ _ (X .small))
+  largest-true X = simp (is-true (finite x) (X .fini), X .unsigned, le-leb _ _ (X .small))
 
   moved : (a b c : Bool) → ((a && c) && b) ≡ (a && b && c)
   moved false b c = refl

@@ -36,7 +36,16 @@ fn state_numbers(s: State, told: f64) -> [u64; NUMBERS]
     let rounds = s.rounds as u64;
     let ensemble = s.ensemble as u64;
     [
-        1, sigma, t, tau, n, s.pending, rounds, ensemble, largest, shown,
+        1,
+        sigma,
+        t,
+        tau,
+        n,
+        s.pending,
+        rounds,
+        ensemble,
+        largest,
+        shown,
     ]
 }
 

@@ -72,7 +72,7 @@ module _ {W : Width} (F : Fitting W) {s : State} {b : ℕ} {xs : List Float} (P 
   pub admitted-takable : Takable W s xs
   admitted-takable = record {
     fini = P .numbers .largest .fini;
-    positive = P .numbers .largest .positive;
+    positive = P .numbers .largest .unsigned;
     remainders = each-weaker (Small (W .format) (2 ^ P .e)) (λ x. T (finite (remainderOf (W .format) (s .sigma) x))) (λ x X. left-small scale X .number .fini)
         xs small;
   }
@@ -83,7 +83,7 @@ module _ {W : Width} (F : Fitting W) {s : State} {b : ℕ} {xs : List Float} (P 
     f = W .format
 
     so-far : Positive f (s .largest) (magnitude f (s .largest))
-    so-far = record { number = record { fit = held; fini = P .numbers .largest .fini }; sign = P .numbers .largest .positive; units = refl }
+    so-far = record { number = record { fit = held; fini = P .numbers .largest .fini }; sign = P .numbers .largest .unsigned; units = refl }
 
     abbrev left : List Float
     left = remainders f (s .sigma) (blockOf W b xs)

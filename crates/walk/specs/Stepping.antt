@@ -83,7 +83,7 @@ module _ {W : Width} {F : Fitting W} {e : ℕ} {s : State} {xs : List Float} (B 
     sigma = sigma-bounds F (s .n) e (B .scale .power) (omega (arith, B .lowered));
     t = record { fini = B .kept .number .fini; small = rw (F .bound-is) (B .kept .within) };
     tau = record { fini = T .number .fini; small = rw (F .bound-is) (T .within) };
-    largest = record { fini = M .number .fini; positive = M .sign; small = rw (M .units) (largest-eps (B .scale) ys Y) };
+    largest = record { fini = M .number .fini; unsigned = M .sign; small = rw (M .units) (largest-eps (B .scale) ys Y) };
   }
 
   -- the state and the work area after the first k numbers

@@ -52,8 +52,8 @@ extract-requires c κs =
 without-requires : tie.Need-without-requires
 without-requires c κs = search needs
 
-of-requires : tie.Need-of-requires
-of-requires c κs = search needs
+in-round-requires : tie.Need-in-round-requires
+in-round-requires c κs = search needs
 
 same-length : tie.Need-same-length
 same-length c = search needs
@@ -73,7 +73,7 @@ returns c =
     let s = a .s in
     let q = x .extract .ensures .0 ∙ ap (gathered binary64 (s .sigma) (s .tau)) p in
     let m = x .extract .ensures .1 ∙ ap (λ (l : List Float). largestWith binary64 (s .largest) (remainders binary64 (s .sigma) l)) p in (
-      rw (c .of .ensures) (λ i. inRound s (q i) (m i) (w .without .ensures i)),
+      c .in-round .ensures ∙ (λ i. inRound s (q i) (m i) (w .without .ensures i)),
       rw (x .extract .ensures .2, p, drop-drop, d, e, drop-cut xs from 64),
     )
 
@@ -90,6 +90,6 @@ take-spec =
     part-extract-end
     extract-requires
     without-requires
-    of-requires
+    in-round-requires
     same-length
     returns)
