@@ -6,8 +6,8 @@
                       computed from exact integers, and b is moved until it lies within a factor of 10 of the wanted one. Then the list is shuffled
     range             exponents spread evenly over the whole range that a list may have, 2^-1074 to 2^1000, random signs: little cancels
     range, cancelled  as 1e8 .. 1e100 with exponents from -1000 to 985: about 1e600 where the list is long enough
-    restarts          five times pairs of opposite numbers with 20 digits, each time 60 places below the last, and numbers 60 below those that don't cancel. A round
-                      takes the largest pairs whole, and its sum is zero; what is below them it leaves as it was. So each of the first five rounds restarts
+    restarts          five times pairs of opposite numbers with 20 digits, each time 60 places below the last, and 60 below those numbers that don't cancel. A
+                      round takes the largest pairs whole, and its sum is zero; what is below them it leaves as it was: the first five rounds restart
 
 The first half is random, the second cancels it: Ogita, Rump and Oishi, Accurate Sum and Dot Product, Algorithm 6.1, for sums.
 """

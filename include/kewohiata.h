@@ -188,8 +188,8 @@ uint32_t kewohiata_walk_open(const uint64_t *list, size_t list_length, double *w
 /* Takes one block (rule WB1). In a run from an opening any pending block may be the next; the step that takes the last one closes the round, and either ends
  * the walk (the state's first number is KEWOHIATA_DONE) or makes all blocks pending again. The sum and the rounds are those of kewohiata_walk_faithful in
  * any order.
- * What is still to be summed is shown by the number at KEWOHIATA_STATE_TOLD, a double's pattern: nothing that this round has left in its blocks so far is larger
- * in magnitude. The step that closes a round tells it of the whole list, while the state goes on from +0.
+ * What is still to be summed is shown by the number at KEWOHIATA_STATE_TOLD, a double's pattern: nothing that this round has left in its blocks so far is
+ * larger in magnitude. The step that closes a round tells it of the whole list, while the state goes on from +0.
  * state, work: as the opening or the last accepted step left them. Others are stepped too where they are sound, and no sum is promised of them: every older
  * state of the same walk is sound over a newer area, and gives a wrong sum. block: 0 to kewohiata_blocks(n) - 1. ensemble: the number given at the opening
  * (rule WS12). It tells a state of another ensemble; whose the work area is, nothing tells.

@@ -54,8 +54,8 @@ def told_at_close(chance):
 
 # ---- states whose number is off
 def given_out(chance):
-    """The state of docs/DECISIONS.md: block 2 is neither pending nor taken. A call gives out what follows from block 0; behind block 1 the close of before finds
-    2^-60 in the area and restarts, and the close of now has +0 kept and answers it. So it is with -0 beside it, and at a whole block's last place."""
+    """The state of docs/DECISIONS.md: block 2 is neither pending nor taken. A call gives out what follows from block 0; behind block 1 the close of before
+    finds 2^-60 in the area and restarts, and the close of now has +0 kept and answers it. So it is with -0 beside it, and at a whole block's last place."""
     for place, zero in ((128, 0), (128, SIGN), (191, 0)):
         n = max(place + 1, 129)
         area = [zero] * n
