@@ -34,8 +34,8 @@ extern "C" {
 #endif
 
 /* Below 1.0.0 calls may be added, and their forms and answers may still change; the second number tells it. */
-#define KEWOHIATA_VERSION "0.9.0"
-enum { KEWOHIATA_VERSION_MAJOR = 0, KEWOHIATA_VERSION_MINOR = 9, KEWOHIATA_VERSION_PATCH = 0 };
+#define KEWOHIATA_VERSION "0.10.0"
+enum { KEWOHIATA_VERSION_MAJOR = 0, KEWOHIATA_VERSION_MINOR = 10, KEWOHIATA_VERSION_PATCH = 0 };
 
 /* The refusals, rules R1 to R21. A code has room for numbers up to 31; those above 21 are kept for later ones. */
 enum kewohiata_refusals {

@@ -205,7 +205,8 @@ abbrev lowered : List ℕ
 lowered = 1 ∷ 0x4650000000000000 ∷ 0 ∷ 0 ∷ 3 ∷ 1 ∷ 0 ∷ 7 ∷ 0 ∷ 0 ∷ []
 
 pub work-at-place-0 : stepArrays lowered copied 7 0 ≡ returned 51 copied lowered
-unfolding stepArrays W.steppedAfter N.soundSigma N.atMost N.soundLargest N.soundNumbers N.soundPending N.badPlace N.gated ceil magnitude negative ofBits toBits le eq
+unfolding stepArrays W.steppedAfter N.soundSigma N.atMost N.soundLargest N.soundNumbers N.soundPending N.badPlace N.gated ceil
+    magnitude negative ofBits toBits le eq
 work-at-place-0 = refl
 
 -- 2^54 + 1 in two parts adds up

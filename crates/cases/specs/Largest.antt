@@ -35,7 +35,10 @@ largests =
     ∷ record { call = step (keeping 65 3 0) two 7 1; expected = outcome (more 0x4070000000000000 0 0 65 1 0 7 0x3CD0000000000000 0x3CD0000000000000) two }
     ∷ record { call = step (keeping 65 1 0x3CD0000000000000) two 7 0; expected = outcome (more 0x3D40000000000000 0 0 65 3 1 7 0 0x3CD0000000000000) two }
     -- a foreign state's number decides where t' is zero: it restarts over zeros, and +0 finishes
-    ∷ record { call = step (keeping 1 1 0x3D20000000000000) (0 ∷ []) 7 0; expected = outcome (more 0x3D40000000000000 0 0 1 1 1 7 0 0x3D20000000000000) (0 ∷ []) }
+    ∷ record {
+      call = step (keeping 1 1 0x3D20000000000000) (0 ∷ []) 7 0;
+      expected = outcome (more 0x3D40000000000000 0 0 1 1 1 7 0 0x3D20000000000000) (0 ∷ []);
+    }
     ∷ record { call = step (keeping 1 1 0) (0 ∷ []) 7 0; expected = outcome (done 0 1) (0 ∷ []) }
     -- rule WS15: eps times sigma is the greatest; the next double, -0, a negative number, an infinity and a NaN are none
     ∷ record { call = step (keeping 1 1 0x3D20000000000001) (0 ∷ []) 7 0; expected = outcome (refused 8 nowhere) (0 ∷ []) }

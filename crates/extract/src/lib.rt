@@ -16,7 +16,7 @@ pub struct Extracted {
 }
 
 // Rules WB1 and WS13, for the places of a block. Patterns without their sign are in the order of their magnitudes; they are compared, and not the doubles,
-// since whole numbers have no NaN to look out for, and so no chain of comparisons that would wait for one another.
+// since the greatest of several whole numbers can be taken at once. With +0 handed in it is the largest of the block alone.
 pub fn extract(block: &mut [f64], sigma: f64, tau: f64, largest: f64) -> Extracted
     requires { ⌜ T (finite largest) × (negative largest ≡ false) × Each (λ x. T (finite (remainderOf binary64 sigma x))) (now block) ⌝ }
     ensures { λ r. ⌜

@@ -54,7 +54,7 @@ module _ {W : Width} {F : Fitting W} {e : ℕ} {s : State} {xs : List Float} (B 
       rw (block-at j h, mul-suc (W .block) j, take-add (W .block * j) (W .block) xs)
       (sym (gathered-join f (s .sigma) (s .tau) (take (W .block * j) xs) (take (W .block) (drop (W .block * j) xs))))
 
-  next-largest : (j : ℕ) → j < blocksOf W (s .n)
+  pub next-largest : (j : ℕ) → j < blocksOf W (s .n)
       → largestWith (W .format) (largestAt j) (remainders (W .format) (s .sigma) (blockOf W j (workAt j))) ≡ largestAt (suc j)
   unfolding largestAt
   next-largest j h =

@@ -44,7 +44,8 @@ module _ (W : Width) (e : ℕ) where
       (subst (λ (j : ℕ). Named j (w .answer)) N (stepped-named W s (s .ensemble) b ys)) h
     where
       after : (q : Step) (zs : List Float)
-          → ((s' : State) (l : Float) (zs : List Float) → s' .ensemble ≡ e → ((k p : ℕ) → foldl (onward W) (outcome (More s' l) zs) bs .answer ≡ Refused k p → ⊥)
+          → ((s' : State) (l : Float) (zs : List Float) → s' .ensemble ≡ e
+          → ((k p : ℕ) → foldl (onward W) (outcome (More s' l) zs) bs .answer ≡ Refused k p → ⊥)
           → foldl (tried W e) (record { walk = outcome (More s' l) zs; steps = m + 1 }) bs .walk ≡ foldl (onward W) (outcome (More s' l) zs) bs)
           → Named e q → ((k p : ℕ) → foldl (onward W) (outcome q zs) bs .answer ≡ Refused k p → ⊥)
           → foldl (tried W e) (heeded (record { walk = outcome (More s told) ys; steps = m }) (outcome q zs)) bs .walk ≡ foldl (onward W) (outcome q zs) bs

@@ -1,4 +1,5 @@
--- The numbers of a sound state in propositions: n and the rounds, sigma, t and tau, the largest remainder. What else is said of such a state stands on these. Definitions only.
+-- The numbers of a sound state in propositions: n and the rounds, sigma, t and tau, the largest remainder. What else is said of such a state stands on these.
+-- Definitions only.
 use mathlib.Core.Path.{_≡_}
 use mathlib.Core.Bool.{false}
 use Prim.Native.Nat.{ℕ, _+_, _*_, _^_, _≤_}

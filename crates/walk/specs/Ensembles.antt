@@ -56,7 +56,8 @@ module _ (W : Width) where
   unfolding taken
   taken-named s b xs = by (eqb (takenState W s b xs .pending) 0)
     where
-      by : (c : Bool) → Named (s .ensemble) (cond c (closed W (takenState W s b xs) (turned W (s .sigma) b xs)) (More (takenState W s b xs) (takenState W s b xs .largest)))
+      by : (c : Bool) → Named (s .ensemble) (cond c (closed W (takenState W s b xs) (turned W (s .sigma) b xs))
+          (More (takenState W s b xs) (takenState W s b xs .largest)))
       by true = closed-named (takenState W s b xs) (turned W (s .sigma) b xs)
       by false = refl
 
@@ -152,7 +153,8 @@ module _ (W : Width) (k : ℕ) where
         by verdicts.Good =
             let xs = floats W ps in
             let mu = largest (W .format) xs in
-            ap (λ (a : Step). outcome a xs) (either (eqb mu 0) (nearestFloat (W .format) (zeroSign W ps) (pos 0)) 0 (freshRound W (length ps) mu 0 j) (plusZero (W .format)))
+            ap (λ (a : Step). outcome a xs)
+            (either (eqb mu 0) (nearestFloat (W .format) (zeroSign W ps) (pos 0)) 0 (freshRound W (length ps) mu 0 j) (plusZero (W .format)))
         by (verdicts.Refused l p) = refl
 
     pub undivided-under : undividedOf W k ps work ≡ walkUnder k (undividedOf W j ps work)

@@ -40,7 +40,8 @@ fresh-accepted W zero n mu rounds ensemble told = fresh-each Unrefused W zero n 
 
 closed-accepted : (W : Width) (mu : ℕ) (s : State) (xs : List Float) → Unrefused (closedBy W mu s xs)
 closed-accepted W mu s xs =
-    closed-each Unrefused W mu s xs (λ z. fresh-accepted W (plusZero (W .format)) (s .n) mu (s .rounds + 1) (s .ensemble) (s .largest)) (λ z r. done) (λ z r. more)
+    closed-each Unrefused W mu s xs
+    (λ z. fresh-accepted W (plusZero (W .format)) (s .n) mu (s .rounds + 1) (s .ensemble) (s .largest)) (λ z r. done) (λ z r. more)
 
 pub taken-accepted : (W : Width) (s : State) (b : ℕ) (work : List Float) → Unrefused (taken W s b work .answer)
 unfolding taken

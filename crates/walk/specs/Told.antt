@@ -57,5 +57,6 @@ module _ (W : Width) where
   opened-tells k ps work = by (judged W (eqb (length work) (length ps)) true ps)
     where
       by : (v : Verdict) → Tells (plusZero (W .format)) (plusZero (W .format)) (openedAfter W k v ps work .answer)
-      by verdicts.Good = fresh-tells (nearestFloat (W .format) (zeroSign W ps) (pos 0)) (length ps) (largest (W .format) (floats W ps)) 0 k (plusZero (W .format))
+      by verdicts.Good =
+          fresh-tells (nearestFloat (W .format) (zeroSign W ps) (pos 0)) (length ps) (largest (W .format) (floats W ps)) 0 k (plusZero (W .format))
       by (verdicts.Refused l p) = tt
