@@ -23,6 +23,9 @@ two = 0x3C30000000000000 ∷ replicate 63 0 ++ (0xBCD0000000000000 ∷ [])
 abbrev pub outside : List ℕ
 outside = replicate 128 0 ++ (0x3C30000000000000 ∷ [])
 
+abbrev beyond : List ℕ
+beyond = replicate 128 0 ++ (0x3CD0000000000000 ∷ [])
+
 abbrev pub witness : Given
 witness = keeping 129 2 0
 
@@ -40,6 +43,15 @@ largests =
       expected = outcome (more 0x3D40000000000000 0 0 1 1 1 7 0 0x3D20000000000000) (0 ∷ []);
     }
     ∷ record { call = step (keeping 1 1 0) (0 ∷ []) 7 0; expected = outcome (done 0 1) (0 ∷ []) }
+    -- and is mu there, whatever the area has: the smaller of the two, and the larger
+    ∷ record {
+      call = step (keeping 129 2 0x3C30000000000000) beyond 7 1;
+      expected = outcome (more 0x3CB0000000000000 0 0 129 7 1 7 0 0x3C30000000000000) beyond;
+    }
+    ∷ record {
+      call = step (keeping 1 1 0x3D20000000000000) (0xBC30000000000000 ∷ []) 7 0;
+      expected = outcome (more 0x3D40000000000000 0 0 1 1 1 7 0 0x3D20000000000000) (0xBC30000000000000 ∷ []);
+    }
     -- rule WS15: eps times sigma is the greatest; the next double, -0, a negative number, an infinity and a NaN are none
     ∷ record { call = step (keeping 1 1 0x3D20000000000001) (0 ∷ []) 7 0; expected = outcome (refused 8 nowhere) (0 ∷ []) }
     ∷ record { call = step (keeping 1 1 0x8000000000000000) (0 ∷ []) 7 0; expected = outcome (refused 8 nowhere) (0 ∷ []) }
