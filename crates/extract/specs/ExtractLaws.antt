@@ -42,6 +42,13 @@ module _ (f : Format) (sigma : Float) where
   unfolding remainders
   remainders-length xs = length-map xs (remainderOf f sigma)
 
+-- a bound of two numbers, each times k, bounds the larger times k
+pub max-scaled : (k c m n : ℕ) → k * m ≤ c → k * n ≤ c → k * max m n ≤ c
+max-scaled k c m n M N = elim (le-or-lt m n) [
+  | inl l ↦ let e : max m n ≡ n = omega arith in rw e N
+  | inr l ↦ let e : max m n ≡ m = omega arith in rw e M
+]
+
 module _ (f : Format) where
   -- ---- the sum
   added : (t : Float) (xs : List Float) (x : Float) → foldl (add f) t (xs ++ (x ∷ [])) ≡ add f (foldl (add f) t xs) x
@@ -83,10 +90,7 @@ module _ (f : Format) where
   pub largest-scaled : (k c : ℕ) (xs : List Float) → Each (λ x. k * magnitude f x ≤ c) xs → k * largest f xs ≤ c
   unfolding largest
   largest-scaled k c [] h = rw (mul-zero k) (omega arith)
-  largest-scaled k c (x ∷ xs) h = elim (le-or-lt (magnitude f x) (largest f xs)) [
-    | inl l ↦ let e : max (magnitude f x) (largest f xs) ≡ largest f xs = omega arith in rw e (largest-scaled k c xs (h .1))
-    | inr l ↦ let e : max (magnitude f x) (largest f xs) ≡ magnitude f x = omega arith in rw e (h .0)
-  ]
+  largest-scaled k c (x ∷ xs) h = max-scaled k c (magnitude f x) (largest f xs) (h .0) (largest-scaled k c xs (h .1))
 
   pub largest-zero : (xs : List Float) → Each (λ x. magnitude f x ≡ 0) xs → largest f xs ≡ 0
   largest-zero xs h =

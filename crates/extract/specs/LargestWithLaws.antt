@@ -15,7 +15,7 @@ use lib.Ieee.Bits.{ofBits-fits}
 use lib.Ieee.Scale.{finite, overflow}
 use Rattle.units.specs.Rounding.{Short}
 use Rattle.units.specs.Powers.{le-or-lt}
-use Rattle.ieee.specs.Units.{Is, Number, negative, magnitude, signed, value, signOf, nearestFloat}
+use Rattle.ieee.specs.Units.{Is, Number, magnitude, signed, value, signOf, nearestFloat}
 use Rattle.ieee.specs.Finite.{facts, is-units, is-finite, same-float}
 use Rattle.ieee.specs.Rounded.{round-exact}
 use Rattle.ieee.specs.Overflow.{nearest-round, nearest-fits}

@@ -34,7 +34,7 @@ pub record Begun (W : Width) (F : Fitting W) (e : ℕ) (s : State) (xs : List Fl
   pub count : length xs ≡ s .n
   pub lowered : s .rounds * (prec (W .format) - exponentOf (s .n)) + e ≤ F .top
   pub scale : Scale (W .format) (exponentOf (s .n)) e (s .sigma)
-  pub kept : Small (W .format) (2 ^ F .bound) (s .t)
+  pub carried : Small (W .format) (2 ^ F .bound) (s .t)
   pub work : Each (Small (W .format) (2 ^ e)) xs
   pub tau : s .tau ≡ plusZero (W .format)
   pub pending : s .pending ≡ full (blocksOf W (s .n))

@@ -163,8 +163,8 @@ module _ {W : Width} {F : Fitting W} {e : ℕ} {s : State} {xs : List Float} (B 
   next-number =
       let f = W .format in
       let T = tau-all B in
-      add-rounds (B .kept .number) (T .number) (F .bound + 1) (omega (arith, F .sum-room))
-      (omega (arith, whole-mag f (s .t), B .kept .within, whole-mag f (allTaken W s xs .tau), T .within, pow-add 2 (F .bound) 1)) .number
+      add-rounds (B .carried .number) (T .number) (F .bound + 1) (omega (arith, F .sum-room))
+      (omega (arith, whole-mag f (s .t), B .carried .within, whole-mag f (allTaken W s xs .tau), T .within, pow-add 2 (F .bound) 1)) .number
 
   half : exponentOf (s .n) + exponentOf (s .n) < prec (W .format)
   half = omega (arith, F .most-is (s .n) (B .few), F .half)
@@ -202,7 +202,7 @@ module _ {W : Width} {F : Fitting W} {e : ℕ} {s : State} {xs : List Float} (B 
       power = scaled-positive f M (M + e) (M + (M + e - prec f)) (F .fine) (B .scale .power) (omega (arith, normal)) (omega (arith, half))
           (omega (arith, B .scale .room));
     };
-    kept = record {
+    carried = record {
       number = next-number;
       within = omega (arith, above f (threshold normal) (absolute-is f next-number) (not-finishes W (allTaken W s xs) r .1), pow-mono capped);
     };

@@ -61,7 +61,7 @@ roundOf W n sigma t rounds ensemble = stateOf n sigma t (plusZero (W .format)) (
 abbrev pub freshRound : Width → ℕ → ℕ → ℕ → ℕ → State
 freshRound W n mu rounds ensemble = roundOf W n (sigmaOf (W .format) n mu) (plusZero (W .format)) rounds ensemble
 
--- With a state, `told` is the largest remainder of the round that has closed (rule WS14).
+-- With a state, `told` is the largest remainder of the round that has closed, +0 where none has (rule WS14).
 unfoldable pub fresh : Width → Float → ℕ → ℕ → ℕ → ℕ → Float → Step
 fresh W zero n mu rounds ensemble told = cond (eqb mu 0) (Done zero rounds) (More (freshRound W n mu rounds ensemble) told)
 

@@ -1,9 +1,10 @@
 -- A step over any sound state leaves what `AnyState` says, whether a call gave the state out or not. The additions to tau need not be exact then: tau, at most
 -- 2^bound units before, is at most twice that after its block. Assumes nothing.
-use mathlib.Core.Path.{_≡_, refl, ap, _∙_, subst}
+use mathlib.Core.Path.{_≡_, refl, ap, subst}
 use mathlib.Core.Bool.{Bool, true, false, cond}
 use mathlib.Core.List.{List, [], _∷_, map, foldl}
 use Prim.Native.Nat.{ℕ, _+_, _-_, _*_, _^_, _≤_}
+use native.Mathlib.Nat.{mul-zero}
 use native.Mathlib.Omega.{arith}
 use lib.Dec.{T, eqb}
 use lib.ListN.{length, drop, length-map, length-take, length-drop}
@@ -33,7 +34,7 @@ use Rattle.rounds.specs.InUnits.{Small, Scale, high-small}
 use Rattle.walk.specs.Walk.{taken, stepped}
 use Rattle.walk.specs.StepLaws.{stepped-good}
 use Rattle.walk.specs.Stepping.{sigma-bounds}
-use Rattle.walk.specs.Admitted.{admits, scale, small, turned-small, turned-length, taken-largest, taken-small}
+use Rattle.walk.specs.Admitted.{admits, scale, small, turned-small, turned-length, taken-largest, taken-small, taken-eps}
 use Rattle.runs.specs.CloseUnits.{sums, last-sum, Held, held, wider, plus, tau1-units, sum-number, not-zero}
 use Rattle.runs.specs.AnyState.{Floats, Shown, StateNumbers, SumNumber, Answered, Stepped}
 
@@ -135,13 +136,17 @@ module _ {W : Width} (F : Fitting W) {s : State} {b : ℕ} {xs : List Float} (P 
   -- ---- the next state
   opens : (e : ℕ) {sigma t : Float} (rounds ensemble : ℕ) → Positive f sigma (2 ^ (M + e)) → e ≤ F .top → Number f t
       → StateNumbers W (roundOf W (s .n) sigma t rounds ensemble)
-  opens e rounds ensemble S l N = record {
+  opens e {sigma} rounds ensemble S l N = record {
     sigma = S .number;
     bounds = sigma-bounds F (s .n) e S l;
     t = N;
     tau = zero-positive f .number;
-    largest = record { number = zero-positive f .number; positive = zero-positive f .sign };
+    largest = zero-positive f .number;
+    within = record { fini = zero-positive f .number .fini; unsigned = zero-positive f .sign; small = none };
   }
+    where
+      none : 2 ^ prec f * magnitude f (plusZero f) ≤ magnitude f sigma
+      none = rw (zero-positive f .units, mul-zero (2 ^ prec f)) (omega arith)
 
   -- rules W1 and W2
   afresh : (rounds ensemble : ℕ) → Answered W (fresh W (plusZero f) (s .n) mu rounds ensemble (next .largest))
@@ -181,7 +186,8 @@ module _ {W : Width} (F : Fitting W) {s : State} {b : ℕ} {xs : List Float} (P 
     bounds = sigma-bounds F (s .n) (P .e) (σ .power) (P .low);
     t = t-held .number;
     tau = tau-held .number;
-    largest = shown;
+    largest = shown .number;
+    within = taken-eps F P (h .work) (h .largest);
   }
 
   passed : Stepped W (taken W s b xs)

@@ -152,18 +152,18 @@ pub ends-alike-32 : (j k : ℕ) (ps : List ℕ) (work : List Float) → Accepted
 ends-alike-32 = ends-alike singles-fit
 
 -- ---- rule DR6: what a state keeps and tells of its remainders changes nothing else
-pub unchanged-64 : (k : ℕ) (ps : List ℕ) (work : List Float) → Accepted doubles ps work → (bs : List ℕ)
+pub unchanged-64 : (k : ℕ) (ps : List ℕ) (work : List Float) (bs : List ℕ)
     → runBefore doubles k ps work bs ≡ forgottenRun doubles (runOf doubles k ps work bs)
 unchanged-64 = unchanged doubles-fit
 
-pub unchanged-32 : (k : ℕ) (ps : List ℕ) (work : List Float) → Accepted singles ps work → (bs : List ℕ)
+pub unchanged-32 : (k : ℕ) (ps : List ℕ) (work : List Float) (bs : List ℕ)
     → runBefore singles k ps work bs ≡ forgottenRun singles (runOf singles k ps work bs)
 unchanged-32 = unchanged singles-fit
 
-pub undivided-64 : (ps : List ℕ) (work : List Float) → Accepted doubles ps work → faithfulBefore doubles ps work ≡ faithfulOf doubles ps work
+pub undivided-64 : (ps : List ℕ) (work : List Float) → faithfulBefore doubles ps work ≡ faithfulOf doubles ps work
 undivided-64 = undivided-unchanged doubles-fit
 
-pub undivided-32 : (ps : List ℕ) (work : List Float) → Accepted singles ps work → faithfulBefore singles ps work ≡ faithfulOf singles ps work
+pub undivided-32 : (ps : List ℕ) (work : List Float) → faithfulBefore singles ps work ≡ faithfulOf singles ps work
 undivided-32 = undivided-unchanged singles-fit
 
 -- ---- rule S8, faithful sums in any order; rule S9, how far off they are

@@ -1,4 +1,4 @@
--- Rule DR6: in every run over an accepted list, whatever blocks it asks for, and in the undivided walk, the largest remainder that a state keeps changes
+-- Rule DR6: in every run, whatever blocks it asks for, and in the undivided walk, the largest remainder that a state keeps changes
 -- nothing: sums, rounds, remainders, states and accepted steps are those of the walk as it was before, `walk/Before`. Assumes nothing.
 use mathlib.Core.Path.{_≡_, refl, sym, ap, _∙_}
 use mathlib.Core.Logic.{inl, inr}
@@ -18,7 +18,9 @@ use Rattle.kinds.specs.declared.Step.the-variants.{More, Done, Refused}
 use Rattle.kinds.specs.declared.Verdict.{Verdict}
 use Rattle.kinds.specs.declared.Verdict.the-variants.{Good}
 use Rattle.kinds.specs.declared.Verdict.the-variants as verdicts
+use Rattle.judge.specs.Judge.{judged}
 use Rattle.judge.specs.Table.{ListWhen}
+use Rattle.judge.specs.JudgeLaws.{list-when}
 use Rattle.extract.specs.Extract.{plusZero, largest}
 use Rattle.sound.specs.Sound.{soundLargest, gated}
 use Rattle.sound.specs.SoundLaws.{largest-true}
@@ -29,6 +31,8 @@ use Rattle.rounds.specs.Begun.{largest-left}
 use Rattle.walk.specs.Walk.{Walked, opened, onward, rising, roundsFrom, stepped, faithfulOf}
 use Rattle.walk.specs.Before.{steppedBefore, onwardBefore, roundsBefore, faithfulBefore, forgetful, forgottenAnswer, forgotten}
 use Rattle.walk.specs.BeforeLaws.{stepped-before}
+use Rattle.walk.specs.OpeningLaws.{opened-refused}
+use Rattle.walk.specs.Run.{run-refused}
 use Rattle.walk.specs.StepLaws.{stepped-good, stepped-refused}
 use Rattle.walk.specs.Told.{Tells, opened-tells}
 use Rattle.runs.specs.Taken.{midArea}
@@ -108,11 +112,35 @@ module _ {W : Width} (F : Fitting W) (k : ℕ) (ps : List ℕ) (work : List Floa
       by (Done x r) t = refl
       by (Refused l p) t = refl
 
-  pub unchanged : ListWhen W (eqb (length work) (length ps)) true ps Good → (bs : List ℕ)
-      → runBefore W k ps work bs ≡ forgottenRun W (runOf W k ps work bs)
-  unchanged G bs =
-      ap (λ (w : Walked). foldl (triedBefore W k) (record { walk = w; steps = 0 }) bs) opened-same
-      ∙ run-same bs (record { walk = opened W k ps work; steps = 0 }) (reached-opens W F k ps work G)
+  -- a list that is refused has no run: nothing is tried after its opening
+  refused-same : (l p : ℕ) → opened W k ps work .answer ≡ Refused l p → (bs : List ℕ)
+      → foldl (triedBefore W k) (record { walk = opened W k ps work; steps = 0 }) bs ≡ forgottenRun W (runOf W k ps work bs)
+  refused-same l p e bs = rw (before bs, now bs) (λ i. record { walk = opened-same i; steps = 0 })
+    where
+      start : Ran
+      start = record { walk = opened W k ps work; steps = 0 }
+
+      before : (bs : List ℕ) → foldl (triedBefore W k) start bs ≡ start
+      before [] = refl
+      before (b ∷ bs) = ap (λ (r : Ran). foldl (triedBefore W k) r bs) (rw e) ∙ before bs
+
+      now : (bs : List ℕ) → foldl (tried W k) start bs ≡ start
+      now [] = refl
+      now (b ∷ bs) = ap (λ (r : Ran). foldl (tried W k) r bs) (rw e) ∙ now bs
+
+  -- the opening of any list is refused, or reached
+  opening-way : (A : Type 0) → ((l p : ℕ) → opened W k ps work ≡ outcome (Refused l p) work → A)
+      → (ListWhen W (eqb (length work) (length ps)) true ps Good → A) → A
+  opening-way A refusal allowed = by (judged W (eqb (length work) (length ps)) true ps) refl
+    where
+      by : (v : Verdict) → judged W (eqb (length work) (length ps)) true ps ≡ v → A
+      by Good g = allowed (list-when W (eqb (length work) (length ps)) true ps Good .0 g)
+      by (verdicts.Refused l p) g = refusal l p (sym (opened-refused W k _ l p ps work g))
+
+  pub unchanged : (bs : List ℕ) → runBefore W k ps work bs ≡ forgottenRun W (runOf W k ps work bs)
+  unchanged bs = opening-way _ (λ l p e. refused-same l p (ap (λ (w : Walked). w .answer) e) bs)
+      (λ G. ap (λ (w : Walked). foldl (triedBefore W k) (record { walk = w; steps = 0 }) bs) opened-same
+      ∙ run-same bs (record { walk = opened W k ps work; steps = 0 }) (reached-opens W F k ps work G))
 
   -- ---- the undivided walk: reached by a run, or refused
   data Way (w : Walked) : Type 0 where
@@ -171,14 +199,24 @@ module _ {W : Width} (F : Fitting W) (k : ℕ) (ps : List ℕ) (work : List Floa
       let round = blocks-same (rising B) w R in
       ap (roundsBefore W B j) (round .0) ∙ rounds-same B j (foldl (onward W) w (rising B)) (round .1)
 
--- the undivided call
-pub undivided-unchanged : {W : Width} (F : Fitting W) (ps : List ℕ) (work : List Float) → ListWhen W (eqb (length work) (length ps)) true ps Good
-    → faithfulBefore W ps work ≡ faithfulOf W ps work
-undivided-unchanged {W} F ps work G =
-    let B = blocksOf W (length ps) in
-    let P = faithful-promised F ps work G in
-    ap (roundsBefore W B (suc (W .rounds))) (opened-same F 0 ps work)
-    ∙ rounds-same F 0 ps work B (suc (W .rounds)) (opened W 0 ps work)
-    (reached (record { walk = opened W 0 ps work; steps = 0 }) (reached-opens W F 0 ps work G) refl)
-    ∙ (λ i. outcome (forgottenAnswer W (P .answer i)) (faithfulOf W ps work .area))
-    ∙ (λ i. outcome (sym (P .answer) i) (faithfulOf W ps work .area))
+  rounds-forgotten : Way (opened W k ps work) → (B j : ℕ) → roundsBefore W B j (opened W k ps work) ≡ forgotten W (roundsFrom W B j (opened W k ps work))
+  rounds-forgotten R B j = ap (roundsBefore W B j) opened-same ∙ rounds-same B j (opened W k ps work) R
+
+-- the undivided call: its answer is a sum or a refusal, of which nothing is forgotten
+pub undivided-unchanged : {W : Width} (F : Fitting W) (ps : List ℕ) (work : List Float) → faithfulBefore W ps work ≡ faithfulOf W ps work
+undivided-unchanged {W} F ps work = opening-way F 0 ps work _ none summed
+  where
+    B : ℕ
+    B = blocksOf W (length ps)
+
+    none : (l p : ℕ) → opened W 0 ps work ≡ outcome (Refused l p) work → faithfulBefore W ps work ≡ faithfulOf W ps work
+    none l p e =
+        rounds-forgotten F 0 ps work (refused l p work e) B (suc (W .rounds))
+        ∙ rw (e, run-refused W B (suc (W .rounds)) l p work)
+
+    summed : ListWhen W (eqb (length work) (length ps)) true ps Good → faithfulBefore W ps work ≡ faithfulOf W ps work
+    summed G =
+        let P = faithful-promised F ps work G in
+        rounds-forgotten F 0 ps work (reached (record { walk = opened W 0 ps work; steps = 0 }) (reached-opens W F 0 ps work G) refl) B (suc (W .rounds))
+        ∙ (λ i. outcome (forgottenAnswer W (P .answer i)) (faithfulOf W ps work .area))
+        ∙ (λ i. outcome (sym (P .answer) i) (faithfulOf W ps work .area))

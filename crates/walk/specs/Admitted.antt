@@ -17,15 +17,15 @@ use Rattle.kinds.specs.declared.Verdict.the-variants.{Good}
 use Rattle.exponent.specs.Power.{powers}
 use Rattle.exponent.specs.PowerLaws.{power-number, power-negative, power-magnitude}
 use Rattle.extract.specs.Extract.{remainderOf, remainders, largest}
-use Rattle.extract.specs.ExtractLaws.{remainders-length, largest-le}
+use Rattle.extract.specs.ExtractLaws.{remainders-length, largest-le, max-scaled}
 use Rattle.extract.specs.LargestLaws.{Positive}
 use Rattle.extract.specs.LargestWithLaws.{with-positive}
 use Rattle.judge.specs.Table.{sizeOf}
 use Rattle.sound.specs.Sound.{gated}
 use Rattle.sound.specs.AdmittedLaws.{Admitted, admitted}
-use Rattle.sound.specs.Numbers.{FiniteWithin}
+use Rattle.sound.specs.Numbers.{FiniteWithin, UpToEps}
 use Rattle.rounds.specs.Round.{blockOf, turned, takenState}
-use Rattle.rounds.specs.InUnits.{Small, Scale, left-small, remainders-small}
+use Rattle.rounds.specs.InUnits.{Small, Scale, left-small, remainders-small, largest-eps}
 use Rattle.rounds.specs.Closable.{Takable, Closable}
 use Rattle.rounds.specs.Fitting.{Fitting}
 use Rattle.rounds.specs.FreshRound.{exponent-some}
@@ -88,14 +88,25 @@ module _ {W : Width} (F : Fitting W) {s : State} {b : ℕ} {xs : List Float} (P 
     abbrev left : List Float
     left = remainders f (s .sigma) (blockOf W b xs)
 
-    left-each : Each (Small f (2 ^ P .e)) left
-    left-each =
+    block : Each (Small f (2 ^ P .e)) (blockOf W b xs)
+    block =
         let A = Small f (2 ^ P .e) in
-        let k = W .block * b in
-        remainders-small scale (blockOf W b xs) (each-take A (W .block) (drop k xs) (each-drop A k xs small))
+        each-take A (W .block) (drop (W .block * b) xs) (each-drop A (W .block * b) xs small)
+
+    left-each : Each (Small f (2 ^ P .e)) left
+    left-each = remainders-small scale (blockOf W b xs) block
 
     pub taken-largest : Positive f (takenState W s b xs .largest) (max (magnitude f (s .largest)) (largest f left))
     taken-largest = with-positive f so-far left (each-weaker _ _ (λ x X. X .number) left left-each)
+
+    -- it is sound still
+    pub taken-eps : UpToEps f (s .sigma) (takenState W s b xs .largest)
+    taken-eps = record {
+      fini = taken-largest .number .fini;
+      unsigned = taken-largest .sign;
+      small = rw (taken-largest .units) (max-scaled (2 ^ prec f) (magnitude f (s .sigma)) (magnitude f (s .largest)) (largest f left)
+          (P .numbers .largest .small) (largest-eps scale (blockOf W b xs) block));
+    }
 
     -- eps times sigma is at most 2^top units
     so-far-small : magnitude f (s .largest) ≤ 2 ^ F .top

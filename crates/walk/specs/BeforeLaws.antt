@@ -1,7 +1,7 @@
 -- A step of the walk as it was before is the step without what is kept and told, of a state whose largest remainder is sound, where at a close that is the
 -- largest magnitude of the area. Assumes nothing.
 use mathlib.Core.Path.{_≡_, refl, sym, ap, _∙_}
-use mathlib.Core.Bool.{Bool, true, false, not, cond}
+use mathlib.Core.Bool.{Bool, true, false, cond}
 use mathlib.Core.List.{List, [], _∷_}
 use Prim.Native.Nat.{ℕ, _+_, _*_, _^_, _≤_}
 use native.Mathlib.Nat.{mul-zero}
@@ -24,7 +24,7 @@ use Rattle.extract.specs.LargestLaws.{zero-positive}
 use Rattle.sound.specs.Sound.{soundLargest, soundNumbers, soundPending, soundPlace, badPlace, gated}
 use Rattle.rounds.specs.Round.{turned, takenState, freshRound, fresh, finished, closedBy}
 use Rattle.rounds.specs.ClosedLaws.{tau1Of, finishes, furtherRound}
-use Rattle.walk.specs.Walk.{Walked, taken, steppedAfter, stepped}
+use Rattle.walk.specs.Walk.{taken, steppedAfter, stepped}
 use Rattle.walk.specs.Before.{takenBefore, steppedBeforeAfter, steppedBefore, forgetful, forgottenAnswer, forgotten}
 
 module _ (W : Width) where

@@ -81,7 +81,7 @@ module _ {W : Width} {F : Fitting W} {e : ℕ} {s : State} {xs : List Float} (B 
   begun-numbers P T ys Y M = record {
     counts = record { some = B .some; few = B .few; rounds = begun-rounds B };
     sigma = sigma-bounds F (s .n) e (B .scale .power) (omega (arith, B .lowered));
-    t = record { fini = B .kept .number .fini; small = rw (F .bound-is) (B .kept .within) };
+    t = record { fini = B .carried .number .fini; small = rw (F .bound-is) (B .carried .within) };
     tau = record { fini = T .number .fini; small = rw (F .bound-is) (T .within) };
     largest = record { fini = M .number .fini; unsigned = M .sign; small = rw (M .units) (largest-eps (B .scale) ys Y) };
   }

@@ -1,5 +1,5 @@
 -- Rule WS14, for every state: what a step tells, and what the next state keeps of it; and what an opening tells and keeps. Assumes nothing.
-use mathlib.Core.Path.{_≡_, refl, sym, ap, subst}
+use mathlib.Core.Path.{_≡_, refl}
 use mathlib.Core.Bool.{Bool, true, false, cond}
 use mathlib.Core.List.{List}
 use Prim.Native.Nat.{ℕ, _+_}
@@ -9,7 +9,6 @@ use lib.ListN.{length}
 use lib.Ieee.{Float}
 use Rattle.ieee.specs.Units.{magnitude, nearestFloat}
 use Rattle.kinds.specs.Limits.{Width}
-use Rattle.kinds.specs.Outcome.{outcome}
 use Rattle.kinds.specs.declared.State.{State}
 use Rattle.kinds.specs.declared.Step.{Step}
 use Rattle.kinds.specs.declared.Step.the-variants.{More, Done, Refused}
