@@ -3,6 +3,7 @@ pub mod Calls
 pub mod Table
 pub mod Bounds
 pub mod Faults
+pub mod Largest
 pub mod FromC
 pub mod BytesFromC
 pub mod Holds
