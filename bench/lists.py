@@ -6,6 +6,8 @@
                       computed from exact integers, and b is moved until it lies within a factor of 10 of the wanted one. Then the list is shuffled
     range             exponents spread evenly over the whole range that a list may have, 2^-1074 to 2^1000, random signs: little cancels
     range, cancelled  as 1e8 .. 1e100 with exponents from -1000 to 985: about 1e600 where the list is long enough
+    restarts          five times pairs of opposite numbers with 20 digits, each time 60 places below the last, and 60 below those numbers that don't cancel. A
+                      round takes the largest pairs whole, and its sum is zero; what is below them it leaves as it was: the first five rounds restart
 
 The first half is random, the second cancels it: Ogita, Rump and Oishi, Accurate Sum and Dot Product, Algorithm 6.1, for sums.
 """
@@ -14,8 +16,10 @@ import random
 import struct
 
 LENGTHS = (16, 64, 1000, 4094)
-CONDITIONS = ("1", "1e8", "1e16", "1e32", "1e64", "1e100", "range", "range, cancelled")
+CONDITIONS = ("1", "1e8", "1e16", "1e32", "1e64", "1e100", "range", "range, cancelled", "restarts")
+RESTARTS, DEPTH = 5, 60
 LISTS = {16: 64, 64: 32, 1000: 4, 4094: 2}  # how many lists a case has: a branch predictor knows one short list by heart
+REPETITIONS = {16: 60, 64: 30, 1000: 15, 4094: 6}  # of a case in one sweep
 UNIT = 2**1074
 
 
@@ -47,6 +51,14 @@ def cancelled(rng, n, low, high):
     return numbers
 
 
+def restarting(rng, n):
+    pairs = n // (RESTARTS + 1) // 2
+    halves = [math.ldexp(rng.randrange(2**19, 2**20), DEPTH * (RESTARTS - k)) for k in range(RESTARTS) for _ in range(pairs)]
+    numbers = halves + [-x for x in halves] + [number(rng, 0) for _ in range(n - 2 * len(halves))]
+    rng.shuffle(numbers)
+    return numbers
+
+
 def condition(numbers):
     """The decimal exponent of the condition number."""
     whole = [units(x) for x in numbers]
@@ -72,6 +84,8 @@ def one(rng, n, name):
         return [number(rng, rng.randint(-1074, 999)) for _ in range(n)]
     if name == "range, cancelled":
         return cancelled(rng, n, -1000, 985)
+    if name == "restarts":
+        return restarting(rng, n)
     return conditioned(rng, n, int(name[2:]))
 
 

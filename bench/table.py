@@ -86,3 +86,13 @@ def whole(heading, lengths, conditions, times):
     for n in lengths:
         out += of_length(n, conditions, {c: times[n, c] for c in conditions})
     return "\n".join(out).rstrip() + "\n"
+
+
+def compared(names, lengths, conditions, ratios):
+    """Ratios of one tree's times to another's; `ratios` by n and condition."""
+    out = []
+    for n in lengths:
+        out += rows([f"n = {n:,}", *conditions], [[name, *(figure(ratios[n, c][name]) for c in conditions)] for name in names])
+    greatest_of = [(name, *max((ratios[case][name], *case) for case in ratios)) for name in names]
+    out += rows(["greatest of all cases", "", "n", "condition"], [[name, figure(ratio), f"{n:,}", condition] for name, ratio, n, condition in greatest_of])
+    return "\n".join(out).rstrip()

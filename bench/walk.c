@@ -1,6 +1,7 @@
 /* The faithful walk of docs/SCOPE.md in C, undivided: blocks in rising order are the whole area in rising order, and tau is one serial sum. Written from it;
-   bench/main.c holds its answers, rounds and remainders to the library's, bit for bit. Each operation on doubles is rounded once: compile it without
-   contraction (-ffp-contract=off) and without -ffast-math. COMPILER is the name that stands before its two functions. */
+   bench/main.c holds its answers, rounds and remainders to the library's, bit for bit. A restart looks for mu in the work area, as 000 does; rule DR6 says that
+   it finds what the library has kept. Each operation on doubles is rounded once: compile it without contraction (-ffp-contract=off) and without -ffast-math.
+   COMPILER is the name that stands before its two functions. */
 #include "walk.h"
 
 enum { LENGTH = 4094 };

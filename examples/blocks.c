@@ -1,6 +1,6 @@
 /* A faithful sum block by block, in the order in which an operator gets the racks' readings: the last rack first, then as they come. Whatever the order, the
- * sum and the rounds are those of the undivided call. Between two calls the work area and ten numbers are all there is to keep; what a step says where the two
- * were mixed up is shown on the way.
+ * sum and the rounds are those of the undivided call. After each step the screen shows how much is still unsummed. Between two calls the work area and ten
+ * numbers are all there is to keep; what a step says where the two were mixed up is shown on the way.
  *
  *     scripts/example blocks        builds and runs it with the Rattle kit alone, on either machine
  */
@@ -37,6 +37,21 @@ static size_t next_block(const uint64_t *state, size_t blocks)
     return blocks;
 }
 
+/* What the operator's screen shows after a step: how much is still unsummed. Of the blocks that the round has had so far nothing is left that is larger in
+ * magnitude; where the step closed the round, that is so of the whole list. The next round starts anew. */
+static void screen(const uint64_t *state, unsigned block, unsigned closed, uint32_t code)
+{
+    printf("block %u: code %u, ", block, (unsigned)code);
+    if (code != KEWOHIATA_ACCEPTED)
+        printf("refused\n");
+    else if (state[KEWOHIATA_STATE_KIND] == KEWOHIATA_DONE)
+        printf("all is summed\n");
+    else if (state[KEWOHIATA_STATE_ROUNDS] == closed)
+        printf("largest remainder %.2g so far in this round\n", kewohiata_double(state[KEWOHIATA_STATE_TOLD]));
+    else
+        printf("largest remainder %.2g, round %u is closed\n", kewohiata_double(state[KEWOHIATA_STATE_TOLD]), closed + 1);
+}
+
 /* A step that is refused changes neither the state nor the area, so that the walk can go on with the right ones. */
 static void told(const char *what, uint64_t *state, double *area, uint32_t ensemble)
 {
@@ -69,6 +84,9 @@ static void mixed_up(const uint64_t *state)
     told("the pending set of a longer list", wrong, work, OURS);
     wrong[KEWOHIATA_STATE_SIGMA] += 1;
     told("a bit of sigma turned over, besides", wrong, work, OURS);
+    memcpy(wrong, state, sizeof wrong);
+    wrong[KEWOHIATA_STATE_LARGEST] = wrong[KEWOHIATA_STATE_TOLD]; /* what is told of the closed round isn't what the next one keeps */
+    told("the told number put in the kept one's place", wrong, work, OURS);
 }
 
 int main(void)
@@ -88,8 +106,9 @@ int main(void)
     memcpy(first, state, sizeof first);
     while (code == KEWOHIATA_ACCEPTED && state[KEWOHIATA_STATE_KIND] == KEWOHIATA_MORE) {
         size_t block = next_block(state, blocks);
+        unsigned closed = (unsigned)state[KEWOHIATA_STATE_ROUNDS];
         code = kewohiata_walk_step(state, KEWOHIATA_STATE, work, N, block, OURS);
-        printf("block %u: code %u\n", (unsigned)block, (unsigned)code);
+        screen(state, (unsigned)block, closed, code);
         steps++;
         if (steps == 2) /* a block twice in a round is refused, and nothing changes */
             printf("the same again: refusal %u\n", (unsigned)kewohiata_refusal(kewohiata_walk_step(state, KEWOHIATA_STATE, work, N, block, OURS)));

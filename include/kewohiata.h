@@ -35,8 +35,8 @@ extern "C" {
 #endif
 
 /* Below 1.0.0 calls may be added, and their forms and answers may still change; the second number tells it. */
-#define KEWOHIATA_VERSION "0.9.0"
-enum { KEWOHIATA_VERSION_MAJOR = 0, KEWOHIATA_VERSION_MINOR = 9, KEWOHIATA_VERSION_PATCH = 0 };
+#define KEWOHIATA_VERSION "0.11.0"
+enum { KEWOHIATA_VERSION_MAJOR = 0, KEWOHIATA_VERSION_MINOR = 11, KEWOHIATA_VERSION_PATCH = 0 };
 
 /* The refusals, rules R1 to R23. A code has room for numbers up to 31; those above 23 are kept for later ones. */
 enum kewohiata_refusals {
@@ -48,7 +48,7 @@ enum kewohiata_refusals {
     KEWOHIATA_WRONG_PARTS = 5,       /* no part, or more than 8 */
     KEWOHIATA_NO_SUCH_BLOCK = 6,     /* the list has no block of that number */
     KEWOHIATA_BLOCK_NOT_PENDING = 7, /* this round has had the block */
-    KEWOHIATA_UNSOUND_NUMBERS = 8,   /* the state's n, rounds, sigma, t or tau is none that a walk can have */
+    KEWOHIATA_UNSOUND_NUMBERS = 8,   /* the state's n, rounds, sigma, t, tau or largest remainder is none that a walk can have */
     KEWOHIATA_REGISTER_FULL = 9,     /* the register's number would leave 2112 signed bits */
     KEWOHIATA_NO_FINITE_DOUBLE = 10, /* the register's number is beyond the doubles */
     KEWOHIATA_SHEET_TOO_SHORT = 11,  /* no whole header, or fewer numbers than it counts */
@@ -85,7 +85,7 @@ enum kewohiata_lengths {
     KEWOHIATA_SHEET_BYTES_MOST = 32757  /* bytes of a sheet, at most */
 };
 
-/* What a state's numbers are, by their places. The last two are kept for later requests, and 0. */
+/* What a state's numbers are, by their places (rule C11). A step reads all but the first and the last. */
 enum kewohiata_states {
     KEWOHIATA_STATE_KIND = 0, /* KEWOHIATA_MORE or KEWOHIATA_DONE */
     KEWOHIATA_STATE_SIGMA = 1,
@@ -95,6 +95,8 @@ enum kewohiata_states {
     KEWOHIATA_STATE_PENDING = 5,  /* bit b is 1 while block b is to be taken in this round */
     KEWOHIATA_STATE_ROUNDS = 6,   /* rounds closed */
     KEWOHIATA_STATE_ENSEMBLE = 7, /* the number given at the opening */
+    KEWOHIATA_STATE_LARGEST = 8,  /* the largest remainder of this round so far, a pattern: +0 as a round opens (rule WS13) */
+    KEWOHIATA_STATE_TOLD = 9,     /* for the caller: the largest remainder of the round of the step just made, a pattern (rule WS14) */
     KEWOHIATA_DONE_SUM = 1,
     KEWOHIATA_DONE_ROUNDS = 2 /* of a finished walk: the sum's pattern and the rounds; the rest is 0 */
 };
@@ -181,7 +183,8 @@ static inline int kewohiata_environment(void)
 
 /* Opens a walk by blocks (rules WO1 and C11): the list's numbers go to `work`, and the first state to `state`; or, where every number is zero, the finished
  * sum, which is rule S3's zero.
- * work: n doubles. state: 10 numbers, all of which are written. ensemble: any number that the caller knows these clocks by; every state of the walk has it.
+ * work: n doubles. state: 10 numbers, all of which are written; told is +0, since nothing is cut yet. ensemble: any number that the caller knows these clocks
+ * by; every state of the walk has it.
  * Refusals: 1; 4; 2 or 3 of the lowest bad place. Needs the environment above. */
 uint32_t kewohiata_walk_open(const uint64_t *list, size_t list_length, double *work, size_t work_length, uint64_t *state, size_t state_length,
                              uint32_t ensemble);
@@ -189,11 +192,13 @@ uint32_t kewohiata_walk_open(const uint64_t *list, size_t list_length, double *w
 /* Takes one block (rule WB1). In a run from an opening any pending block may be the next; the step that takes the last one closes the round, and either ends
  * the walk (the state's first number is KEWOHIATA_DONE) or makes all blocks pending again. The sum and the rounds are those of kewohiata_walk_faithful in
  * any order.
+ * What is still to be summed is shown by the number at KEWOHIATA_STATE_TOLD, a double's pattern: nothing that this round has left in its blocks so far is
+ * larger in magnitude. The step that closes a round tells it of the whole list, while the state goes on from +0.
  * state, work: as the opening or the last accepted step left them. Others are stepped too where they are sound, and no sum is promised of them: every older
  * state of the same walk is sound over a newer area, and gives a wrong sum. block: 0 to kewohiata_blocks(n) - 1. ensemble: the number given at the opening
  * (rule WS12). It tells a state of another ensemble; whose the work area is, nothing tells.
  * Refusals: 4; 21; 8; 18; 19 of the lowest place at fault; 6; 7. Needs the environment above. Time: n at each step, since the whole work area is looked at, and
- * as much again where a round closes. */
+ * as much again at the finish. */
 uint32_t kewohiata_walk_step(uint64_t *state, size_t state_length, double *work, size_t work_length, size_t block, uint32_t ensemble);
 
 /* The faithful sum (rule S1): no double lies strictly between it and the exact sum, and where the exact sum is a double it is that one.

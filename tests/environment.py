@@ -60,9 +60,9 @@ NAMES = {
     "OTHER_ENSEMBLE": 21, "LENGTHS_DIFFER": 22, "FACTOR_OUTSIDE": 23, "GRADE_EXACT": 0, "GRADE_NEAREST": 1, "GRADE_FAITHFUL": 2, "GRADE_WRONG": 3, "LIST_MOST": 4094,
     "LIST_BYTES_MOST": 32752, "PAIRS_MOST": 2047, "BLOCK": 64, "STATE": 10, "FAITHFUL": 2, "VALUE": 1, "SUM_BYTES": 16, "WORDS": 33, "REGISTER_BYTES": 264, "PARTS_MOST": 8,
     "ROUNDS_MOST": 51, "SHEET_HEADER": 5, "SHEET_BYTES_MOST": 32757, "ACCEPTED": 0, "MORE": 1, "DONE": 2, "STATE_KIND": 0, "STATE_SIGMA": 1, "STATE_T": 2,
-    "STATE_TAU": 3, "STATE_N": 4, "STATE_PENDING": 5, "STATE_ROUNDS": 6, "STATE_ENSEMBLE": 7, "DONE_SUM": 1, "DONE_ROUNDS": 2, "VERSION_MAJOR": 0,
-    "VERSION_MINOR": 9, "VERSION_PATCH": 0, "REPORT": 4, "REPORT_WRITTEN": 0, "REPORT_TAKEN": 1, "REPORT_MISSING": 2, "REPORT_OVER": 3, "MARK_KEPT": 0,
-    "MARK_NOT_FINITE": 1, "MARK_TOO_LARGE": 2,
+    "STATE_TAU": 3, "STATE_N": 4, "STATE_PENDING": 5, "STATE_ROUNDS": 6, "STATE_ENSEMBLE": 7, "STATE_LARGEST": 8, "STATE_TOLD": 9, "DONE_SUM": 1,
+    "DONE_ROUNDS": 2, "VERSION_MAJOR": 0, "VERSION_MINOR": 11, "VERSION_PATCH": 0, "REPORT": 4, "REPORT_WRITTEN": 0, "REPORT_TAKEN": 1, "REPORT_MISSING": 2,
+    "REPORT_OVER": 3, "MARK_KEPT": 0, "MARK_NOT_FINITE": 1, "MARK_TOO_LARGE": 2,
 }  # fmt: skip
 
 DIFFERENCES = []
@@ -80,7 +80,7 @@ def uses():
     """A text that includes the header twice, and asks every name and helper for what it is: an array of a wrong number of places is an error."""
     lines = ['#include "kewohiata.h"', '#include "kewohiata.h"', "int main(void)", "{"]
     asked = {f"KEWOHIATA_{name} == {number}": name for name, number in NAMES.items()}
-    asked["sizeof KEWOHIATA_VERSION == 6"] = "VERSION"
+    asked["sizeof KEWOHIATA_VERSION == 7"] = "VERSION"
     lines += [f"    typedef char is_{name}[{condition} ? 1 : -1];" for condition, name in asked.items()]
     lines += [f"    (void)sizeof(is_{name});" for name in asked.values()]
     for condition in (

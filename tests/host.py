@@ -38,12 +38,13 @@ import fixed  # noqa: E402
 import kit  # noqa: E402
 import merges  # noqa: E402
 import products  # noqa: E402
+import remainders  # noqa: E402
 import rescues  # noqa: E402
 import shuffles  # noqa: E402
 import writings  # noqa: E402
 
 PLACE = os.path.join(ROOT, "target", "host")
-OTHERS = claims, ensembles, farewells, merges, products, rescues, shuffles, writings
+OTHERS = claims, ensembles, farewells, merges, products, remainders, rescues, shuffles, writings
 FIXED = fixed.GROUPS + [group for other in OTHERS for group in other.FIXED]
 DRAWN = drawn.GROUPS + [group for other in OTHERS for group in other.DRAWN]
 LISTS = 20000

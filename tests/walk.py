@@ -3,8 +3,8 @@
 
     python3 tests/walk.py        checks it against Python's doubles, against exact sums and against its cases; exit status 1 on a difference
 
-Calls take and give patterns: a list, a work area (which they change) and a state's three doubles. Inside, a double is its whole number of units of 2^-1074,
-and -0 is a zero of its own. An answer is ("more", State), ("done", pattern, rounds) or ("refused", number, place).
+Calls take and give patterns: a list, a work area (which they change) and a state's four doubles. Inside, a double is its whole number of units of 2^-1074,
+and -0 is a zero of its own. An answer is ("more", State, told), ("done", pattern, rounds) or ("refused", number, place); what is told is a pattern too.
 """
 import collections
 import functools
@@ -23,7 +23,7 @@ SIGN, INFINITY, ONE = 1 << 63, 0x7FF << 52, 0x3FF << 52
 LEAST_NORMAL = 1 << 52  # 2^-1022 in units
 UNSOUND = (8, 18, 19)  # the refusals of a state that isn't sound
 
-State = collections.namedtuple("State", "sigma t tau n pending rounds ensemble", defaults=[0])
+State = collections.namedtuple("State", "sigma t tau n pending rounds ensemble largest", defaults=[0, 0])
 
 
 # ---- doubles as whole units
@@ -95,13 +95,13 @@ def largest(area):
     return max(map((SIGN - 1).__and__, area), default=0)
 
 
-def sigma_of(area):
-    """2^(M+e), e the least whole number with the largest magnitude at most 2^e."""
-    return 1 << exponent_of(len(area)) + (units(largest(area)) - 1).bit_length()
+def sigma_of(n, mu):
+    """2^(M+e), e the least whole number with mu, a pattern, at most 2^e."""
+    return 1 << exponent_of(n) + (units(mu) - 1).bit_length()
 
 
 def round_of(n, sigma, t, rounds, ensemble=0):
-    """A new round: tau = +0 and all blocks pending."""
+    """A new round: tau and the largest remainder are +0, and all blocks pending."""
     return State(pattern_of(sigma), pattern_of(t), 0, n, (1 << blocks_of(n)) - 1, rounds, ensemble)
 
 
@@ -123,7 +123,7 @@ def opening(patterns, area, ensemble=0):
     area[:] = patterns
     if not largest(area):
         return "done", pattern_of(functools.reduce(add, map(units, area)) if area else 0), 0  # rule S3: as IEEE 754 adds zeros, from the first on
-    return "more", round_of(len(area), sigma_of(area), 0, 0, ensemble)
+    return "more", round_of(len(area), sigma_of(len(area), largest(area)), 0, 0, ensemble), 0
 
 
 def plus_opening(patterns, area):
@@ -134,11 +134,11 @@ def plus_opening(patterns, area):
     area[:] = patterns
     if not largest(area):
         return "done", 0, 0
-    return "more", round_of(len(area), sigma_of(area), 0, 0)
+    return "more", round_of(len(area), sigma_of(len(area), largest(area)), 0, 0), 0
 
 
 def sound(s, area):
-    """The test as it was when one refusal, 8, was given for all of it; what is sound hasn't changed since."""
+    """The test in one piece, as it was when one refusal, 8, was given for all of it."""
     if not (1 <= s.n <= LENGTH and 0 <= s.rounds <= ROUNDS and 0 < s.pending < 1 << blocks_of(s.n)):
         return False
     if s.sigma >= INFINITY or s.t % SIGN > CARRIED or s.tau % SIGN > CARRIED:
@@ -146,16 +146,20 @@ def sound(s, area):
     sigma, m = units(s.sigma), exponent_of(s.n)
     if sigma & sigma - 1 or not 1 << m <= sigma <= units(MAGNITUDE) << m:
         return False
+    if s.largest >= INFINITY or units(s.largest) << 53 > sigma:
+        return False
     return largest(area) <= pattern_of(sigma >> m)
 
 
 def sound_numbers(s):
-    """Rules WS3, WS4, WS6 and WS7."""
+    """Rules WS3, WS4, WS6, WS7 and WS15. A pattern with a sign is above all that have none, and so is a NaN's or an infinity's above a number's."""
     if not (0 < s.n <= LENGTH and s.rounds <= ROUNDS and 0 < s.sigma < INFINITY):
         return False
     m = exponent_of(s.n)
     k = units(s.sigma).bit_length() - 1
-    return units(s.sigma) == 2**k and m <= k <= m + 2074 and s.t & SIGN - 1 <= CARRIED and s.tau & SIGN - 1 <= CARRIED
+    if units(s.sigma) != 2**k or not m <= k <= m + 2074 or s.largest > pattern_of(2**k >> 53):
+        return False
+    return s.t & SIGN - 1 <= CARRIED and s.tau & SIGN - 1 <= CARRIED
 
 
 def unsound(s, area):
@@ -168,7 +172,33 @@ def unsound(s, area):
     return (19, [p % SIGN <= most for p in area].index(False)) if largest(area) > most else None
 
 
-def step(s, area, block, ensemble):
+def closed_by(mu, s, area):
+    """The four rules, with mu for the first two of them. What is told is the number of the round that closes."""
+    sigma, t, tau, m, rounds = units(s.sigma), units(s.t), units(s.tau), exponent_of(s.n), s.rounds + 1
+    total = add(t, tau)
+    if total == 0 and not mu:
+        return "done", 0, rounds
+    if total == 0:
+        return "more", round_of(s.n, sigma_of(s.n, mu), 0, rounds, s.ensemble), s.largest
+    if sigma <= LEAST_NORMAL or abs(total) << 53 >= sigma << 2 * m + 1:
+        rest = 0
+        for p in area:
+            rest = add(rest, units(p))
+        return "done", pattern_of(add(total, add(sub(tau, sub(total, t)), rest))), rounds
+    return "more", round_of(s.n, (sigma << m) >> 53, total, rounds, s.ensemble), s.largest
+
+
+def close(s, area):
+    """mu is the number that the state has kept."""
+    return closed_by(s.largest, s, area)
+
+
+def former_close(s, area):
+    """The close as it was before a state kept one: mu is looked for in the area. In a run the two may never differ."""
+    return closed_by(largest(area), s, area)
+
+
+def step(s, area, block, ensemble, at_close=close):
     """Refusals in the order 4, 21, 8, 18, 19, 6, 7."""
     if len(area) != s.n:
         return "refused", 4, 0
@@ -181,30 +211,15 @@ def step(s, area, block, ensemble):
         return "refused", 6, 0
     if not s.pending >> block & 1:
         return "refused", 7, 0
-    sigma, tau = units(s.sigma), units(s.tau)
+    sigma, tau, most = units(s.sigma), units(s.tau), units(s.largest)
     for place in range(BLOCK * block, min(BLOCK * block + BLOCK, s.n)):
         p = units(area[place])
         q = sub(add(sigma, p), sigma)
-        area[place] = pattern_of(sub(p, q))
-        tau = add(tau, q)
-    s = s._replace(tau=pattern_of(tau), pending=s.pending - (1 << block))
-    return ("more", s) if s.pending else close(s, area)
-
-
-def close(s, area):
-    """The four rules."""
-    sigma, t, tau, m, rounds = units(s.sigma), units(s.t), units(s.tau), exponent_of(s.n), s.rounds + 1
-    total = add(t, tau)
-    if total == 0 and not largest(area):
-        return "done", 0, rounds
-    if total == 0:
-        return "more", round_of(s.n, sigma_of(area), 0, rounds, s.ensemble)
-    if sigma <= LEAST_NORMAL or abs(total) << 53 >= sigma << 2 * m + 1:
-        rest = 0
-        for p in area:
-            rest = add(rest, units(p))
-        return "done", pattern_of(add(total, add(sub(tau, sub(total, t)), rest))), rounds
-    return "more", round_of(s.n, (sigma << m) >> 53, total, rounds, s.ensemble)
+        rest = sub(p, q)
+        area[place] = pattern_of(rest)
+        tau, most = add(tau, q), max(most, abs(rest))
+    s = s._replace(tau=pattern_of(tau), largest=pattern_of(most), pending=s.pending - (1 << block))
+    return ("more", s, s.largest) if s.pending else at_close(s, area)
 
 
 # orders: of the pending blocks, which is next; a turn is any number of 64 bits
@@ -246,10 +261,12 @@ def bits(x):
 
 
 class Doubles:
-    """A state and its work area, with no integer in the arithmetic. Of ensembles it knows nothing, as the base's walk: its states are of number 0."""
+    """A state and its work area, with no integer in the arithmetic. Of ensembles it knows nothing, as the base's walk: its states are of number 0. The former
+    walk is the base's in this too, that it looks for mu in the area."""
 
-    def __init__(self, s, area):
+    def __init__(self, s, area, former=False):
         self.sigma, self.t, self.tau, self.n, self.pending, self.rounds = double(s.sigma), double(s.t), double(s.tau), s.n, s.pending, s.rounds
+        self.largest, self.former = double(s.largest), former
         self.area = [double(p) for p in area]
         self.m = math.ceil(math.log2(self.n + 2)) if self.n > -2 else 0
 
@@ -262,12 +279,14 @@ class Doubles:
             return False
         if not (2.0 ** (m - 1074) <= sigma <= 2.0 ** (m + 1000) and math.frexp(sigma)[0] == 0.5):
             return False
+        if not (self.largest * 2.0**53 <= sigma and math.copysign(1.0, self.largest) == 1.0):
+            return False
         return abs(self.t) <= 2.0**1012 and abs(self.tau) <= 2.0**1012 and all(abs(x) <= math.ldexp(sigma, -m) for x in self.area)
 
     def fault(self):
         """Of a state that isn't sound: the first of the three that would not be sound with the others mended."""
         whole = Doubles(State(bits(1.0), 0, 0, self.n, 1, 0), [])
-        whole.sigma, whole.t, whole.tau, whole.rounds = self.sigma, self.t, self.tau, self.rounds
+        whole.sigma, whole.t, whole.tau, whole.rounds, whole.largest = self.sigma, self.t, self.tau, self.rounds, self.largest
         if not whole.sound():
             return "refused", 8, 0
         whole.pending = self.pending
@@ -288,26 +307,33 @@ class Doubles:
             q = (self.sigma + self.area[i]) - self.sigma
             self.area[i] -= q
             self.tau += q
+            self.largest = max(self.largest, abs(self.area[i]))
         self.pending ^= 2**block
-        return self.told() if self.pending else self.close()
+        return self.more(self.largest) if self.pending else self.close()
 
-    def told(self):
-        return "more", State(bits(self.sigma), bits(self.t), bits(self.tau), self.n, self.pending, self.rounds)
+    def more(self, told):
+        kept = State(bits(self.sigma), bits(self.t), bits(self.tau), self.n, self.pending, self.rounds, 0, bits(self.largest))
+        return "more", kept, bits(told)
 
     def open(self, sigma, t):
+        told, self.largest = self.largest, 0.0
         self.sigma, self.t, self.tau, self.pending = sigma, t, 0.0, 2 ** math.ceil(self.n / 64) - 1
-        return self.told()
+        return self.more(told)
 
-    def power(self):
-        fraction, e = math.frexp(max(abs(x) for x in self.area))
-        return math.ldexp(1.0, self.m + (e - 1 if fraction == 0.5 else e))
+    def looked_for(self):
+        return max((abs(x) for x in self.area), default=0.0)
+
+    def fresh(self, mu):
+        fraction, e = math.frexp(mu)
+        return self.open(math.ldexp(1.0, self.m + (e - 1 if fraction == 0.5 else e)), 0.0)
 
     def close(self):
         self.rounds += 1
         t, tau, sigma = self.t, self.tau, self.sigma
         total = t + tau
         if total == 0.0:
-            return self.open(self.power(), 0.0) if any(self.area) else ("done", 0, self.rounds)
+            mu = self.looked_for() if self.former else self.largest
+            return self.fresh(mu) if mu else ("done", 0, self.rounds)
         if sigma <= 2.0**-1022 or abs(total) >= 2.0 ** (2 * self.m + 1 - 53) * sigma:
             rest = 0.0
             for x in self.area:
@@ -317,9 +343,9 @@ class Doubles:
 
 
 def doubles_walk(patterns):
-    """The undivided walk of an allowed list: the answer and the remainders."""
-    w = Doubles(State(0, 0, 0, len(patterns), 0, 0), patterns)
-    answer = w.open(w.power(), 0.0) if any(w.area) else ("done", bits(functools.reduce(operator.add, w.area) if w.area else 0.0), 0)
+    """The undivided walk of an allowed list as it was before a state kept its largest remainder: the answer and the remainders."""
+    w = Doubles(State(0, 0, 0, len(patterns), 0, 0), patterns, former=True)
+    answer = w.fresh(w.looked_for()) if any(w.area) else ("done", bits(functools.reduce(operator.add, w.area) if w.area else 0.0), 0)
     while answer[0] == "more":
         answer = w.step((w.pending & -w.pending).bit_length() - 1)
     return answer, w.patterns()
@@ -343,18 +369,45 @@ def is_faithful(pattern, total):
     return (pattern == SIGN) == (total is MINUS) and units(pattern) in ((floor,) if floor == total else (floor, floor + (1 << extra)))
 
 
-def turns_of(chance):
-    return iter(lambda: chance.getrandbits(64), None)
+def taken_blocks(s, area):
+    """The numbers of the blocks that this round has had."""
+    return [p for b in range(blocks_of(s.n)) if not s.pending >> b & 1 for p in area[BLOCK * b : BLOCK * b + BLOCK]]
+
+
+def watched_step(s, area, block, patterns):
+    """A step of a run. It is held to the same with the close of before, and what it keeps and tells to the area (rules WS13 and WS14)."""
+    other = list(area)
+    answer = step(s, area, block, s.ensemble)
+    expect("as before", step(s, other, block, s.ensemble, former_close) == answer and other == area, patterns, s, block)
+    if answer[0] == "more":
+        now, told = answer[1:]
+        closes = now.rounds > s.rounds
+        COUNTS["restarts"] += closes and now.t == 0
+        expect("kept", now.largest == largest(taken_blocks(now, area)) and (now.largest == 0 or not closes), patterns, s, block)
+        expect("told", told == (largest(area) if closes else now.largest), patterns, s, block)
+    return answer
+
+
+def watched(patterns, area, order, chance):
+    """A run with each step looked at: the answer, and how many steps there were."""
+    answer, steps = opening(patterns, area, chance.getrandbits(32)), 0
+    expect("an opening tells +0", answer[0] == "done" or answer[2] == answer[1].largest == 0, patterns)
+    while answer[0] == "more":
+        answer = watched_step(answer[1], area, order(answer[1].pending, chance.getrandbits(64)), patterns)
+        steps += 1
+    return answer, steps
 
 
 def conserved(patterns, area, chance):
-    """A walk in an order of chance, with the sum in it looked at after each step; tau is exact and never -0."""
+    """A walk in an order of chance, with the sum in it looked at after each step; tau is exact and never -0. Each step is the one of before, in doubles too."""
     total, answer = sum(map(units, patterns)), opening(patterns, area)
     while answer[0] == "more":
-        s = answer[1]
+        s, former = answer[1], Doubles(answer[1], area, former=True)
         expect("sound", sound(s, area), patterns)
         expect("conserved", units(s.t) + units(s.tau) + sum(map(units, area)) == total and s.tau != SIGN, patterns)
-        answer = step(s, area, seeded(s.pending, chance.getrandbits(64)), s.ensemble)
+        block = seeded(s.pending, chance.getrandbits(64))
+        answer = step(s, area, block, s.ensemble)
+        expect("as before, in doubles", former.step(block) == answer and former.patterns() == area, patterns, s, block)
     return answer
 
 
@@ -373,7 +426,7 @@ def check_list(patterns, chance):
     expect("rounds", steps == rounds * blocks_of(n) and rounds <= 1 + -(-(2022 + m) // (53 - m)), patterns, answer)
     for order in (falling, seeded):
         other = [0] * n
-        expect("order", run(patterns, other, order, turns_of(chance), chance.getrandbits(32)) == (answer, steps) and other == area, patterns, order)
+        expect("order", watched(patterns, other, order, chance) == (answer, steps) and other == area, patterns, order)
     if n <= 200:
         other = [0] * n
         expect("order", conserved(patterns, other, chance) == answer and other == area, patterns)
@@ -470,8 +523,8 @@ def check_witnesses(chance):
 
 
 def numberless(answer):
-    """An answer as the base's walk gives it."""
-    return ("more", answer[1]._replace(ensemble=0)) if answer[0] == "more" else answer
+    """An answer as a walk gives it that knows no ensembles."""
+    return ("more", answer[1]._replace(ensemble=0), answer[2]) if answer[0] == "more" else answer
 
 
 def both_steps(s, area, block, ensemble=None):
@@ -486,7 +539,10 @@ def both_steps(s, area, block, ensemble=None):
     expect("refusal writes nothing", answer[0] != "refused" or before == area, s, block)
     right = len(before) == s.n and named == s.ensemble
     expect("8, 18 and 19", (answer[0] == "refused" and answer[1] in UNSOUND) == (right and not sound(s, before)), s, block, answer)
-    expect("ensemble", answer[0] != "more" or answer[1].ensemble == s.ensemble, s, block, answer)
+    if answer[0] == "more":
+        now, told = answer[1:]
+        expect("ensemble", now.ensemble == s.ensemble, s, block, answer)
+        expect("kept and told", s.largest <= told and now.largest == (told if now.rounds == s.rounds else 0), s, block, answer)
     return answer
 
 
@@ -501,7 +557,10 @@ def foreign(chance):
     t, tau = signed(chance, chance.choice(near)), signed(chance, chance.choice(near))
     if chance.random() < 0.2:
         tau = t ^ SIGN
-    return State(pattern_of(1 << k + m), t, tau, n, chance.randint(1, (1 << blocks_of(n)) - 1), chance.choice([0, 3, 49, 50]), chance.getrandbits(32)), area
+    pending, rounds = chance.randint(1, (1 << blocks_of(n)) - 1), chance.choice([0, 3, 49, 50])
+    most = pattern_of(1 << k + m >> 53)
+    kept = chance.choice([0, most, chance.randint(0, most), max(most - (chance.randint(0, 60) << 52), 0)])
+    return State(pattern_of(1 << k + m), t, tau, n, pending, rounds, chance.getrandbits(32), kept), area
 
 
 def check_foreign(chance):
@@ -523,33 +582,53 @@ def check_foreign_witnesses():
     s = State(sigma, 0, 0, 1, 1, 50)
     area = [bits(2.0**-60)]
     answer = both_steps(s, area, 0)
-    expect("51 rounds", answer == ("more", State(bits(2.0**-58), 0, 0, 1, 1, 51)), answer)
+    expect("51 rounds", answer == ("more", State(bits(2.0**-58), 0, 0, 1, 1, 51), bits(2.0**-60)), answer)
     expect("51 rounds, next", both_steps(answer[1], area, 0) == ("refused", 8, 0))
     expect("51 rounds, finished", both_steps(s, [ONE], 0) == ("done", ONE, 51))
     # tau passes 2^1012, after which 8
     top = bits(2.0**1000)
     s, area = State(bits(2.0**1007), 0, CARRIED, 65, 3, 0), [top] * 65
     answer = both_steps(s, area, 0)
-    expect("tau", answer == ("more", s._replace(tau=bits(2.0**1012 + 2.0**1006), pending=2)), answer)
+    expect("tau", answer == ("more", s._replace(tau=bits(2.0**1012 + 2.0**1006), pending=2), 0), answer)
     expect("tau, next", both_steps(answer[1], area, 1) == ("refused", 8, 0))
     # tau is added to in the order of places: 2^959 is half of its last place, and the tie is to the even
     s, half = State(bits(2.0**1007), 0, CARRIED, 65, 3, 0), bits(2.0**959)
     for numbers, last in (((half, half + 2**51), 1), ((half + 2**51, half), 2)):
         answer = both_steps(s, [*numbers] + [0] * 63, 0)
-        expect("tau's order", answer == ("more", s._replace(tau=CARRIED + last, pending=2)), answer)
+        expect("tau's order", answer == ("more", s._replace(tau=CARRIED + last, pending=2), 0), answer)
     # rule W4 with a block that was not taken: too large for the next sigma
     s, area = State(sigma, bits(2.0**-43), 0, 65, 1, 0), [0] * 64 + [ONE]
     answer = both_steps(s, area, 0)
-    expect("rule W4", answer == ("more", State(bits(2.0**-38), bits(2.0**-43), 0, 65, 3, 1)), answer)
+    expect("rule W4", answer == ("more", State(bits(2.0**-38), bits(2.0**-43), 0, 65, 3, 1), 0), answer)
     expect("rule W4, next", both_steps(answer[1], area, 0) == ("refused", 19, 64))
     # a finish by rule W3 that answers +0
     answer = both_steps(State(sigma, ONE, 0, 65, 1, 0), [0] * 64 + [SIGN | ONE], 0)
     expect("+0 by rule W3", answer == ("done", 0, 1), answer)
-    # a restart that looks at a block not taken, in readings' own numbers
-    area = [0] * 128 + [bits(2.0**-60)]
-    answer = both_steps(State(sigma, 0, 0, 129, 3, 0), area, 0)
-    answer = both_steps(answer[1], area, 1)
-    expect("restart", answer == ("more", State(bits(2.0**-52), 0, 0, 129, 7, 1)), answer)
+
+
+def check_kept_numbers():
+    """Foreign states at whose close the kept number isn't the area's largest. In the first, block 2 was neither pending nor taken: a call gives out the state
+    behind block 0, and of that one the close of before restarts where the close of now answers +0."""
+    sigma, tiny, small = bits(2.0**8), bits(2.0**-60), bits(2.0**-70)
+    area = [0] * 128 + [tiny]
+    given_out = both_steps(State(sigma, 0, 0, 129, 3, 0), area, 0)
+    expect("given out", given_out == ("more", State(sigma, 0, 0, 129, 2, 0), 0) and area == [0] * 128 + [tiny], given_out)
+    s, restart = given_out[1], State(bits(2.0**-52), 0, 0, 129, 7, 1)
+    expect("before", step(s, list(area), 1, 0, former_close) == Doubles(s, area, former=True).step(1) == ("more", restart, 0))
+    expect("now", both_steps(s, area, 1) == ("done", 0, 1))
+    # it alone decides: with nothing left a round begins, and one too small for what is left is followed by 19
+    area = [0] * 129
+    answer = both_steps(s._replace(largest=tiny), area, 1)
+    expect("nothing left", answer == ("more", restart, tiny), answer)
+    expect("nothing left, before", step(s._replace(largest=tiny), list(area), 1, 0, former_close) == ("done", 0, 1))
+    area = [0] * 128 + [tiny]
+    answer = both_steps(s._replace(largest=small), area, 1)
+    expect("too small", answer == ("more", State(bits(2.0**-62), 0, 0, 129, 7, 1), small), answer)
+    expect("too small, next", both_steps(answer[1], area, 0) == ("refused", 19, 128))
+    # a restart from the number alone, larger than anything left; and from the block's own, where that is larger
+    for kept, mu in ((bits(2.0**-45), bits(2.0**-45)), (small, tiny)):
+        answer = both_steps(State(sigma, 0, 0, 1, 1, 0, 0, kept), [SIGN | tiny], 0)
+        expect("the larger", answer == ("more", State(pattern_of(sigma_of(1, mu)), 0, 0, 1, 1, 1), mu), answer)
 
 
 def check_refusals():
@@ -561,6 +640,9 @@ def check_refusals():
         ({"n": 2**64 - 1}, 9, 4), ({"rounds": 51}, 9, 8), ({"sigma": bits(2.0**8) + 1}, 1, 8), ({"sigma": SIGN | bits(2.0**8)}, 1, 8), ({"sigma": 0}, 1, 8),
         ({"sigma": nan}, 1, 8), ({"sigma": INFINITY}, 1, 8), ({"sigma": bits(2.0 ** (1001 + m))}, 1, 8), ({"t": CARRIED + 1}, 1, 8),
         ({"t": SIGN | nan}, 1, 8), ({"t": SIGN | INFINITY}, 1, 8), ({"tau": SIGN | CARRIED + 1}, 1, 8), ({"tau": nan}, 1, 8), ({"tau": INFINITY}, 1, 8),
+        ({"largest": SIGN}, 1, 8), ({"largest": SIGN | 1}, 1, 8), ({"largest": bits(2.0**-45) + 1}, 1, 8), ({"largest": bits(2.0**-45)}, 0, 7),
+        ({"largest": SIGN | bits(2.0**-45)}, 9, 8), ({"largest": nan}, 9, 8), ({"largest": SIGN | nan}, 0, 8), ({"largest": INFINITY}, 0, 8),
+        ({"largest": SIGN | INFINITY}, 0, 8), ({"largest": SIGN, "pending": 0}, 9, 8), ({"largest": SIGN, "n": 64}, 9, 4),
     ]:
         expect("refusal", both_steps(s._replace(**change), list(area), block) == ("refused", number, 0), change, block, number)
     expect("refusal", both_steps(s._replace(sigma=bits(2.0**7)), area, 9) == ("refused", 19, 64))
@@ -576,6 +658,10 @@ def check_refusals():
     low = pattern_of(1 << m)
     expect("least sigma", both_steps(s._replace(sigma=low), [1] * 65, 1)[0] == "done")
     expect("below it", both_steps(s._replace(sigma=low // 2), [0] * 65, 1) == ("refused", 8, 0))
+    # eps times sigma in units: below 2^53 of them it is less than one, and from there on each unit more is too much
+    for k, kept, refused in ((m, 1, True), (52, 0, False), (52, 1, True), (53, 1, False), (53, 2, True), (54, 2, False), (54, 3, True), (60, 129, True)):
+        answer = both_steps(s._replace(sigma=pattern_of(1 << k), largest=kept), [0] * 65, 1)
+        expect("eps times sigma", (answer == ("refused", 8, 0)) == refused, k, kept, answer)
 
 
 def main():
@@ -584,13 +670,15 @@ def main():
     check_witnesses(chance)
     check_refusals()
     check_foreign_witnesses()
+    check_kept_numbers()
     check_foreign(chance)
     check_lists(chance)
     rounds = sorted(k[1] for k in COUNTS if k[0] == "rounds")
     steps = {k[1]: n for k, n in COUNTS.items() if k[0] == "step"}
     for difference in DIFFERENCES[:9]:
         print(*(text if len(text) < 500 else text[:500] + " .." for text in map(str, difference)))
-    print(f"walk: {COUNTS['lists']} lists with rounds {rounds}, {COUNTS['steps']} foreign steps {steps}; {COUNTS['checks']} checks, {len(DIFFERENCES)} differences")
+    runs = f"{COUNTS['lists']} lists with rounds {rounds}, {COUNTS['restarts']} restarts held to those of before"
+    print(f"walk: {runs}, {COUNTS['steps']} foreign steps {steps}; {COUNTS['checks']} checks, {len(DIFFERENCES)} differences")
     return 1 if DIFFERENCES else 0
 
 

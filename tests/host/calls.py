@@ -241,8 +241,8 @@ def parted(data, area, out):
 
 # ---- the walk
 def ten(answer):
-    """A walk in ten numbers: 1, the state's seven and two zeros; or 2, the sum's pattern, the rounds and zeros."""
-    return packed(([1, *answer[1]] if answer[0] == "more" else [2, *answer[1:]]) + [0] * TEN)[: SIZE * TEN]
+    """A walk in ten numbers: 1, the state's eight and what is told; or 2, the sum's pattern, the rounds and seven zeros."""
+    return packed([1, *answer[1], answer[2]] if answer[0] == "more" else [2, *answer[1:], *[0] * 7])
 
 
 def started(call, data, work, values, ensemble=0):
@@ -263,7 +263,7 @@ def started(call, data, work, values, ensemble=0):
 def step_of(numbers, area, block, ensemble, total=None):
     """A step on a state's numbers, however many; the model's answer, and the area afterwards. The exact sum is given where the step is one of a walk."""
     arrays, after = [packed(numbers), packed(area)], list(area)
-    answer = walk.step(walk.State(*numbers[1:8]), after, block, ensemble) if len(numbers) == TEN else ("refused", 4, 0)
+    answer = walk.step(walk.State(*numbers[1:9]), after, block, ensemble) if len(numbers) == TEN else ("refused", 4, 0)
 
     def model():
         return [ten(accepted(answer)), packed(after)], (0, SIZE, total) if answer[0] == "done" and total is not None else None
@@ -271,9 +271,9 @@ def step_of(numbers, area, block, ensemble, total=None):
     return asked("kewohiata_walk_step", arrays, model, block, ensemble), answer, after
 
 
-def stepped(s, area, block, unread=(1, 0, 0), total=None):
-    """The same on a state, for its own ensemble, with its first number and its last two, which are of no effect."""
-    return step_of([unread[0], *s, *unread[1:]], area, block, s.ensemble, total)
+def stepped(s, area, block, unread=(1, 0), total=None):
+    """The same on a state, for its own ensemble, with the first number and the last, which are of no effect."""
+    return step_of([unread[0], *s, unread[1]], area, block, s.ensemble, total)
 
 
 # ---- registers

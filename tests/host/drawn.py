@@ -109,7 +109,9 @@ def spoiled(chance):
     numbers += [INFINITY, turn(chance) | INFINITY | 1]
     few = {"n": [0, n - 1, n + 1, n + 2**32, LENGTH + 1, ONES], "pending": [0, first.pending << 1, ONES]}
     few["rounds"] = [51, 52, 2**32 - 1, 2**32, first.rounds + 2**32, ONES]
-    for what in chance.sample(["sigma", "t", "tau", "n", "pending", "rounds", "area", "length"], chance.randint(1, 2)):
+    most = walk.pattern_of(walk.units(first.sigma) >> 53)
+    few["largest"] = [most + 1, SIGN, SIGN | most, SIGN | first.largest, walk.largest(area), *numbers]
+    for what in chance.sample(["sigma", "t", "tau", "n", "pending", "rounds", "largest", "area", "length"], chance.randint(1, 2)):
         if what == "area":
             area[chance.randrange(len(area))] = chance.choice(numbers)
         elif what == "length":

@@ -23,9 +23,10 @@ def strangers(chance):
         s, wide = BASE._replace(n=n, pending=pending, **numbers), chance.choice([1 << 32, 1 << 33, 1 << 63, ONES - ONES % 2**32])
         for block in (0, 1, 2):
             for own, named in [(s.ensemble, chance.choice(others(s.ensemble))), (s.ensemble | wide, s.ensemble), (wide, 0)]:
-                yield step_of([*unread(chance)[:1], *s[:6], own, *unread(chance)[1:]], area, block, named)[0]
+                first, last = unread(chance)
+                yield step_of([first, *s._replace(ensemble=own), last], area, block, named)[0]
     for named in others(BASE.ensemble):
-        yield step_of([1, *BASE, 0, 0], BASE_AREA, 1, named)[0]
+        yield step_of([1, *BASE, 0], BASE_AREA, 1, named)[0]
 
 
 # ---- side by side
@@ -48,8 +49,8 @@ class Ensemble:
         return self.answer[0] == "more"
 
     def numbers(self, chance):
-        first, *last = unread(chance)
-        return [first, *self.answer[1], *last]
+        first, last = unread(chance)
+        return [first, *self.answer[1], last]
 
     def step(self, chance):
         block = self.order(self.answer[1].pending, turn(chance))

@@ -147,6 +147,7 @@ def register_rounds(chance):
 
 # ---- states that no call gave out
 SIGMA, SMALL, HALF = 0x407 << 52, 0x3C3 << 52, 0x7BE << 52
+EPS_SIGMA = 0x3D2 << 52  # 2^-45: the largest remainder that a round of SIGMA leaves
 TOP_SIGMA = 0x7EE << 52  # 2^1007: the largest of 65 numbers
 
 
@@ -163,7 +164,7 @@ WITNESSES = [
     witness(65, TOP_SIGMA, 0, walk.CARRIED, 3, 0, MAGNITUDE, 0, MAGNITUDE),  # tau above 2^1012, and then 8
     witness(65, SIGMA, 0x3D4 << 52, 0, 1, 0, 0, 64, ONE),  # a block not taken that is too large after rule W4
     witness(65, SIGMA, ONE, 0, 1, 0, 0, 64, SIGN | ONE),  # a finish by rule W3 that answers +0
-    witness(129, SIGMA, 0, 0, 3, 0, 0, 128, SMALL),  # a restart by a block not taken
+    witness(129, SIGMA, 0, 0, 3, 0, 0, 128, SMALL),  # +0, though a block that was not taken has something left
     witness(65, 128, SIGN, SIGN, 2, 0, 1, 0, 1),  # the least sigma
     witness(65, 64, SIGN, SIGN, 2, 0, 0, 0, 0),  # half of it
     witness(65, TOP_SIGMA, 0, walk.CARRIED, 3, 0, HALF, 63, HALF + 2**51),  # a tau that depends on the order inside a block
@@ -176,7 +177,7 @@ def state_witnesses(chance):
         yield from several(s, area, walk.rising, itertools.repeat(0))
 
 
-BASE = walk.State(SIGMA, SIGN, SIGN, 65, 2, 0, 0x89ABCDEF)
+BASE = walk.State(SIGMA, SIGN, SIGN, 65, 2, 0, 0x89ABCDEF, SMALL)
 BASE_AREA = [SIGN] * 64 + [0x4000000000000000]
 NANS = [INFINITY + 1, SIGN | INFINITY + 1, NAN, SIGN | NAN, NAN - 1, SIGN - 1, ONES]
 # what is changed and to which number, and the block of the step
@@ -185,7 +186,9 @@ CHANGES = [
     ("n", 64, 9), ("n", 66, 9), ("n", 0, 9), ("n", ONES, 9), ("n", 2**32 + 65, 1), ("rounds", 51, 9), ("sigma", 0x406 << 52, 9), ("sigma", SIGMA + 1, 1),
     ("sigma", SIGN | SIGMA, 1), ("sigma", 0, 1), ("sigma", INFINITY, 1), ("sigma", 0x7EF << 52, 1), ("t", walk.CARRIED + 1, 1), ("t", SIGN | INFINITY, 1),
     ("tau", SIGN | walk.CARRIED + 1, 1), ("tau", INFINITY, 1), (0, SIGN | INFINITY, 1), (0, INFINITY, 1), (63, 0x4000000000000001, 1),
-    (64, 0xC000000000000001, 1), ("", 0, 1), *((what, nan, 1) for what in ("sigma", "t", "tau", 0, 64) for nan in NANS),
+    (64, 0xC000000000000001, 1), ("", 0, 1), ("largest", 0, 1), ("largest", 1, 1), ("largest", EPS_SIGMA, 1), ("largest", EPS_SIGMA + 1, 1),
+    ("largest", SIGN, 1), ("largest", SIGN | 1, 1), ("largest", SIGN | EPS_SIGMA, 1), ("largest", SIGMA, 1), ("largest", INFINITY, 1),
+    ("largest", SIGN | INFINITY, 1), *((what, nan, 1) for what in ("sigma", "t", "tau", "largest", 0, 64) for nan in NANS),
 ]  # fmt: skip
 
 
@@ -210,9 +213,9 @@ def state_refusals(chance):
                 yield stepped(BASE._replace(n=n, pending=pending), [SIGN] * m, pending - 1)[0]
 
 
-# of a state of 65 numbers: its own, and five times one that isn't sound; two sets, and three that aren't; places at fault, in the block taken before and in
+# of a state of 65 numbers: its own, and seven times one that isn't sound; two sets, and three that aren't; places at fault, in the block taken before and in
 # the other
-NUMBERS = [{}, {"rounds": 51}, {"sigma": SIGMA + 1}, {"t": NAN}, {"tau": walk.CARRIED + 1}, {"rounds": 2**32}]
+NUMBERS = [{}, {"rounds": 51}, {"sigma": SIGMA + 1}, {"t": NAN}, {"tau": walk.CARRIED + 1}, {"rounds": 2**32}, {"largest": SIGN}, {"largest": EPS_SIGMA + 1}]
 SETS = [2, 3, 0, 4, ONES]
 PLACES = [[], [0], [63], [64], [0, 64], [5, 6, 63, 64], list(range(65))]
 
@@ -238,15 +241,15 @@ def many_rounds(chance):
 
 
 def state_lengths(chance):
-    """4 for a state of more or fewer than ten numbers, whatever it would be; and the ten of which a step reads but seven."""
+    """4 for a state of more or fewer than ten numbers, whatever it would be; and the ten of which a step reads but eight."""
     for what, number, block in [("", 0, 1), ("", 0, 0), ("", 0, 9), ("pending", 0, 1), ("rounds", 51, 1), ("rounds", ONES, 1), ("n", 66, 1)]:
         s, area = changed(what, number)
         for k in (0, 1, 6, 7, 8, 9, TEN, TEN + 1, 20):
             yield step_of([1, *s, *[0] * 13][:k], area, block, s.ensemble)[0]
             yield step_of([*s, *[0] * 14][:k], area, block, s.ensemble)[0]
     for first in (0, 1, 2, 3, ONES):
-        for last in ((0, 0), (1, 0), (0, ONES), (SIGN, 0), (ONES, ONES)):
-            yield stepped(BASE, BASE_AREA, 1, (first, *last))[0]
+        for last in (0, 1, SIGN, INFINITY, NAN, ONES):
+            yield stepped(BASE, BASE_AREA, 1, (first, last))[0]
 
 
 def ended_states(chance):
@@ -255,7 +258,7 @@ def ended_states(chance):
         for m in (0, 1, 2, 65, LENGTH):
             for block in (0, 1, ONES):
                 yield from (step_of([2, total, rounds, *[0] * 7], [SIGN] * m, block, named)[0] for named in (0, 7))
-    yield from (stepped(BASE, BASE_AREA, block, (2, 0, 0))[0] for block in (1, 0, 9))
+    yield from (stepped(BASE, BASE_AREA, block, (2, 0))[0] for block in (1, 0, 9))
 
 
 # lengths, each with its M and the set of all its blocks
@@ -283,7 +286,8 @@ def sound_state(k):
     t = carried(limit, a)
     tau = carried(limit, b) if b % 4 else t ^ SIGN
     area = [below(limit, x) for x in samples.turns(n, r)]
-    return walk.State(nearest(1 << exponent + m), t, tau, n, b >> 2 & full or full, [0, 3, 49, 50][a // 4 % 4]), area
+    kept = below(nearest(1 << exponent + m >> 53), samples.following(b)) % SIGN
+    return walk.State(nearest(1 << exponent + m), t, tau, n, b >> 2 & full or full, [0, 3, 49, 50][a // 4 % 4], 0, kept), area
 
 
 def stray(pending, chosen):

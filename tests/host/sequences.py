@@ -21,8 +21,8 @@ def number(chance):
 
 
 def unread(chance):
-    """A state's first number and its last two: a step reads none of them."""
-    return [turn(chance) for _ in range(3)]
+    """A state's first number and its last, what was told: a step reads neither."""
+    return [turn(chance) for _ in range(2)]
 
 
 # ---- lists

@@ -12,7 +12,7 @@ use Rattle.calls.specs.Calls.{placeCode}
 -- ---- what is returned: 0, or a refusal's code
 abbrev pub codeOf : Heard → ℕ
 codeOf (refused k p) = k + placeCode p
-codeOf (more sigma t tau n pending rounds ensemble) = 0
+codeOf (more sigma t tau n pending rounds ensemble largest told) = 0
 codeOf (done x rounds) = 0
 codeOf (nearest x) = 0
 codeOf (parts b) = 0
@@ -23,7 +23,7 @@ codeOf (rescued written taken missing over) = 0
 -- ---- rule C10: the values that an accepted call writes to its array of numbers; a refused one leaves it
 abbrev pub valuesOf : Heard → List ℕ → List ℕ
 valuesOf (refused k p) before = before
-valuesOf (more sigma t tau n pending rounds ensemble) before = before
+valuesOf (more sigma t tau n pending rounds ensemble largest told) before = before
 valuesOf (done x rounds) before = x ∷ rounds ∷ []
 valuesOf (nearest x) before = x ∷ []
 valuesOf (parts b) before = cond b 1 0 ∷ []

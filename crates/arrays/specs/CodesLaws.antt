@@ -29,7 +29,7 @@ heard-row h (accepts A) = by h A
   where
     by : (h : Heard) → Accepts h → codeOf h ≡ 0
     by (refused k p) A = absurd (A k p refl)
-    by (more a b c d e f g) A = refl
+    by (more a b c d e f g h i) A = refl
     by (done x r) A = refl
     by (nearest x) A = refl
     by (parts b) A = refl
@@ -39,7 +39,7 @@ heard-row h (accepts A) = by h A
 
 heard-some : (h : Heard) → (c : ℕ) × HeardWhen h c
 heard-some (refused k p) = (_, refuses k p refl)
-heard-some (more a b c d e f g) = (_, accepts (λ k p e. apart (cc)))
+heard-some (more a b c d e f g h i) = (_, accepts (λ k p e. apart (cc)))
 heard-some (done x r) = (_, accepts (λ k p e. apart (cc)))
 heard-some (nearest x) = (_, accepts (λ k p e. apart (cc)))
 heard-some (parts b) = (_, accepts (λ k p e. apart (cc)))
@@ -85,7 +85,7 @@ module _ (n L other : ℕ) (h : Heard) {code : ℕ} (right : L ≡ n → code �
 -- ---- what a refusal leaves
 pub refused-code : (h : Heard) → (codeOf h ≡ 0 → ⊥) → (k : ℕ) × (p : Place) × (h ≡ refused k p)
 refused-code (refused k p) n = (k, p, refl)
-refused-code (more a b c d e f g) n = absurd (n refl)
+refused-code (more a b c d e f g h i) n = absurd (n refl)
 refused-code (done x r) n = absurd (n refl)
 refused-code (nearest x) n = absurd (n refl)
 refused-code (parts b) n = absurd (n refl)

@@ -27,7 +27,7 @@ fn answer(numbers: &[u64], work: &mut [f64], out: &mut [u8]) -> u32
             0
         }
         Step::Refused(number, place) => calls::refusal(number, place),
-        Step::More(_) => 0,
+        Step::More(_, _) => 0,
     }
 }
 

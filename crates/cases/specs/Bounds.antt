@@ -12,13 +12,13 @@ use Rattle.cases.specs.Calls.{opening, step, faithfulSum, nearestSum, su
 
 -- a state with t = tau = +0; one with a given t and tau, and one with a given sigma, of one number
 abbrev opened : ℕ → ℕ → ℕ → Given
-opened n pending rounds = record { sigma = 0x4070000000000000; t = 0; tau = 0; n = n; pending = pending; rounds = rounds; ensemble = 7 }
+opened n pending rounds = record { sigma = 0x4070000000000000; t = 0; tau = 0; n = n; pending = pending; rounds = rounds; ensemble = 7; largest = 0 }
 
 abbrev carrying : ℕ → ℕ → Given
-carrying t tau = record { sigma = 0x4070000000000000; t = t; tau = tau; n = 1; pending = 1; rounds = 0; ensemble = 7 }
+carrying t tau = record { sigma = 0x4070000000000000; t = t; tau = tau; n = 1; pending = 1; rounds = 0; ensemble = 7; largest = 0 }
 
 abbrev sized : ℕ → Given
-sized sigma = record { sigma = sigma; t = 0; tau = 0; n = 1; pending = 1; rounds = 0; ensemble = 7 }
+sized sigma = record { sigma = sigma; t = 0; tau = 0; n = 1; pending = 1; rounds = 0; ensemble = 7; largest = 0 }
 
 -- 62 zeros behind two numbers, and a block of 2^-107; the area behind 1 and 2^-53 before them; a state in that list's first round
 abbrev tiny : List ℕ
@@ -27,15 +27,16 @@ tiny = replicate 62 0 ++ replicate 64 0x3940000000000000
 abbrev chained : List ℕ
 chained = (0 ∷ 0x3CA0000000000000 ∷ []) ++ tiny
 
-abbrev half : ℕ → ℕ → Given
-half pending tau = record { sigma = 0x4070000000000000; t = 0; tau = tau; n = 128; pending = pending; rounds = 0; ensemble = 7 }
+abbrev half : ℕ → ℕ → ℕ → Given
+half pending tau largest =
+    record { sigma = 0x4070000000000000; t = 0; tau = tau; n = 128; pending = pending; rounds = 0; ensemble = 7; largest = largest }
 
 unfoldable pub bounds : List Case
 bounds =
     -- rules WS4 and WS11: the 51st round may close and go on, and its state is not sound
     record {
       call = step (opened 1 1 50) (0x3C30000000000000 ∷ []) 7 0;
-      expected = outcome (more 0x3C50000000000000 0 0 1 1 51 7) (0x3C30000000000000 ∷ []);
+      expected = outcome (more 0x3C50000000000000 0 0 1 1 51 7 0 0x3C30000000000000) (0x3C30000000000000 ∷ []);
     }
     ∷ record { call = step (opened 1 1 51) (0x3C30000000000000 ∷ []) 7 0; expected = outcome (refused 8 nowhere) (0x3C30000000000000 ∷ []) }
     -- rule WS7
@@ -83,13 +84,13 @@ bounds =
     ∷ record { call = step (opened 0 1 0) [] 7 0; expected = outcome (refused 8 nowhere) [] }
     ∷ record {
       call = step (opened 4094 (2 ^ 63 + 1) 0) (replicate 4094 0) 7 63;
-      expected = outcome (more 0x4070000000000000 0 0 4094 1 0 7) (replicate 4094 0);
+      expected = outcome (more 0x4070000000000000 0 0 4094 1 0 7 0 0) (replicate 4094 0);
     }
     ∷ record { call = step (opened 4095 1 0) (replicate 4095 0) 7 0; expected = outcome (refused 8 nowhere) (replicate 4095 0) }
     -- rule L8: block 0 of 65 leaves the last place
     ∷ record {
       call = step (opened 65 3 0) (replicate 65 0x3FF0000000000000) 7 0;
-      expected = outcome (more 0x4070000000000000 0 0x4050000000000000 65 2 0 7) (replicate 64 0 ++ (0x3FF0000000000000 ∷ []));
+      expected = outcome (more 0x4070000000000000 0 0x4050000000000000 65 2 0 7 0 0) (replicate 64 0 ++ (0x3FF0000000000000 ∷ []));
     }
     -- rules R6 and R7; and an area of another length, rule R4
     ∷ record {
@@ -104,7 +105,7 @@ bounds =
     -- rule L5, both ends: sigma is 2^1002
     ∷ record {
       call = opening 7 (0x7E70000000000000 ∷ 0xFE70000000000000 ∷ []);
-      expected = outcome (more 0x7E90000000000000 0 0 2 1 0 7) (0x7E70000000000000 ∷ 0xFE70000000000000 ∷ []);
+      expected = outcome (more 0x7E90000000000000 0 0 2 1 0 7 0 0) (0x7E70000000000000 ∷ 0xFE70000000000000 ∷ []);
     }
     ∷ record { call = opening 7 (0 ∷ 0xFE70000000000001 ∷ []); expected = outcome (refused 3 (at 1)) (beforehand ∷ beforehand ∷ []) }
     -- rule WO3: mu of a list without a positive number
@@ -161,26 +162,26 @@ bounds =
     }
     -- rule E4: T goes through both blocks in one chain, in the undivided call and in the steps that take block 1 or block 0 last
     ∷ record { call = faithfulSum ((0x3FF0000000000000 ∷ 0x3CA0000000000000 ∷ []) ++ tiny); expected = outcome (done 0x3FF0000000000000 1) chained }
-    ∷ record { call = step (half 2 0x3FF0000000000000) chained 7 1; expected = outcome (done 0x3FF0000000000000 1) chained }
+    ∷ record { call = step (half 2 0x3FF0000000000000 0x3CA0000000000000) chained 7 1; expected = outcome (done 0x3FF0000000000000 1) chained }
     ∷ record {
-      call = step (half 1 0) ((0x3FF0000000000000 ∷ 0x3CA0000000000000 ∷ []) ++ tiny) 7 0;
+      call = step (half 1 0 0x3940000000000000) ((0x3FF0000000000000 ∷ 0x3CA0000000000000 ∷ []) ++ tiny) 7 0;
       expected = outcome (done 0x3FF0000000000000 1) chained;
     }
     -- rule L8: 64 numbers are one block, 65 are two; block 1 of 64 is none, and in no sound set (rule R18)
     ∷ record {
       call = opening 7 (replicate 64 0x3FF0000000000000);
-      expected = outcome (more 0x4060000000000000 0 0 64 1 0 7) (replicate 64 0x3FF0000000000000);
+      expected = outcome (more 0x4060000000000000 0 0 64 1 0 7 0 0) (replicate 64 0x3FF0000000000000);
     }
     ∷ record {
       call = opening 7 (replicate 65 0x3FF0000000000000);
-      expected = outcome (more 0x4060000000000000 0 0 65 3 0 7) (replicate 65 0x3FF0000000000000);
+      expected = outcome (more 0x4060000000000000 0 0 65 3 0 7 0 0) (replicate 65 0x3FF0000000000000);
     }
     ∷ record { call = step (opened 64 1 0) (replicate 64 0) 7 1; expected = outcome (refused 6 nowhere) (replicate 64 0) }
     ∷ record { call = step (opened 64 3 0) (replicate 64 0) 7 0; expected = outcome (refused 18 nowhere) (replicate 64 0) }
     -- rule L7: M is 3 for three numbers, the first power of two that isn't below 5
     ∷ record {
       call = opening 7 (replicate 3 0x3FF0000000000000);
-      expected = outcome (more 0x4020000000000000 0 0 3 1 0 7) (replicate 3 0x3FF0000000000000);
+      expected = outcome (more 0x4020000000000000 0 0 3 1 0 7 0 0) (replicate 3 0x3FF0000000000000);
     }
     -- rules L4 and R1
     ∷ record { call = nearestSum (replicate 4094 0); expected = outcome (nearest 0) [] }

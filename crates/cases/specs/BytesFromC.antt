@@ -12,7 +12,7 @@ use Rattle.kinds.specs.Outcome.{outcome}
 use Rattle.judge.specs.Judge.{faultOf, firstFault, judged, zeroSign}
 use Rattle.register.specs.Register.{enter}
 use Rattle.octets.specs.Octets.{eights, joined}
-use Rattle.extract.specs.Extract.{remainders, gathered, lastSum, largest}
+use Rattle.extract.specs.Extract.{remainders, gathered, lastSum, largest, largestWith}
 use Rattle.exponent.specs.Power.{powerOf}
 use Rattle.sound.specs.Sound as N
 use Rattle.rounds.specs.Round as R
@@ -27,7 +27,7 @@ minusOne = replicate 6 0 ++ 0xF0 ∷ 0xBF ∷ []
 pub sum-in-bytes : faithfulCall minusOne (replicate 16 7) ≡ outcome 0 (minusOne ++ 1 ∷ replicate 7 0)
 unfolding sumCall answered eights joined number digits judged firstFault faultOf W.openedAfter W.steppedAfter W.taken W.rising W.roundsFrom
     R.turned R.fresh R.scaled R.finished R.closedBy
-    N.soundSigma N.atMost N.soundNumbers N.soundPending N.badPlace N.sound N.gated remainders gathered lastSum largest powerOf ceil
+    N.soundSigma N.atMost N.soundLargest N.soundNumbers N.soundPending N.badPlace N.sound N.gated remainders gathered lastSum largest largestWith powerOf ceil
     magnitude negative nearestFloat ofBits toBits add sub mul le eq
 sum-in-bytes = refl
 

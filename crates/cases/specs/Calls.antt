@@ -10,6 +10,7 @@ use Rattle.kinds.specs.Heard.{Heard, stepHeard, nearestHeard, partedHeard, entr
 use Rattle.register.specs.Register.{added, withdrawn, rounded}
 use Rattle.register.specs.Merge.{merged}
 use Rattle.kinds.specs.States.{stateOf}
+use Rattle.kinds.specs.declared.State.{State}
 use Rattle.walk.specs.Walk.{Walked, opened, stepped, faithfulOf}
 use Rattle.sums.specs.Sums.{nearestOf, partsOf}
 use Rattle.sheet.specs.Sheet.{readOf}
@@ -35,7 +36,7 @@ least = replicate 32 0 ++ (2 ^ 63 ∷ [])
 abbrev pub greatest : List ℕ
 greatest = replicate 32 (2 ^ 64 - 1) ++ ((2 ^ 63 - 1) ∷ [])
 
--- a state by the patterns of its sigma, t and tau; n, the pending set and the rounds closed
+-- a state by the patterns of its sigma, t and tau; n, the pending set, the rounds closed and the ensemble; the pattern of its largest remainder
 pub record Given : Type 0 where
   pub sigma : ℕ
   pub t : ℕ
@@ -44,6 +45,12 @@ pub record Given : Type 0 where
   pub pending : ℕ
   pub rounds : ℕ
   pub ensemble : ℕ
+  pub largest : ℕ
+
+abbrev pub givenState : Given → State
+givenState s =
+    stateOf (s .n) (ofBits binary64 (s .sigma)) (ofBits binary64 (s .t)) (ofBits binary64 (s .tau)) (s .pending) (s .rounds) (s .ensemble)
+    (ofBits binary64 (s .largest))
 
 pub data Call : Type 0 where
   -- the faithful sum of a list by the undivided call; the same with an area of a length of its own
@@ -78,7 +85,7 @@ pub data Call : Type 0 where
 abbrev pub Result : Type 0
 Result = Outcome Heard ℕ
 
-abbrev walkResult : Walked → Result
+abbrev pub walkResult : Walked → Result
 walkResult w = outcome (stepHeard doubles (w .answer)) (map (toBits binary64) (w .area))
 
 unfoldable pub resultOf : Call → Result
@@ -86,8 +93,7 @@ resultOf (faithfulSum ps) = walkResult (faithfulOf doubles ps (replicate (length
 resultOf (faithfulWithin ps m) = walkResult (faithfulOf doubles ps (replicate m (ofBits binary64 beforehand)))
 resultOf (opening k ps) = walkResult (opened doubles k ps (replicate (length ps) (ofBits binary64 beforehand)))
 resultOf (step s ps k b) =
-    let given = stateOf (s .n) (ofBits binary64 (s .sigma)) (ofBits binary64 (s .t)) (ofBits binary64 (s .tau)) (s .pending) (s .rounds) (s .ensemble) in
-    walkResult (stepped doubles given k b (map (ofBits binary64) ps))
+    walkResult (stepped doubles (givenState s) k b (map (ofBits binary64) ps))
 resultOf (nearestSum ps) = outcome (nearestHeard doubles (nearestOf doubles ps)) []
 resultOf (sumInParts ps k) =
     let s = partsOf doubles ps (replicate k (ofBits binary64 beforehand)) in

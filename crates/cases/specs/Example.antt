@@ -23,7 +23,7 @@ use Rattle.kinds.specs.declared.Verdict.{Verdict}
 use Rattle.kinds.specs.declared.Verdict.the-variants.{Good, Refused}
 use Rattle.lists.specs.Every.{every}
 use Rattle.judge.specs.Judge.{faultOf, firstFault, judged, zeroSign}
-use Rattle.extract.specs.Extract.{remainders, gathered, lastSum, largest}
+use Rattle.extract.specs.Extract.{remainders, gathered, lastSum, largest, largestWith}
 use Rattle.exponent.specs.Power.{powerOf}
 use Rattle.sound.specs.Sound as N
 use Rattle.rounds.specs.Round as R
@@ -62,7 +62,7 @@ allowed = refl
 run : (xs : List Float) → W.roundsFrom doubles 1 51 (W.openedAfter doubles 0 Good three xs) ≡ outcome (Done one 2) threeZeros
 unfolding
     W.openedAfter W.steppedAfter W.taken W.rising W.roundsFrom R.turned R.fresh R.scaled R.finished R.closedBy
-    N.soundSigma N.atMost N.soundNumbers N.soundPending N.badPlace N.sound N.gated remainders gathered lastSum largest powerOf ceil
+    N.soundSigma N.atMost N.soundLargest N.soundNumbers N.soundPending N.badPlace N.sound N.gated remainders gathered lastSum largest largestWith powerOf ceil
     nearestFloat value ofBits toBits add sub mul le eq
 run xs = refl
 
@@ -97,7 +97,7 @@ unequal-allowed = refl
 unequal-run : (xs : List Float) → W.roundsFrom doubles 1 51 (W.openedAfter doubles 0 Good unequal xs) .answer ≡ Done one 1
 unfolding
     W.openedAfter W.steppedAfter W.taken W.rising W.roundsFrom R.turned R.fresh R.scaled R.finished R.closedBy
-    N.soundSigma N.atMost N.soundNumbers N.soundPending N.badPlace N.sound N.gated remainders gathered lastSum largest powerOf ceil
+    N.soundSigma N.atMost N.soundLargest N.soundNumbers N.soundPending N.badPlace N.sound N.gated remainders gathered lastSum largest largestWith powerOf ceil
     nearestFloat value ofBits toBits add sub mul le eq
 unequal-run xs = refl
 

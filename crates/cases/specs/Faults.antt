@@ -10,10 +10,10 @@ use Rattle.cases.specs.Calls.{Given, Case, beforehand, byteBeforehand, l
 use Rattle.cases.specs.Calls.{faithfulWithin, step, nearestSum, sumInParts, add, withdraw, round, merge, sheet, write, rescue, handOn, grading}
 
 abbrev numbered : ℕ → ℕ → Given
-numbered n pending = record { sigma = 0x4070000000000000; t = 0; tau = 0; n = n; pending = pending; rounds = 0; ensemble = 7 }
+numbered n pending = record { sigma = 0x4070000000000000; t = 0; tau = 0; n = n; pending = pending; rounds = 0; ensemble = 7; largest = 0 }
 
 abbrev closedRounds : ℕ → ℕ → Given
-closedRounds rounds pending = record { sigma = 0x4070000000000000; t = 0; tau = 0; n = 1; pending = pending; rounds = rounds; ensemble = 7 }
+closedRounds rounds pending = record { sigma = 0x4070000000000000; t = 0; tau = 0; n = 1; pending = pending; rounds = rounds; ensemble = 7; largest = 0 }
 
 unfoldable pub faults : List Case
 faults =

@@ -16,7 +16,7 @@ use Rattle.judge.specs.Judge.{faultOf, firstBad, firstFault, judged, zeroSign}
 use Rattle.register.specs.Register.{enter, rounded}
 use Rattle.register.specs.Merge as G
 use Rattle.octets.specs.Octets.{eights, joined}
-use Rattle.extract.specs.Extract.{remainders, gathered, lastSum, largest}
+use Rattle.extract.specs.Extract.{remainders, gathered, lastSum, largest, largestWith}
 use Rattle.exponent.specs.Power.{powerOf}
 use Rattle.sound.specs.Sound as N
 use Rattle.rounds.specs.Round as R
@@ -61,20 +61,20 @@ opens = refl
 
 pub goes-on : stepArrays begun copied 7 0 ≡ returned 0 zeros further
 unfolding stepArrays W.steppedAfter W.taken R.turned R.fresh R.scaled R.finished R.closedBy
-    N.soundSigma N.atMost N.soundNumbers N.soundPending N.badPlace N.sound N.gated remainders gathered lastSum largest powerOf ceil
+    N.soundSigma N.atMost N.soundLargest N.soundNumbers N.soundPending N.badPlace N.sound N.gated remainders gathered lastSum largest largestWith powerOf ceil
     magnitude negative nearestFloat ofBits toBits add sub mul le eq
 goes-on = refl
 
 pub finishes : stepArrays further zeros 7 0 ≡ returned 0 zeros (2 ∷ 0x4320000000000000 ∷ 2 ∷ replicate 7 0)
 unfolding stepArrays W.steppedAfter W.taken R.turned R.fresh R.scaled R.finished R.closedBy
-    N.soundSigma N.atMost N.soundNumbers N.soundPending N.badPlace N.sound N.gated remainders gathered lastSum largest powerOf ceil
+    N.soundSigma N.atMost N.soundLargest N.soundNumbers N.soundPending N.badPlace N.sound N.gated remainders gathered lastSum largest largestWith powerOf ceil
     magnitude negative nearestFloat ofBits toBits add sub mul le eq
 finishes = refl
 
 -- ---- the sums in one call: 2^51, in 2 rounds
 pub undivided : faithfulArrays numbers zeros (7 ∷ 7 ∷ []) ≡ returned 0 zeros (0x4320000000000000 ∷ 2 ∷ [])
 unfolding faithfulArrays judged firstFault faultOf W.openedAfter W.steppedAfter W.taken W.rising W.roundsFrom R.turned R.fresh R.scaled R.finished R.closedBy
-    N.soundSigma N.atMost N.soundNumbers N.soundPending N.badPlace N.sound N.gated remainders gathered lastSum largest powerOf ceil
+    N.soundSigma N.atMost N.soundLargest N.soundNumbers N.soundPending N.badPlace N.sound N.gated remainders gathered lastSum largest largestWith powerOf ceil
     magnitude negative nearestFloat ofBits toBits add sub mul le eq
 undivided = refl
 
@@ -165,27 +165,42 @@ pub four-before-twenty : gradeArrays [] 0x7FF8000000000000 [] ≡ outcome 4 []
 unfolding gradeArrays
 four-before-twenty = refl
 
--- ---- two blocks, 65 ones: block 0 leaves its 64 in tau, and a step takes tau from there. It looks at the second number to the eighth, the ensemble's, alone:
--- the others are 7
+-- ---- two blocks, 65 ones: block 0 leaves its 64 in tau, and a step takes tau from there. It looks at the second number to the ninth alone: the others are 7
 abbrev one : Float
 one = ofBits binary64 0x3FF0000000000000
 
 abbrev halfDone : List Float
 halfDone = replicate 64 (ofBits binary64 0) ++ one ∷ []
 
-pub half-way : stepArrays (7 ∷ 0x4060000000000000 ∷ 0 ∷ 0 ∷ 65 ∷ 3 ∷ 0 ∷ 7 ∷ 7 ∷ 7 ∷ []) (replicate 65 one) 7 0
+pub half-way : stepArrays (7 ∷ 0x4060000000000000 ∷ 0 ∷ 0 ∷ 65 ∷ 3 ∷ 0 ∷ 7 ∷ 0 ∷ 7 ∷ []) (replicate 65 one) 7 0
     ≡ returned 0 halfDone (1 ∷ 0x4060000000000000 ∷ 0 ∷ 0x4050000000000000 ∷ 65 ∷ 2 ∷ 0 ∷ 7 ∷ 0 ∷ 0 ∷ [])
 unfolding stepArrays W.steppedAfter W.taken R.turned R.fresh R.scaled R.finished R.closedBy
-    N.soundSigma N.atMost N.soundNumbers N.soundPending N.badPlace N.sound N.gated remainders gathered lastSum largest powerOf ceil
+    N.soundSigma N.atMost N.soundLargest N.soundNumbers N.soundPending N.badPlace N.sound N.gated remainders gathered lastSum largest largestWith powerOf ceil
     magnitude negative nearestFloat ofBits toBits add sub mul le eq
 half-way = refl
 
-pub second-half : stepArrays (7 ∷ 0x4060000000000000 ∷ 0 ∷ 0x4050000000000000 ∷ 65 ∷ 2 ∷ 0 ∷ 7 ∷ 7 ∷ 7 ∷ []) halfDone 7 1
+pub second-half : stepArrays (7 ∷ 0x4060000000000000 ∷ 0 ∷ 0x4050000000000000 ∷ 65 ∷ 2 ∷ 0 ∷ 7 ∷ 0 ∷ 7 ∷ []) halfDone 7 1
     ≡ returned 0 (replicate 65 (ofBits binary64 0)) (2 ∷ 0x4050400000000000 ∷ 1 ∷ replicate 7 0)
 unfolding stepArrays W.steppedAfter W.taken R.turned R.fresh R.scaled R.finished R.closedBy
-    N.soundSigma N.atMost N.soundNumbers N.soundPending N.badPlace N.sound N.gated remainders gathered lastSum largest powerOf ceil
+    N.soundSigma N.atMost N.soundLargest N.soundNumbers N.soundPending N.badPlace N.sound N.gated remainders gathered lastSum largest largestWith powerOf ceil
     magnitude negative nearestFloat ofBits toBits add sub mul le eq
 second-half = refl
+
+-- rules WS14 and C11: a round that closes over 2^-60 and restarts tells it in the tenth number and keeps +0 in the ninth, where a step reads what is kept
+abbrev keeping : ℕ → List ℕ
+keeping largest = 7 ∷ 0x4070000000000000 ∷ 0 ∷ 0 ∷ 1 ∷ 1 ∷ 0 ∷ 7 ∷ largest ∷ 7 ∷ []
+
+pub restarts : stepArrays (keeping 0x3C30000000000000) (ofBits binary64 0 ∷ []) 7 0
+    ≡ returned 0 (ofBits binary64 0 ∷ []) (1 ∷ 0x3C50000000000000 ∷ 0 ∷ 0 ∷ 1 ∷ 1 ∷ 1 ∷ 7 ∷ 0 ∷ 0x3C30000000000000 ∷ [])
+unfolding stepArrays W.steppedAfter W.taken R.turned R.fresh R.scaled R.finished R.closedBy
+    N.soundSigma N.atMost N.soundLargest N.soundNumbers N.soundPending N.badPlace N.sound N.gated remainders gathered lastSum largest largestWith powerOf ceil
+    magnitude negative nearestFloat ofBits toBits add sub mul le eq
+restarts = refl
+
+-- and a NaN there is no state's
+pub kept-nan : stepArrays (keeping 0x7FF8000000000000) (ofBits binary64 0 ∷ []) 7 0 ≡ returned 8 (ofBits binary64 0 ∷ []) (keeping 0x7FF8000000000000)
+unfolding stepArrays W.steppedAfter N.soundSigma N.atMost N.soundLargest N.soundNumbers N.gated ceil magnitude negative ofBits toBits le eq
+kept-nan = refl
 
 -- rule C11: 2^32 rounds are no state's
 abbrev manyRounds : List ℕ
@@ -193,7 +208,7 @@ manyRounds = 1 ∷ 0x4660000000000000 ∷ 0 ∷ 0 ∷ 3 ∷ 1 ∷ 0x100000000 �
 
 pub rounds-of-33-bits : stepArrays manyRounds copied 7 0 ≡ returned 8 copied manyRounds
 unfolding stepArrays W.steppedAfter W.taken R.turned R.fresh R.scaled R.finished R.closedBy
-    N.soundSigma N.atMost N.soundNumbers N.soundPending N.badPlace N.sound N.gated remainders gathered lastSum largest powerOf ceil
+    N.soundSigma N.atMost N.soundLargest N.soundNumbers N.soundPending N.badPlace N.sound N.gated remainders gathered lastSum largest largestWith powerOf ceil
     magnitude negative nearestFloat ofBits toBits add sub mul le eq
 rounds-of-33-bits = refl
 
@@ -210,7 +225,8 @@ abbrev lowered : List ℕ
 lowered = 1 ∷ 0x4650000000000000 ∷ 0 ∷ 0 ∷ 3 ∷ 1 ∷ 0 ∷ 7 ∷ 0 ∷ 0 ∷ []
 
 pub work-at-place-0 : stepArrays lowered copied 7 0 ≡ returned 51 copied lowered
-unfolding stepArrays W.steppedAfter N.soundSigma N.atMost N.soundNumbers N.soundPending N.badPlace N.gated ceil magnitude negative ofBits toBits le eq
+unfolding stepArrays W.steppedAfter N.soundSigma N.atMost N.soundLargest N.soundNumbers N.soundPending N.badPlace N.gated ceil
+    magnitude negative ofBits toBits le eq
 work-at-place-0 = refl
 
 -- 2^54 + 1 in two parts adds up

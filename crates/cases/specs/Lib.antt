@@ -4,6 +4,7 @@ pub mod Table
 pub mod Bounds
 pub mod Faults
 pub mod PairRows
+pub mod Largest
 pub mod FromC
 pub mod BytesFromC
 pub mod Holds

@@ -15,7 +15,7 @@ use Rattle.ieee.specs.Units.{magnitude, negative, value, nearestFloat}
 use Rattle.ieee.specs.Accuracy.{EqualOrNeighbouring, equal, below, above}
 use Rattle.kinds.specs.Limits.{doubles}
 use Rattle.judge.specs.Judge.{faultOf, firstFault, judged}
-use Rattle.extract.specs.Extract.{remainders, gathered, lastSum, largest}
+use Rattle.extract.specs.Extract.{remainders, gathered, lastSum, largest, largestWith}
 use Rattle.exponent.specs.Power.{powerOf}
 use Rattle.sound.specs.Sound as N
 use Rattle.rounds.specs.Round as R
@@ -48,7 +48,7 @@ computed : Sum one 0x3FF0000000000000 1 (0 ∷ 0x3CA0000000000000 ∷ 0x39500000
     × Sum cancelled 0 1 (0 ∷ 0 ∷ [])
 unfolding
     judged firstFault faultOf W.openedAfter W.steppedAfter W.taken W.rising W.roundsFrom R.turned R.fresh R.scaled R.finished R.closedBy
-    N.soundSigma N.atMost N.soundNumbers N.soundPending N.badPlace N.sound N.gated remainders gathered lastSum largest powerOf ceil
+    N.soundSigma N.atMost N.soundLargest N.soundNumbers N.soundPending N.badPlace N.sound N.gated remainders gathered lastSum largest largestWith powerOf ceil
     nearestFloat value ofBits toBits add sub mul le eq
 computed = (
   undivided (map (ofBits binary64) one) refl,

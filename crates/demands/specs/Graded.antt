@@ -25,7 +25,7 @@ use Rattle.grade.specs.Promised.{faithful-claim}
 
 -- an answer of which a sum is heard is that sum
 done-is : (a : Step) (c k : ℕ) → stepHeard doubles a ≡ done c k → (x : Float) × (a ≡ Done x k) × (toBits (doubles .format) x ≡ c)
-done-is (More s) c k e = apart (cc)
+done-is (More s told) c k e = apart (cc)
 done-is (Done x r) c k e = (x, cc, cc)
 done-is (Refused r p) c k e = apart (cc)
 

@@ -1,6 +1,6 @@
 -- Rules M8 and M10: over the list of the products of accepted pairs the undivided call ends, and every faithful walk that has ended, undivided or with its
--- blocks in any order, has a sum that is faithful to the exact sum of the products; a register that took the list holds that sum; and the pairs in another order have
--- equal or neighbouring faithful sums, and everything else the same. Assumes nothing.
+-- blocks in any order, has a sum that is faithful to the exact sum of the products; a register that took the list holds that sum; the pairs in another order
+-- have equal or neighbouring faithful sums, and everything else the same. Assumes nothing.
 use mathlib.Core.Path.{_≡_, sym, ap, _∙_}
 use mathlib.Core.Bool.{true}
 use mathlib.Core.List.{List, zip, map}

@@ -1,4 +1,4 @@
--- A sound state in propositions, clause by clause: rules WS3 to WS8; and the lowest place whose number isn't sound. Definitions only.
+-- A sound state in propositions, clause by clause: rules WS3 to WS8 and WS15; and the lowest place whose number isn't sound. Definitions only.
 use mathlib.Core.Path.{_≡_}
 use mathlib.Core.Bool.{true, false}
 use mathlib.Core.List.{List}
@@ -28,7 +28,7 @@ pub record SoundSet (W : Width) (s : State) : Type 0 where
   pub inside : (b : ℕ) → blocksOf W (s .n) ≤ b → has (s .pending) b ≡ false
 
 pub record SoundState (W : Width) (s : State) (xs : List Float) : Type 0 where
-  -- rules WS3, WS4, WS6 and WS7: each is a field of `sound/Numbers`
+  -- rules WS3, WS4, WS6, WS7 and WS15: each is a field of `sound/Numbers`
   pub numbers : Numbers W s
   pub set : SoundSet W s
   -- rule WS8

@@ -1,5 +1,5 @@
--- The test of a sound state holds exactly where rules WS3 to WS8 do, and so does each of its three parts; the bad place is the lowest whose number isn't sound.
--- Assumes nothing.
+-- The test of a sound state holds exactly where rules WS3 to WS8 and WS15 do, and so does each of its three parts; the bad place is the lowest whose number
+-- isn't sound. Assumes nothing.
 use mathlib.Core.Path.{_≡_, refl}
 use mathlib.Core.Logic.{_↔_}
 use mathlib.Core.Bool.{Bool, true, false, cond}

@@ -42,7 +42,7 @@ record After (v : Verdict) (work : List Float) (w : Walked) : Type 0 where
   kept : (k i : ℕ) → v ≡ verdicts.Refused k i → w .area ≡ work
 
 back : (a : Step) (k i : ℕ) → (a ≡ Refused k i) ↔ (verdictOf a ≡ verdicts.Refused k i)
-back (More s) k i = (λ e. apart (cc), λ e. apart (cc))
+back (More s told) k i = (λ e. apart (cc), λ e. apart (cc))
 back (Done x r) k i = (λ e. apart (cc), λ e. apart (cc))
 back (Refused l j) k i = (λ e. cc, λ e. cc)
 
@@ -101,7 +101,7 @@ module _ (W : Width) (ps : List ℕ) (work : List Float) where
   open-after : (e : ℕ) (v : Verdict) → After v work (openedAfter W e v ps work)
   unfolding openedAfter
   open-after e verdicts.Good = record {
-    from = fresh-accepted W (nearestFloat (W .format) (zeroSign W ps) (pos 0)) (length ps) _ 0 e .good;
+    from = fresh-accepted W (nearestFloat (W .format) (zeroSign W ps) (pos 0)) (length ps) _ 0 e _ .good;
     kept = λ k i e. apart (cc);
   }
   open-after e (verdicts.Refused l j) = record { from = refl; kept = λ k i e. refl }

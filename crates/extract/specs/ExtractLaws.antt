@@ -1,10 +1,13 @@
 -- What a list's high parts, remainders and sum are where it is joined of two, and what its largest magnitude is and bounds. Assumes nothing.
 use mathlib.Core.Path.{_≡_, refl, _∙_}
+use mathlib.Core.Logic.{inl, inr}
 use mathlib.Core.List.{List, [], _∷_, _++_, foldl, map-append}
-use Prim.Native.Nat.{ℕ, max, _≤_}
+use Prim.Native.Nat.{ℕ, max, _*_, _≤_}
+use native.Mathlib.Nat.{mul-zero}
 use native.Mathlib.Omega.{arith}
 use lib.ListN.{length, length-map}
 use lib.Ieee.{Float, Format, add}
+use Rattle.units.specs.Powers.{le-or-lt}
 use Rattle.lists.specs.Each.{Each, each-weaker}
 use Rattle.ieee.specs.Units.{magnitude}
 use Rattle.extract.specs.Extract.{highPart, remainderOf, remainders, gathered, lastSum, plusZero, largest}
@@ -31,9 +34,20 @@ module _ (f : Format) (sigma : Float) where
   unfolding remainders
   remainders-join xs ys = map-append (remainderOf f sigma) xs ys
 
+  pub remainders-next : (xs : List Float) (x : Float) → remainders f sigma (xs ++ (x ∷ [])) ≡ remainders f sigma xs ++ (remainderOf f sigma x ∷ [])
+  unfolding remainders
+  remainders-next xs x = remainders-join xs (x ∷ [])
+
   pub remainders-length : (xs : List Float) → length (remainders f sigma xs) ≡ length xs
   unfolding remainders
   remainders-length xs = length-map xs (remainderOf f sigma)
+
+-- a bound of two numbers, each times k, bounds the larger times k
+pub max-scaled : (k c m n : ℕ) → k * m ≤ c → k * n ≤ c → k * max m n ≤ c
+max-scaled k c m n M N = elim (le-or-lt m n) [
+  | inl l ↦ let e : max m n ≡ n = omega arith in rw e N
+  | inr l ↦ let e : max m n ≡ m = omega arith in rw e M
+]
 
 module _ (f : Format) where
   -- ---- the sum
@@ -72,6 +86,11 @@ module _ (f : Format) where
   unfolding largest
   largest-le c [] h = omega arith
   largest-le c (x ∷ xs) h = let l : largest f xs ≤ c = largest-le c xs (h .1) in omega (arith, h .0)
+
+  pub largest-scaled : (k c : ℕ) (xs : List Float) → Each (λ x. k * magnitude f x ≤ c) xs → k * largest f xs ≤ c
+  unfolding largest
+  largest-scaled k c [] h = rw (mul-zero k) (omega arith)
+  largest-scaled k c (x ∷ xs) h = max-scaled k c (magnitude f x) (largest f xs) (h .0) (largest-scaled k c xs (h .1))
 
   pub largest-zero : (xs : List Float) → Each (λ x. magnitude f x ≡ 0) xs → largest f xs ≡ 0
   largest-zero xs h =

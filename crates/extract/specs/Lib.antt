@@ -2,3 +2,4 @@
 pub mod Extract
 pub mod ExtractLaws
 pub mod LargestLaws
+pub mod LargestWithLaws

@@ -1,4 +1,4 @@
-// One area of the faithful walk: taking its numbers, adding them up, and the largest magnitude. Rules WB2 and F8: on f64, rounded once each.
+// One area of the faithful walk: taking its numbers, with the largest of their remainders, and adding them up. Rules WB2 and F8: on f64, rounded once each.
 use kinds::SIGN;
 ghost use mathlib.Core.Path.{_≡_};
 ghost use mathlib.Core.Bool.{false};
@@ -6,28 +6,44 @@ ghost use lib.Dec.{T};
 ghost use lib.Ieee.{binary64};
 ghost use lib.Ieee.Scale.{finite};
 ghost use Rattle.lists.specs.Each.{Each};
-ghost use Rattle.ieee.specs.Units.{Is};
-ghost use Rattle.extract.specs.Extract.{gathered, remainders, lastSum, absolute, largest};
+ghost use Rattle.ieee.specs.Units.{negative};
+ghost use Rattle.extract.specs.Extract.{remainderOf, gathered, remainders, lastSum, absolute, largestWith};
 
-// What a block's high parts are gathered to.
+// What a block's high parts are gathered to, and the largest magnitude among its remainders and those of the round before it.
 pub struct Extracted {
     pub tau: f64,
+    pub largest: f64,
 }
 
-// Rule WB1, for the places of a block.
-pub fn extract(block: &mut [f64], sigma: f64, tau: f64) -> Extracted
-    ensures { λ r. ⌜ (r .tau ≡ gathered binary64 sigma tau (now (block .entry))) × (now (block .exit) ≡ remainders binary64 sigma (now (block .entry))) ⌝ }
+// Rules WB1 and WS13, for the places of a block. Patterns without their sign are in the order of their magnitudes; they are compared, and not the doubles,
+// since the greatest of several whole numbers can be taken at once. With +0 handed in it is the largest of the block alone.
+pub fn extract(block: &mut [f64], sigma: f64, tau: f64, largest: f64) -> Extracted
+    requires { ⌜ T (finite largest) × (negative largest ≡ false) × Each (λ x. T (finite (remainderOf binary64 sigma x))) (now block) ⌝ }
+    ensures { λ r. ⌜
+        (r .tau ≡ gathered binary64 sigma tau (now (block .entry)))
+        × (r .largest ≡ largestWith binary64 largest (remainders binary64 sigma (now (block .entry))))
+        × (now (block .exit) ≡ remainders binary64 sigma (now (block .entry)))
+        ⌝ }
 {
     let mut sum = tau;
+    let mut most = f64::to_bits(largest);
     let mut i = 0;
     while i < block.len() {
         let x = block[i];
         let q = (sigma + x) - sigma;
-        block[i] = x - q;
+        let rest = x - q;
+        block[i] = rest;
         sum = sum + q;
+        let m = f64::to_bits(rest) % SIGN;
+        if most < m {
+            most = m;
+        }
         i += 1;
     }
-    Extracted { tau: sum }
+    Extracted {
+        tau: sum,
+        largest: f64::from_bits(most),
+    }
 }
 
 // T of rule W3: one chain over the whole area, since in pieces it rounds otherwise (rule E4).
@@ -51,22 +67,4 @@ pub fn absolute(x: f64) -> f64
         return -x;
     }
     x
-}
-
-// mu of rule WO3: +0 of an empty area. Patterns without their sign are in the order of their magnitudes; they are compared, and not the doubles,
-// since the compiler takes the greatest whole number of several places at once.
-pub fn largest(work: &[f64]) -> f64
-    requires { ⌜ Each (λ x. T (finite x)) (now work) ⌝ }
-    ensures { λ r. ⌜ Is binary64 r false (largest binary64 (now (work .entry))) ⌝ }
-{
-    let mut most = 0;
-    let mut k = 0;
-    while k < work.len() {
-        let m = f64::to_bits(work[k]) % SIGN;
-        if most < m {
-            most = m;
-        }
-        k += 1;
-    }
-    f64::from_bits(most)
 }

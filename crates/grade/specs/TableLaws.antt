@@ -71,7 +71,7 @@ answerIn : Heard → Graded
 answerIn (refused k nowhere) = Refused k 0
 answerIn (refused k (at i)) = Refused k i
 answerIn (count n) = cond (eqb n 0) Exact (cond (eqb n 1) Nearest (cond (eqb n 2) Faithful Wrong))
-answerIn (more sigma t tau n pending rounds ensemble) = Wrong
+answerIn (more sigma t tau n pending rounds ensemble largest told) = Wrong
 answerIn (done x rounds) = Wrong
 answerIn (nearest x) = Wrong
 answerIn (parts b) = Wrong

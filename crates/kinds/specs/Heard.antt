@@ -24,8 +24,9 @@ pub data Place : Type 0 where
 
 pub data Heard : Type 0 where
   refused : ℕ → Place → Heard
-  -- the patterns of sigma, t and tau, then n, the pending set, the rounds closed and the ensemble
-  more : ℕ → ℕ → ℕ → ℕ → ℕ → ℕ → ℕ → Heard
+  -- the patterns of sigma, t and tau, then n, the pending set, the rounds closed and the ensemble, then the patterns of the largest remainder that the state
+  -- keeps, and of the one that is told
+  more : ℕ → ℕ → ℕ → ℕ → ℕ → ℕ → ℕ → ℕ → ℕ → Heard
   -- a pattern and the rounds; a pattern; whether the parts add up; a count
   done : ℕ → ℕ → Heard
   nearest : ℕ → Heard
@@ -64,8 +65,9 @@ verdictHeard (verdicts.Refused k p) = refused k (placeOf k p)
 
 -- a float is heard as its pattern
 abbrev pub stepHeard : Width → Step → Heard
-stepHeard W (steps.More s) =
+stepHeard W (steps.More s told) =
     more (toBits (W .format) (s .sigma)) (toBits (W .format) (s .t)) (toBits (W .format) (s .tau)) (s .n) (s .pending) (s .rounds) (s .ensemble)
+    (toBits (W .format) (s .largest)) (toBits (W .format) told)
 stepHeard W (steps.Done x r) = done (toBits (W .format) x) r
 stepHeard W (steps.Refused k p) = refused k (placeOf k p)
 

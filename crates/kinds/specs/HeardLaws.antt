@@ -81,7 +81,9 @@ NearestFits W (nearests.Sum x) = T (fits (W .format) x)
 NearestFits W (nearests.Refused k p) = Unit {0}
 
 abbrev pub StepFits : Width → Step → Type 0
-StepFits W (More s) = T (fits (W .format) (s .sigma)) × T (fits (W .format) (s .t)) × T (fits (W .format) (s .tau))
+StepFits W (More s told) =
+    T (fits (W .format) (s .sigma)) × T (fits (W .format) (s .t)) × T (fits (W .format) (s .tau)) × T (fits (W .format) (s .largest))
+    × T (fits (W .format) told)
 StepFits W (Done x r) = T (fits (W .format) x)
 StepFits W (Refused k p) = Unit {0}
 
@@ -93,7 +95,7 @@ module _ (W : Width) where
   nearest-heard (nearests.Refused k p) (nearests.Refused l q) A B e = refusal nearests.Refused k l p q e
 
   pub step-heard : (a b : Step) → StepFits W a → StepFits W b → stepHeard W a ≡ stepHeard W b → a ≡ b
-  step-heard (More s) (More t) A B e =
+  step-heard (More s l) (More t m) A B e =
       let x : s .sigma ≡ t .sigma = pattern-same (W .format) (A .0) (B .0) (cc) in
       let y : s .t ≡ t .t = pattern-same (W .format) (A .1) (B .1) (cc) in
       let z : s .tau ≡ t .tau = pattern-same (W .format) (A .2) (B .2) (cc) in
@@ -101,12 +103,14 @@ module _ (W : Width) where
       let b : s .pending ≡ t .pending = cc in
       let r : s .rounds ≡ t .rounds = cc in
       let k : s .ensemble ≡ t .ensemble = cc in
-      λ i. More (record { sigma = x i; t = y i; tau = z i; n = n i; pending = b i; rounds = r i; ensemble = k i })
-  step-heard (More s) (Done y r) A B e = apart (cc)
-  step-heard (More s) (Refused l q) A B e = apart (cc)
-  step-heard (Done x r) (More t) A B e = apart (cc)
+      let kept : s .largest ≡ t .largest = pattern-same (W .format) (A .3) (B .3) (cc) in
+      let told : l ≡ m = pattern-same (W .format) (A .4) (B .4) (cc) in
+      λ i. More (record { sigma = x i; t = y i; tau = z i; n = n i; pending = b i; rounds = r i; ensemble = k i; largest = kept i }) (told i)
+  step-heard (More s l) (Done y r) A B e = apart (cc)
+  step-heard (More s m) (Refused l q) A B e = apart (cc)
+  step-heard (Done x r) (More t m) A B e = apart (cc)
   step-heard (Done x r) (Done y u) A B e = let z : x ≡ y = pattern-same (W .format) A B (cc) in cc
   step-heard (Done x r) (Refused l q) A B e = apart (cc)
-  step-heard (Refused k p) (More t) A B e = apart (cc)
+  step-heard (Refused k p) (More t m) A B e = apart (cc)
   step-heard (Refused k p) (Done y u) A B e = apart (cc)
   step-heard (Refused k p) (Refused l q) A B e = refusal Refused k l p q e

@@ -35,7 +35,7 @@ at-place-0 {places} {k} h = record { number = h; place = omega arith; as-told = 
 
 -- ---- an answer of which a refusal is heard is that refusal
 pub step-is : (W : Width) (a : Step) (k : ℕ) (p : Place) → stepHeard W a ≡ refused k p → (i : ℕ) × (a ≡ steps.Refused k i)
-step-is W (steps.More s) k p e = apart (cc)
+step-is W (steps.More s m) k p e = apart (cc)
 step-is W (steps.Done x r) k p e = apart (cc)
 step-is W (steps.Refused l j) k p e = (j, cc)
 

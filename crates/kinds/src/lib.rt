@@ -14,6 +14,9 @@ pub const INFINITY: u64 = 0x7FF0_0000_0000_0000;
 // How many digits of a significand a pattern stores; its field stands above them.
 pub const DIGITS: u32 = 52;
 
+// eps is 2^-53 (rule L3): one digit more than a pattern stores.
+pub const EPS: u32 = DIGITS + 1;
+
 // The pattern of 2^-1022, the least normal number: a field of 1 over no digit. So it is the weight of a field, and of the leading digit that a pattern does
 // not store.
 pub const LEAST_NORMAL: u64 = 1 << DIGITS;
@@ -90,7 +93,8 @@ impl Doubles {
     }
 }
 
-// Rules WS1 and F1: the state of a walk, a value with three f64 fields. Rule WS12: the ensemble's number is the one given at the opening.
+// Rules WS1 and F1: the state of a walk, a value with f64 fields. Rule WS12: the ensemble's number is the one given at the opening. Rule WS13: the largest
+// magnitude among the remainders of the round so far.
 pub struct State {
     pub sigma: f64,
     pub t: f64,
@@ -99,6 +103,7 @@ pub struct State {
     pub pending: u64,
     pub rounds: u32,
     pub ensemble: u32,
+    pub largest: f64,
 }
 
 impl State {
@@ -111,8 +116,9 @@ impl State {
         pending: u64,
         rounds: u32,
         ensemble: u32,
+        largest: f64,
     ) -> Self
-        ensures { λ r. ⌜ r ≡ stateOf n sigma t tau pending rounds ensemble ⌝ }
+        ensures { λ r. ⌜ r ≡ stateOf n sigma t tau pending rounds ensemble largest ⌝ }
     {
         State {
             sigma,
@@ -122,6 +128,7 @@ impl State {
             pending,
             rounds,
             ensemble,
+            largest,
         }
     }
 }
@@ -141,9 +148,10 @@ pub enum Verdict {
     Refused(u32, u32),
 }
 
-// of an opening, a step and the undivided faithful sum: rules WS9 and F6
+// of an opening, a step and the undivided faithful sum: rules WS9 and F6. More also tells the largest remainder of the step's own round (rule WS14), which
+// isn't the one that the state keeps where that round has closed.
 pub enum Step {
-    More(State),
+    More(State, f64),
     Done(f64, u32),
     Refused(u32, u32),
 }

@@ -55,7 +55,7 @@ refusedLine k (at p) = refusedWord ++ decimalOf k ++ (atWord ++ decimalOf p) ++ 
 
 -- of a list of n numbers, from its faithful and its nearest sum. The undivided call answers no state (runs/AnswerNumbers).
 unfoldable pub sumLines : ℕ → Step → Nearest → List ℕ
-sumLines n (steps.More s) near = []
+sumLines n (steps.More s told) near = []
 sumLines n (steps.Refused k p) near = refusedLine k (placeOf k p)
 sumLines n (steps.Done x rounds) (nearests.Refused k p) = refusedLine k (placeOf k p)
 sumLines n (steps.Done x rounds) (nearests.Sum y) =

@@ -14,9 +14,9 @@ use Rattle.sums.specs.Sums.{nearestOf}
 use Rattle.lines.specs.Lines.{countLine, faithfulLine, nearestLine, refusedLine, sumLines, listLines}
 
 module _ (ps : List ℕ) (work : List Float) where
-  pub lines-more : (s : State) → faithfulOf doubles ps work .answer ≡ steps.More s → listLines ps work ≡ []
+  pub lines-more : (s : State) (told : Float) → faithfulOf doubles ps work .answer ≡ steps.More s told → listLines ps work ≡ []
   unfolding listLines sumLines
-  lines-more s e = rw e
+  lines-more s told e = rw e
 
   pub lines-refused : (k p : ℕ) → faithfulOf doubles ps work .answer ≡ steps.Refused k p → listLines ps work ≡ refusedLine k (placeOf k p)
   unfolding listLines sumLines

@@ -20,7 +20,7 @@ fn summed(list: &[u64], work: &mut [f64], text: &mut [u8]) -> usize
     ensures lines { λ r. ⌜ Placed (listLines (now (list .entry)) (now (work .entry))) 0 (now (text .entry)) r (now (text .exit)) ⌝ }
 {
     match walk::faithful(list, work) {
-        Step::More(_) => 0,
+        Step::More(_, _) => 0,
         Step::Refused(k, place) => line::refused(text, k, place),
         Step::Done(sum, rounds) => match sums::nearest(list) {
             Nearest::Refused(k, place) => line::refused(text, k, place),

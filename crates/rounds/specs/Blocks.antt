@@ -11,19 +11,23 @@ use lib.Ieee.{Float}
 use Rattle.lists.specs.BitsetLaws.{without-from}
 use Rattle.kinds.specs.Limits.{Width, blocksOf}
 use Rattle.kinds.specs.declared.State.{State}
-use Rattle.extract.specs.Extract.{remainders, gathered}
+use Rattle.extract.specs.Extract.{remainders, gathered, largestWith}
 use Rattle.extract.specs.ExtractLaws.{gathered-none, gathered-join, remainders-none, remainders-join, remainders-length}
+use Rattle.extract.specs.LargestWithLaws.{with-none, with-join}
 use Rattle.rounds.specs.Round.{blockOf, turned, inRound, takenState, allTaken, allLeft}
 use Rattle.rounds.specs.Fitting.{Fitting}
-use Rattle.rounds.specs.Begun.{Begun}
+use Rattle.rounds.specs.Begun.{Begun, begun-largest, taken-numbers}
 
 module _ {W : Width} {F : Fitting W} {e : ℕ} {s : State} {xs : List Float} (B : Begun W F e s xs) where
   -- ---- after the first j blocks
   unfoldable pub tauAt : ℕ → Float
   tauAt j = gathered (W .format) (s .sigma) (s .tau) (take (W .block * j) xs)
 
+  unfoldable pub largestAt : ℕ → Float
+  largestAt j = largestWith (W .format) (s .largest) (remainders (W .format) (s .sigma) (take (W .block * j) xs))
+
   unfoldable pub stateAt : ℕ → State
-  stateAt j = inRound s (tauAt j) (2 ^ blocksOf W (s .n) - 2 ^ j)
+  stateAt j = inRound s (tauAt j) (largestAt j) (2 ^ blocksOf W (s .n) - 2 ^ j)
 
   unfoldable pub workAt : ℕ → List Float
   workAt j = remainders (W .format) (s .sigma) (take (W .block * j) xs) ++ drop (W .block * j) xs
@@ -50,6 +54,16 @@ module _ {W : Width} {F : Fitting W} {e : ℕ} {s : State} {xs : List Float} (B 
       rw (block-at j h, mul-suc (W .block) j, take-add (W .block * j) (W .block) xs)
       (sym (gathered-join f (s .sigma) (s .tau) (take (W .block * j) xs) (take (W .block) (drop (W .block * j) xs))))
 
+  pub next-largest : (j : ℕ) → j < blocksOf W (s .n)
+      → largestWith (W .format) (largestAt j) (remainders (W .format) (s .sigma) (blockOf W j (workAt j))) ≡ largestAt (suc j)
+  unfolding largestAt
+  next-largest j h =
+      let f = W .format in
+      let front = take (W .block * j) xs in
+      let block = take (W .block) (drop (W .block * j) xs) in
+      rw (block-at j h, mul-suc (W .block) j, take-add (W .block * j) (W .block) xs, remainders-join f (s .sigma))
+      (with-join f (begun-largest B) (remainders f (s .sigma) front) (remainders f (s .sigma) block) (taken-numbers B (W .block * j)))
+
   pub next-work : (j : ℕ) → j < blocksOf W (s .n) → turned W (s .sigma) j (workAt j) ≡ workAt (suc j)
   unfolding turned workAt
   next-work j h =
@@ -68,12 +82,14 @@ module _ {W : Width} {F : Fitting W} {e : ℕ} {s : State} {xs : List Float} (B 
 
   pub next-state : (j : ℕ) → j < blocksOf W (s .n) → takenState W (stateAt j) j (workAt j) ≡ stateAt (suc j)
   unfolding stateAt
-  next-state j h = λ i. inRound s (next-tau j h i) (without-from h i)
+  next-state j h = λ i. inRound s (next-tau j h i) (next-largest j h i) (without-from h i)
 
   -- ---- before the first block, and after the last
   pub first-state : stateAt 0 ≡ s
-  unfolding stateAt tauAt
-  first-state = rw (mul-zero (W .block), gathered-none (W .format) (s .sigma)) (λ i. inRound s (s .tau) (sym (B .pending) i))
+  unfolding stateAt tauAt largestAt
+  first-state =
+      rw (mul-zero (W .block), gathered-none (W .format) (s .sigma), remainders-none (W .format) (s .sigma))
+      (λ i. inRound s (s .tau) (with-none (W .format) (begun-largest B) i) (sym (B .pending) i))
 
   pub first-work : workAt 0 ≡ xs
   unfolding workAt
@@ -83,7 +99,7 @@ module _ {W : Width} {F : Fitting W} {e : ℕ} {s : State} {xs : List Float} (B 
   covers = omega (arith, lt-div-mul-add {a = s .n + (W .block - 1)} {b = W .block} (F .block), mul-comm (W .block) (blocksOf W (s .n)), F .block)
 
   pub last-state : stateAt (blocksOf W (s .n)) ≡ allTaken W s xs
-  unfolding stateAt tauAt
+  unfolding stateAt tauAt largestAt
   last-state = rw (take-all (W .block * blocksOf W (s .n)) xs (omega (arith, covers, B .count)), sub-self (2 ^ blocksOf W (s .n)))
 
   pub last-work : workAt (blocksOf W (s .n)) ≡ allLeft W s xs

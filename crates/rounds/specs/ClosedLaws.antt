@@ -14,12 +14,12 @@ use Rattle.kinds.specs.declared.Step.the-variants.{More, Done}
 use Rattle.rounds.specs.Round.{roundOf, freshRound, fresh, scaled, leastNormal, finished, closedBy}
 
 -- a round from mu alone, or nothing to sum
-module _ (W : Width) (zero : Float) (n mu rounds ensemble : ℕ) where
-  pub fresh-zero : eqb mu 0 ≡ true → fresh W zero n mu rounds ensemble ≡ Done zero rounds
+module _ (W : Width) (zero : Float) (n mu rounds ensemble : ℕ) (told : Float) where
+  pub fresh-zero : eqb mu 0 ≡ true → fresh W zero n mu rounds ensemble told ≡ Done zero rounds
   unfolding fresh
   fresh-zero a = rw a
 
-  pub fresh-round : eqb mu 0 ≡ false → fresh W zero n mu rounds ensemble ≡ More (freshRound W n mu rounds ensemble)
+  pub fresh-round : eqb mu 0 ≡ false → fresh W zero n mu rounds ensemble told ≡ More (freshRound W n mu rounds ensemble) told
   unfolding fresh
   fresh-round a = rw a
 
@@ -38,21 +38,21 @@ furtherRound W s = roundOf W (s .n) (scaled (W .format) (exponentOf (s .n)) (s .
 
 -- what holds of each answer that a fresh start or a close may have holds of the one that it has
 module _ (P : Step → Type 0) (W : Width) where
-  pub fresh-each : (zero : Float) (n mu rounds ensemble : ℕ) → (eqb mu 0 ≡ true → P (Done zero rounds))
-      → (eqb mu 0 ≡ false → P (More (freshRound W n mu rounds ensemble)))
-      → P (fresh W zero n mu rounds ensemble)
+  pub fresh-each : (zero : Float) (n mu rounds ensemble : ℕ) (told : Float) → (eqb mu 0 ≡ true → P (Done zero rounds))
+      → (eqb mu 0 ≡ false → P (More (freshRound W n mu rounds ensemble) told))
+      → P (fresh W zero n mu rounds ensemble told)
   unfolding fresh
-  fresh-each zero n mu rounds ensemble none some = go (eqb mu 0) refl
+  fresh-each zero n mu rounds ensemble told none some = go (eqb mu 0) refl
     where
-      go : (a : Bool) → eqb mu 0 ≡ a → P (cond a (Done zero rounds) (More (freshRound W n mu rounds ensemble)))
+      go : (a : Bool) → eqb mu 0 ≡ a → P (cond a (Done zero rounds) (More (freshRound W n mu rounds ensemble) told))
       go true a = none a
       go false a = some a
 
   module _ (mu : ℕ) (s : State) (xs : List Float) where
-    pub closed-each : (eq (tau1Of W s) (plusZero (W .format)) ≡ true → P (fresh W (plusZero (W .format)) (s .n) mu (s .rounds + 1) (s .ensemble)))
+    pub closed-each : (eq (tau1Of W s) (plusZero (W .format)) ≡ true → P (fresh W (plusZero (W .format)) (s .n) mu (s .rounds + 1) (s .ensemble) (s .largest)))
         → (eq (tau1Of W s) (plusZero (W .format)) ≡ false → finishes W s ≡ true
         → P (Done (finished (W .format) (tau1Of W s) (s .t) (s .tau) xs) (s .rounds + 1)))
-        → (eq (tau1Of W s) (plusZero (W .format)) ≡ false → finishes W s ≡ false → P (More (furtherRound W s)))
+        → (eq (tau1Of W s) (plusZero (W .format)) ≡ false → finishes W s ≡ false → P (More (furtherRound W s) (s .largest)))
         → P (closedBy W mu s xs)
     unfolding closedBy
     closed-each zero finish further = go (eq (tau1Of W s) (plusZero (W .format))) refl (finishes W s) refl
@@ -60,8 +60,8 @@ module _ (P : Step → Type 0) (W : Width) where
         go : (z : Bool) → eq (tau1Of W s) (plusZero (W .format)) ≡ z → (r : Bool) → finishes W s ≡ r
             → P
             (cond z
-            (fresh W (plusZero (W .format)) (s .n) mu (s .rounds + 1) (s .ensemble))
-            (cond r (Done (finished (W .format) (tau1Of W s) (s .t) (s .tau) xs) (s .rounds + 1)) (More (furtherRound W s))))
+            (fresh W (plusZero (W .format)) (s .n) mu (s .rounds + 1) (s .ensemble) (s .largest))
+            (cond r (Done (finished (W .format) (tau1Of W s) (s .t) (s .tau) xs) (s .rounds + 1)) (More (furtherRound W s) (s .largest))))
         go true z r h = zero z
         go false z true h = finish z h
         go false z false h = further z h
@@ -77,7 +77,8 @@ not-finishes W s h = neither _ _ h
     neither true b e = apart (cc)
 
 module _ (W : Width) (mu : ℕ) (s : State) (xs : List Float) where
-  pub closed-zero : eq (tau1Of W s) (plusZero (W .format)) ≡ true → closedBy W mu s xs ≡ fresh W (plusZero (W .format)) (s .n) mu (s .rounds + 1) (s .ensemble)
+  pub closed-zero : eq (tau1Of W s) (plusZero (W .format)) ≡ true
+      → closedBy W mu s xs ≡ fresh W (plusZero (W .format)) (s .n) mu (s .rounds + 1) (s .ensemble) (s .largest)
   unfolding closedBy
   closed-zero z = rw z
 
@@ -86,6 +87,6 @@ module _ (W : Width) (mu : ℕ) (s : State) (xs : List Float) where
   unfolding closedBy
   closed-finish z r = rw (z, r)
 
-  pub closed-further : eq (tau1Of W s) (plusZero (W .format)) ≡ false → finishes W s ≡ false → closedBy W mu s xs ≡ More (furtherRound W s)
+  pub closed-further : eq (tau1Of W s) (plusZero (W .format)) ≡ false → finishes W s ≡ false → closedBy W mu s xs ≡ More (furtherRound W s) (s .largest)
   unfolding closedBy
   closed-further z r = rw (z, r)

@@ -95,7 +95,8 @@ normal-above f k S u = elim (le-or-lt (prec f) k) [
 -- ---- the close: it ends the walk, or a state of the same list and ensemble with one round more opens the next round
 pub data Next (W : Width) (F : Fitting W) (s : State) (ys : List Float) : Step → Type 0 where
   ends : (x : Float) → Next W F s ys (Done x (s .rounds + 1))
-  goes : (e : ℕ) (s' : State) → s' .n ≡ s .n → s' .ensemble ≡ s .ensemble → s' .rounds ≡ s .rounds + 1 → Begun W F e s' ys → Next W F s ys (More s')
+  goes : (e : ℕ) (s' : State) (told : Float) → s' .n ≡ s .n → s' .ensemble ≡ s .ensemble → s' .rounds ≡ s .rounds + 1 → Begun W F e s' ys
+      → Next W F s ys (More s' told)
 
 module _ {W : Width} {F : Fitting W} {e : ℕ} {s : State} {xs : List Float} (B : Begun W F e s xs) where
   -- what a round leaves of each number, where it may leave anything
@@ -162,8 +163,8 @@ module _ {W : Width} {F : Fitting W} {e : ℕ} {s : State} {xs : List Float} (B 
   next-number =
       let f = W .format in
       let T = tau-all B in
-      add-rounds (B .kept .number) (T .number) (F .bound + 1) (omega (arith, F .sum-room))
-      (omega (arith, whole-mag f (s .t), B .kept .within, whole-mag f (allTaken W s xs .tau), T .within, pow-add 2 (F .bound) 1)) .number
+      add-rounds (B .carried .number) (T .number) (F .bound + 1) (omega (arith, F .sum-room))
+      (omega (arith, whole-mag f (s .t), B .carried .within, whole-mag f (allTaken W s xs .tau), T .within, pow-add 2 (F .bound) 1)) .number
 
   half : exponentOf (s .n) + exponentOf (s .n) < prec (W .format)
   half = omega (arith, F .most-is (s .n) (B .few), F .half)
@@ -201,13 +202,14 @@ module _ {W : Width} {F : Fitting W} {e : ℕ} {s : State} {xs : List Float} (B 
       power = scaled-positive f M (M + e) (M + (M + e - prec f)) (F .fine) (B .scale .power) (omega (arith, normal)) (omega (arith, half))
           (omega (arith, B .scale .room));
     };
-    kept = record {
+    carried = record {
       number = next-number;
       within = omega (arith, above f (threshold normal) (absolute-is f next-number) (not-finishes W (allTaken W s xs) r .1), pow-mono capped);
     };
     work = left normal;
     tau = refl;
     pending = refl;
+    largest = refl;
   }
     where
       f : Format
@@ -227,5 +229,5 @@ module _ {W : Width} {F : Fitting W} {e : ℕ} {s : State} {xs : List Float} (B 
   falls =
       let P = Next W F s (allLeft W s xs) in
       closed-each P W (largest (W .format) (allLeft W s xs)) (allTaken W s xs) (allLeft W s xs)
-      (λ z. fresh-each P W _ (s .n) _ _ _ (λ a. ends _) (λ a. goes _ _ refl refl refl (restarts a)))
-      (λ z r. ends _) (λ z r. goes _ _ refl refl refl (further r))
+      (λ z. fresh-each P W _ (s .n) _ _ _ _ (λ a. ends _) (λ a. goes _ _ _ refl refl refl (restarts a)))
+      (λ z r. ends _) (λ z r. goes _ _ _ refl refl refl (further r))

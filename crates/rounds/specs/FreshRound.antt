@@ -44,10 +44,11 @@ module _ {W : Width} {F : Fitting W} {n rounds ensemble : ℕ} {xs : List Float}
       room = omega (arith, M-most, lowered, F .room);
       power = record { number = power-number f inside; sign = power-negative f inside; units = power-magnitude f inside };
     };
-    kept = record { number = zero-positive f .number; within = omega (arith, zero-positive f .units) };
+    carried = record { number = zero-positive f .number; within = omega (arith, zero-positive f .units) };
     work = each-weaker (Small f mu) (Small f (2 ^ ceil mu)) (λ y Y. record { number = Y .number; within = omega (arith, Y .within, ceil-ge mu) }) xs work;
     tau = refl;
     pending = refl;
+    largest = refl;
   }
     where
       f : Format

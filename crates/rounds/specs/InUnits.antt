@@ -1,15 +1,18 @@
 -- Taking numbers in floats is taking them in units: the remainders and tau are those of `units/Walk`, and nothing overflows.
 -- sigma is 2^(M + e) units and the numbers are at most 2^e. Assumes nothing.
 use mathlib.Core.Path.{_≡_, refl, sym, ap, _∙_}
+use mathlib.Core.Logic.{inl, inr}
 use mathlib.Core.Bool.{Bool, true, false, not, _&&_}
 use mathlib.Core.List.{List, [], _∷_, map}
 use Prim.Native.Nat.{ℕ, suc, _+_, _-_, _*_, _^_, _≤_, _<_}
+use native.Mathlib.Nat.{mul-zero, mul-le-mul-left}
 use native.Mathlib.Omega.{arith}
 use lib.IntN.{pos, _+ℤ_, _-ℤ_}
 use lib.ListN.{length}
 use lib.Pow.{pow-add, pow-mono}
 use lib.Ieee.{Float, Format, prec, emax, low, add}
 use Rattle.units.specs.Whole.{Whole, nat, _⊕_, _⊖_, _≈_, mag, Within, int, All}
+use Rattle.units.specs.Powers.{le-or-lt, pow-split}
 use Rattle.units.specs.Rounding.{fl}
 use Rattle.units.specs.SignedRounding.{fl-zero}
 use Rattle.units.specs.Integers.{int-same, int-difference, int-plus, int-minus}
@@ -22,7 +25,8 @@ use Rattle.ieee.specs.Sum.{value-int, whole-mag}
 use Rattle.ieee.specs.Nearest.{number-rep}
 use Rattle.ieee.specs.InRange.{add-rounds, high-rounds, remainder-rounds}
 use Rattle.lists.specs.Each.{Each, each-map}
-use Rattle.extract.specs.Extract.{highPart, remainderOf, remainders, gathered}
+use Rattle.extract.specs.Extract.{highPart, remainderOf, remainders, gathered, largest}
+use Rattle.extract.specs.ExtractLaws.{largest-scaled}
 use Rattle.extract.specs.LargestLaws.{Positive}
 use Rattle.rounds.specs.Exactness.{Exact, ExactSums}
 
@@ -111,6 +115,27 @@ module _ {f : Format} {M e : ℕ} {sigma : Float} (σ : Scale f M e sigma) where
       rw (← (remainder-is X .units)) at (turn-left (prec f) (prec-pos f) M e (σ .some) (σ .few) (ready X) .small),
     ),
   )
+
+  -- eps times sigma, or nothing where that is less than a unit
+  remainder-eps : {x : Float} → Small f (2 ^ e) x → 2 ^ prec f * magnitude f (remainderOf f sigma x) ≤ magnitude f sigma
+  remainder-eps {x} X = rw (σ .power .units) (elim (le-or-lt (prec f) (M + e)) [
+    | inl l ↦
+        let z : suc (M + e) - prec f ≡ suc (M + e - prec f) = omega arith in
+        let h : magnitude f r ≤ 2 ^ (M + e - prec f) = omega (arith, remainder-small X .1, ap (λ (k : ℕ). 2 ^ k) z, pow-add 2 1 (M + e - prec f)) in
+        omega (arith, mul-le-mul-left (2 ^ prec f) h, pow-split l)
+    | inr l ↦
+        let z : suc (M + e) - prec f ≡ 0 = omega arith in
+        let h : magnitude f r ≡ 0 = omega (arith, remainder-small X .1, ap (λ (k : ℕ). 2 ^ k) z) in
+        rw (h, mul-zero (2 ^ prec f)) (omega arith)
+  ])
+    where
+      r : Float
+      r = remainderOf f sigma x
+
+  pub largest-eps : (xs : List Float) → Each (Small f (2 ^ e)) xs → 2 ^ prec f * largest f (remainders f sigma xs) ≤ magnitude f sigma
+  unfolding remainders
+  largest-eps xs h = largest-scaled f (2 ^ prec f) (magnitude f sigma) (remainders f sigma xs)
+      (each-map (Small f (2 ^ e)) (λ y. 2 ^ prec f * magnitude f y ≤ magnitude f sigma) (remainderOf f sigma) (λ x X. remainder-eps X) xs h)
 
   -- which is no larger than the number may be
   pub left-small : {x : Float} → Small f (2 ^ e) x → Small f (2 ^ e) (remainderOf f sigma x)

@@ -8,11 +8,13 @@ use Rattle.lists.specs.Each.{Each, each-weaker}
 use Rattle.units.specs.Rounding.{ceil}
 use Rattle.units.specs.Ceiling.{ceil-least}
 use Rattle.exponent.specs.Power.{powers}
+use Rattle.exponent.specs.PowerLaws.{power-number, power-negative, power-magnitude}
 use Rattle.extract.specs.Extract.{largest}
 use Rattle.extract.specs.ExtractLaws.{largest-le}
 use Rattle.extract.specs.LargestLaws.{Positive}
 use Rattle.judge.specs.Table.{sizeOf}
 use Rattle.kinds.specs.Limits.{Width, exponentOf}
+use Rattle.rounds.specs.Round.{sigmaOf}
 use Rattle.rounds.specs.Fitting.{Fitting}
 use Rattle.rounds.specs.InUnits.{Small}
 
@@ -25,3 +27,9 @@ pub sigma-exists : {W : Width} → Fitting W → (n mu : ℕ) → n ≤ W .lengt
 sigma-exists F n mu few small =
     let m : mu ≤ 2 ^ F .top = rw (F .top-is) at small in
     omega (arith, F .room, F .most-is n few, ceil-least m)
+
+pub sigma-positive : {W : Width} → Fitting W → (n mu : ℕ) → n ≤ W .length → mu ≤ sizeOf W (W .magnitude)
+    → Positive (W .format) (sigmaOf (W .format) n mu) (2 ^ (exponentOf n + ceil mu))
+sigma-positive {W} F n mu few small =
+    let inside = sigma-exists F n mu few small in
+    record { number = power-number (W .format) inside; sign = power-negative (W .format) inside; units = power-magnitude (W .format) inside }

@@ -1,8 +1,9 @@
 // The close of a round: rules W1 to W4, in that order.
-use crate::fresh;
+use crate::fresh::from_mu;
 use crate::round;
 use kinds::DIGITS;
 use kinds::Doubles;
+use kinds::EPS;
 use kinds::LEAST_NORMAL;
 use kinds::State;
 use kinds::Step;
@@ -13,9 +14,6 @@ ghost use Rattle.kinds.specs.Limits.{doubles};
 ghost use Rattle.rounds.specs.Round.{scaled, finished, closed};
 ghost use Rattle.rounds.specs.Closable.{PowerFrom, Closable};
 ghost use Rattle.rounds.specs.ClosedLaws.{enough};
-
-// eps is 2^-53 (rule L3).
-const EPS: u32 = 53;
 
 // 2^j eps sigma (rule F4). A sigma above the least normal number is a field over no digit, and the product of two powers of two is exact there: the field goes
 // down by 53 - j, or one digit is left where there is no field.
@@ -53,7 +51,7 @@ fn finish(tau1: f64, t: f64, tau: f64, work: &[f64]) -> f64
 
 // Rule WC1, for a state whose pending set is empty.
 pub fn close(s: State, work: &[f64]) -> Step
-    requires { ⌜ Closable doubles s (now work) ⌝ }
+    requires { ⌜ Closable doubles s ⌝ }
     ensures { λ r. ⌜ r ≡ closed doubles s (now (work .entry)) ⌝ }
 {
     let n = s.n;
@@ -61,8 +59,8 @@ pub fn close(s: State, work: &[f64]) -> Step
     let rounds = s.rounds + 1;
     let tau1 = s.t + s.tau;
     if tau1 == 0.0 {
-        // rules W1 and W2; rule E2 is to forget the second
-        return fresh::fresh(0.0, n, work, rounds, s.ensemble);
+        // rules W1 and W2; rule E2 is to forget the second. The round has kept mu, so that the area isn't passed over again (rule WS13)
+        return from_mu(0.0, n, s.largest, rounds, s.ensemble, s.largest);
     }
     let m = Doubles::of(n).exponent();
     // rule W3
@@ -70,5 +68,8 @@ pub fn close(s: State, work: &[f64]) -> Step
         return Step::Done(finish(tau1, s.t, s.tau, work), rounds);
     }
     // rule W4
-    Step::More(round::begin(n, scaled(m, sigma), tau1, rounds, s.ensemble))
+    Step::More(
+        round::begin(n, scaled(m, sigma), tau1, rounds, s.ensemble),
+        s.largest,
+    )
 }

@@ -11,7 +11,8 @@ ghost use Rattle.exponent.specs.Power.{powerOf};
 ghost use Rattle.judge.specs.Table.{sizeOf};
 ghost use Rattle.kinds.specs.Limits.{doubles, exponentOf, blocksOf};
 ghost use Rattle.rounds.specs.InUnits.{Small};
-ghost use Rattle.rounds.specs.Round.{turned, takenState, allTaken, allLeft, roundOf};
+ghost use Rattle.rounds.specs.Closable.{Takable};
+ghost use Rattle.rounds.specs.Round.{turned, inRound, takenState, allTaken, allLeft, roundOf};
 
 // Rule WC2.
 pub fn begin(n: usize, sigma: f64, t: f64, rounds: u32, ensemble: u32) -> State
@@ -19,7 +20,8 @@ pub fn begin(n: usize, sigma: f64, t: f64, rounds: u32, ensemble: u32) -> State
     ensures { λ r. ⌜ r ≡ roundOf doubles n sigma t rounds ensemble ⌝ }
 {
     let blocks = Doubles::of(n).blocks();
-    State::of(n, sigma, t, 0.0, bitset::full(blocks), rounds, ensemble)
+    let pending = bitset::full(blocks);
+    State::of(n, sigma, t, 0.0, pending, rounds, ensemble, 0.0)
 }
 
 // sigma of rule WO3.
@@ -37,25 +39,44 @@ fn least(a: usize, b: usize) -> usize
     if a <= b { a } else { b }
 }
 
-// Rules L8 and WB1: a block's numbers become their remainders, and no other place is written.
+// The same round with another tau, largest remainder and pending set.
+fn in_round(s: State, tau: f64, largest: f64, pending: u64) -> State
+    ensures { λ r. ⌜ r ≡ inRound s tau largest pending ⌝ }
+{
+    State::of(
+        s.n,
+        s.sigma,
+        s.t,
+        tau,
+        pending,
+        s.rounds,
+        s.ensemble,
+        largest,
+    )
+}
+
+// Rules L8, WB1 and WS13: a block's numbers become their remainders, and no other place is written.
 pub fn take(s: State, work: &mut [f64], block: usize) -> State
-    requires { ⌜ (s .n ≤ doubles .length) × (length (now work) ≡ s .n) × (block < blocksOf doubles (s .n)) ⌝ }
+    requires { ⌜
+        (s .n ≤ doubles .length) × (length (now work) ≡ s .n) × (block < blocksOf doubles (s .n)) × Takable doubles s (now work)
+        ⌝ }
     ensures { λ r. ⌜ (r ≡ takenState doubles s block (now (work .entry))) × (now (work .exit) ≡ turned doubles (s .sigma) block (now (work .entry))) ⌝ }
 {
     let n = s.n;
     let from = Doubles::BLOCK * block;
     let to = least(from + Doubles::BLOCK, n);
-    let taken = extract::extract(&mut work[from..to], s.sigma, s.tau);
+    let taken = extract::extract(&mut work[from..to], s.sigma, s.tau, s.largest);
     let pending = bitset::without(s.pending, block);
-    State::of(n, s.sigma, s.t, taken.tau, pending, s.rounds, s.ensemble)
+    in_round(s, taken.tau, taken.largest, pending)
 }
 
 // Every block of a round in rising order: that is the whole area in one extraction.
 pub fn take_all(s: State, work: &mut [f64]) -> State
+    requires { ⌜ Takable doubles s (now work) ⌝ }
     ensures { λ r. ⌜
         (r ≡ allTaken doubles s (now (work .entry))) × (now (work .exit) ≡ allLeft doubles s (now (work .entry)))
         ⌝ }
 {
-    let taken = extract::extract(work, s.sigma, s.tau);
-    State::of(s.n, s.sigma, s.t, taken.tau, 0, s.rounds, s.ensemble)
+    let taken = extract::extract(work, s.sigma, s.tau, s.largest);
+    in_round(s, taken.tau, taken.largest, 0)
 }

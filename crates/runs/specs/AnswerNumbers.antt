@@ -27,7 +27,7 @@ use Rattle.runs.specs.Faithful.{faithful-promised}
 
 -- an answer of the undivided call
 abbrev Ended : Width → Step → Type 0
-Ended W (More s) = ⊥
+Ended W (More s told) = ⊥
 Ended W (Done x r) = Number (W .format) x × (r ≤ suc (W .rounds))
 Ended W (Refused k p) = Refusal (W .length) k p
 
@@ -44,8 +44,8 @@ faithful-ended {W} F ps work = by (judged W (eqb (length work) (length ps)) true
 
 module _ (ps : List ℕ) (work : List Float) where
   -- the undivided call never answers more
-  pub faithful-not-more : (s : State) → faithfulOf doubles ps work .answer ≡ More s → ⊥
-  faithful-not-more s e = subst (Ended doubles) e (faithful-ended doubles-fit ps work)
+  pub faithful-not-more : (s : State) (told : Float) → faithfulOf doubles ps work .answer ≡ More s told → ⊥
+  faithful-not-more s told e = subst (Ended doubles) e (faithful-ended doubles-fit ps work)
 
   -- a refusal's number is of the table, its place is one of a list, and is told as the table says
   pub faithful-refusal : (k p : ℕ) → faithfulOf doubles ps work .answer ≡ Refused k p → Refusal (doubles .length) k p

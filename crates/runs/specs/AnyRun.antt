@@ -37,18 +37,19 @@ module _ (W : Width) (e : ℕ) where
   along [] a ys m N h = refl
   along (b ∷ bs) (Done x k) ys m N h = ended x k ys m (b ∷ bs)
   along (b ∷ bs) (Refused k p) ys m N h = absurd (h k p (stuck k p ys (b ∷ bs)))
-  along (b ∷ bs) (More s) ys m N h =
+  along (b ∷ bs) (More s told) ys m N h =
       let w = stepped W s (s .ensemble) b ys in
-      ap (λ (j : ℕ). foldl (tried W e) (heeded (record { walk = outcome (More s) ys; steps = m }) (stepped W s j b ys)) bs .walk) (sym N)
-      ∙ after (w .answer) (w .area) (λ s' zs. along bs (More s') zs (m + 1))
+      ap (λ (j : ℕ). foldl (tried W e) (heeded (record { walk = outcome (More s told) ys; steps = m }) (stepped W s j b ys)) bs .walk) (sym N)
+      ∙ after (w .answer) (w .area) (λ s' l zs. along bs (More s' l) zs (m + 1))
       (subst (λ (j : ℕ). Named j (w .answer)) N (stepped-named W s (s .ensemble) b ys)) h
     where
       after : (q : Step) (zs : List Float)
-          → ((s' : State) (zs : List Float) → s' .ensemble ≡ e → ((k p : ℕ) → foldl (onward W) (outcome (More s') zs) bs .answer ≡ Refused k p → ⊥)
-          → foldl (tried W e) (record { walk = outcome (More s') zs; steps = m + 1 }) bs .walk ≡ foldl (onward W) (outcome (More s') zs) bs)
+          → ((s' : State) (l : Float) (zs : List Float) → s' .ensemble ≡ e
+          → ((k p : ℕ) → foldl (onward W) (outcome (More s' l) zs) bs .answer ≡ Refused k p → ⊥)
+          → foldl (tried W e) (record { walk = outcome (More s' l) zs; steps = m + 1 }) bs .walk ≡ foldl (onward W) (outcome (More s' l) zs) bs)
           → Named e q → ((k p : ℕ) → foldl (onward W) (outcome q zs) bs .answer ≡ Refused k p → ⊥)
-          → foldl (tried W e) (heeded (record { walk = outcome (More s) ys; steps = m }) (outcome q zs)) bs .walk ≡ foldl (onward W) (outcome q zs) bs
-      after (More s') zs i N h = i s' zs N h
+          → foldl (tried W e) (heeded (record { walk = outcome (More s told) ys; steps = m }) (outcome q zs)) bs .walk ≡ foldl (onward W) (outcome q zs) bs
+      after (More s' l) zs i N h = i s' l zs N h
       after (Done x k) zs i N h = ended x k zs (m + 1) bs
       after (Refused k p) zs i N h = absurd (h k p (stuck k p zs bs))
 

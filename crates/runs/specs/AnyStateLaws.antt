@@ -1,9 +1,10 @@
 -- A step over any sound state leaves what `AnyState` says, whether a call gave the state out or not. The additions to tau need not be exact then: tau, at most
 -- 2^bound units before, is at most twice that after its block. Assumes nothing.
-use mathlib.Core.Path.{_≡_, refl, ap, _∙_, subst}
+use mathlib.Core.Path.{_≡_, refl, ap, subst}
 use mathlib.Core.Bool.{Bool, true, false, cond}
 use mathlib.Core.List.{List, [], _∷_, map, foldl}
 use Prim.Native.Nat.{ℕ, _+_, _-_, _*_, _^_, _≤_}
+use native.Mathlib.Nat.{mul-zero}
 use native.Mathlib.Omega.{arith}
 use lib.Dec.{T, eqb}
 use lib.ListN.{length, drop, length-map, length-take, length-drop}
@@ -12,32 +13,30 @@ use lib.Ieee.{Float, Format, prec, low, emax, add, eq, fits}
 use Rattle.units.specs.Rounding.{ceil}
 use Rattle.units.specs.Ceiling.{ceil-ge, ceil-least}
 use Rattle.units.specs.Powers.{pow-split}
-use Rattle.ieee.specs.Units.{Number}
+use Rattle.ieee.specs.Units.{Number, magnitude}
 use Rattle.lists.specs.Each.{Each, each-map, each-weaker, each-take, each-drop}
 use Rattle.kinds.specs.Limits.{Width, exponentOf}
 use Rattle.kinds.specs.declared.State.{State}
 use Rattle.kinds.specs.declared.Step.the-variants.{More}
 use Rattle.kinds.specs.declared.Verdict.the-variants.{Good}
-use Rattle.extract.specs.Extract.{plusZero, highPart, gathered, lastSum, largest}
-use Rattle.extract.specs.ExtractLaws.{largest-le}
+use Rattle.extract.specs.Extract.{plusZero, highPart, gathered, lastSum}
 use Rattle.extract.specs.LargestLaws.{Positive, zero-positive}
 use Rattle.judge.specs.Table.{sizeOf}
 use Rattle.sound.specs.Sound.{gated}
 use Rattle.sound.specs.AdmittedLaws.{Admitted}
 use Rattle.sound.specs.Numbers.{FiniteWithin}
-use Rattle.rounds.specs.Round.{blockOf, turned, takenState, roundOf, freshRound, fresh, scaled, finished, closed}
+use Rattle.rounds.specs.Round.{blockOf, turned, takenState, sigmaOf, roundOf, fresh, scaled, finished, closed}
 use Rattle.rounds.specs.ClosedLaws.{tau1Of, finishes, furtherRound, fresh-each, closed-each, not-finishes}
 use Rattle.rounds.specs.Closes.{scaled-positive, normal-above}
 use Rattle.rounds.specs.Fitting.{Fitting}
-use Rattle.rounds.specs.Begun.{Begun}
-use Rattle.rounds.specs.FreshRound.{begins, largest-small}
+use Rattle.rounds.specs.SigmaLaws.{sigma-positive}
 use Rattle.rounds.specs.InUnits.{Small, Scale, high-small}
 use Rattle.walk.specs.Walk.{taken, stepped}
 use Rattle.walk.specs.StepLaws.{stepped-good}
 use Rattle.walk.specs.Stepping.{sigma-bounds}
-use Rattle.walk.specs.Admitted.{admits, scale, small, turned-small, turned-length}
+use Rattle.walk.specs.Admitted.{admits, scale, small, turned-small, turned-length, taken-largest, taken-small, taken-eps}
 use Rattle.runs.specs.CloseUnits.{sums, last-sum, Held, held, wider, plus, tau1-units, sum-number, not-zero}
-use Rattle.runs.specs.AnyState.{Floats, StateNumbers, SumNumber, Answered, Stepped}
+use Rattle.runs.specs.AnyState.{Floats, Shown, StateNumbers, SumNumber, Answered, Stepped}
 
 -- ---- tau, at most 2^bound units, is at most 2^(bound + 1) after at most 2^most high parts: each sum is at most a multiple of 2^j that the format holds
 gathered-sum : (f : Format) (sigma tau : Float) (xs : List Float) → gathered f sigma tau xs ≡ foldl (add f) tau (map (highPart f sigma) xs)
@@ -127,30 +126,39 @@ module _ {W : Width} (F : Fitting W) {s : State} {b : ℕ} {xs : List Float} (P 
   tau1-held : Held f (F .bound + 1 + 1) (tau1Of W next)
   tau1-held = tau1-units (F .bound + 1) room t-held tau-held .1
 
+  -- ---- the largest remainder that is kept, mu of a close
+  abbrev mu : ℕ
+  mu = magnitude f (next .largest)
+
+  shown : Shown W (next .largest)
+  shown = let L = taken-largest F P (h .work) (h .largest) in record { number = L .number; positive = L .sign }
+
   -- ---- the next state
   opens : (e : ℕ) {sigma t : Float} (rounds ensemble : ℕ) → Positive f sigma (2 ^ (M + e)) → e ≤ F .top → Number f t
       → StateNumbers W (roundOf W (s .n) sigma t rounds ensemble)
-  opens e rounds ensemble S l N = record { sigma = S .number; bounds = sigma-bounds F (s .n) e S l; t = N; tau = zero-positive f .number }
+  opens e {sigma} rounds ensemble S l N = record {
+    sigma = S .number;
+    bounds = sigma-bounds F (s .n) e S l;
+    t = N;
+    tau = zero-positive f .number;
+    largest = zero-positive f .number;
+    within = record { fini = zero-positive f .number .fini; unsigned = zero-positive f .sign; small = none };
+  }
+    where
+      none : 2 ^ prec f * magnitude f (plusZero f) ≤ magnitude f sigma
+      none = rw (zero-positive f .units, mul-zero (2 ^ prec f)) (omega arith)
 
   -- rules W1 and W2
-  afresh : (rounds ensemble : ℕ) → Answered W (fresh W (plusZero f) (s .n) (largest f ys) rounds ensemble)
-  afresh rounds ensemble = fresh-each (Answered W) W (plusZero f) (s .n) (largest f ys) rounds ensemble
+  afresh : (rounds ensemble : ℕ) → Answered W (fresh W (plusZero f) (s .n) mu rounds ensemble (next .largest))
+  afresh rounds ensemble = fresh-each (Answered W) W (plusZero f) (s .n) mu rounds ensemble (next .largest)
       (λ a. record { number = zero-positive f .number; plus = λ z. zero-positive f .sign })
-      (λ a. opens e rounds ensemble (first .scale .power) least (zero-positive f .number))
+      (λ a. (opens (ceil mu) rounds ensemble power least (zero-positive f .number), shown))
     where
-      e : ℕ
-      e = ceil (largest f ys)
+      least : ceil mu ≤ F .top
+      least = ceil-least (rw (F .top-is) at (taken-small F P (h .work) (h .largest) .within))
 
-      least : e ≤ F .top
-      least =
-          let l = ceil-least {j = P .e} (largest-le f (2 ^ P .e) ys (each-weaker _ _ (λ y Y. Y .within) ys (turned-small F P (h .work)))) in
-          omega (arith, l, P .low)
-
-      -- sigma is that of a run's first round over this area
-      first : Begun W F e (freshRound W (s .n) (largest f ys) 0 0) ys
-      first = begins (largest f ys) (P .numbers .counts .some) (P .numbers .counts .few)
-          (turned-length F P (h .work) ∙ P .long) (largest-small f _ ys (turned-small F P (h .work)))
-          (omega (arith, least))
+      power : Positive f (sigmaOf f (s .n) mu) (2 ^ (M + ceil mu))
+      power = sigma-positive F (s .n) mu (P .numbers .counts .few) (taken-small F P (h .work) (h .largest) .within)
 
   -- rule W4: sigma is above 2^-1022, so that 2^M eps times it is at least 2^M units
   further : finishes W next ≡ false → StateNumbers W (furtherRound W next)
@@ -170,7 +178,7 @@ module _ {W : Width} (F : Fitting W) {s : State} {b : ℕ} {xs : List Float} (P 
       record { number = S .0; plus = S .1 }
 
   closes : Answered W (closed W next ys)
-  closes = closed-each (Answered W) W (largest f ys) next ys (λ z. afresh (s .rounds + 1) (s .ensemble)) (λ z r. ends z) (λ z r. further r)
+  closes = closed-each (Answered W) W mu next ys (λ z. afresh (s .rounds + 1) (s .ensemble)) (λ z r. ends z) (λ z r. (further r, shown))
 
   goes-on : StateNumbers W next
   goes-on = record {
@@ -178,6 +186,8 @@ module _ {W : Width} (F : Fitting W) {s : State} {b : ℕ} {xs : List Float} (P 
     bounds = sigma-bounds F (s .n) (P .e) (σ .power) (P .low);
     t = t-held .number;
     tau = tau-held .number;
+    largest = shown .number;
+    within = taken-eps F P (h .work) (h .largest);
   }
 
   passed : Stepped W (taken W s b xs)
@@ -187,9 +197,9 @@ module _ {W : Width} (F : Fitting W) {s : State} {b : ℕ} {xs : List Float} (P 
     work = each-weaker (Small f (2 ^ P .e)) (Number f) (λ y Y. Y .number) ys (turned-small F P (h .work));
   }
     where
-      by : (z : Bool) → Answered W (cond z (closed W next ys) (More next))
+      by : (z : Bool) → Answered W (cond z (closed W next ys) (More next (next .largest)))
       by true = closes
-      by false = goes-on
+      by false = (goes-on, shown)
 
 pub any-state : {W : Width} (F : Fitting W) (s : State) (k b : ℕ) (xs : List Float) → Floats W s xs → gated W s k b xs ≡ Good → Stepped W (stepped W s k b xs)
 any-state {W} F s k b xs h g = subst (Stepped W) (stepped-good W s b xs (gated W s k b xs) g) (passed F (admits F s k b xs (h .sigma) g) h)

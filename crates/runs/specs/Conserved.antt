@@ -49,7 +49,7 @@ module _ {W : Width} {F : Fitting W} {S : Whole} {e : ℕ} {s : State} {xs : Lis
           omega (arith, rw (high-units (A .begun .scale) (h .0)) at E)
 
   -- rule WE2
-  pub mid-conserves : {P : ℕ} {tau : Float} → Mid (A .begun) P tau
+  pub mid-conserves : {P : ℕ} {tau m : Float} → Mid (A .begun) P tau m
       → whole (W .format) (s .t) ⊕ whole (W .format) tau ⊕ total (wholes (W .format) (midArea W s P xs)) ≈ S
   mid-conserves {P} T = omega (arith, A .opened .sum, T .sum, parts (pendingAt W P) 0 xs (A .begun .work))
 
@@ -58,7 +58,7 @@ module _ {W : Width} {F : Fitting W} {S : Whole} {e : ℕ} {s : State} {xs : Lis
       whole f tau1 ⊕ whole f tau2 ⊕ total (wholes f (allLeft W s xs)) ≈ S
   finish-conserves =
       let f = W .format in
-      let t-held = held (A .begun .kept) in
+      let t-held = held (A .begun .carried) in
       let tau-held = held (tau-all (A .begun)) in
       rw (tau1-units (F .bound) (room A) t-held tau-held .0, tau2-units (F .bound) (room A) t-held tau-held .0)
       (close-conserves (prec f) (exponentOf (s .n)) (s .n) (two A) (half A) (few A) (closes A))

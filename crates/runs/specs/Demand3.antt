@@ -3,7 +3,7 @@ use mathlib.Core.Path.{_≡_}
 use mathlib.Core.Bool.{true, false, cond}
 use mathlib.Core.List.{List, map}
 use Prim.Native.Nat.{ℕ, suc, _+_, _-_, _*_, _≤_}
-use lib.Dec.{leb}
+use lib.Dec.{leb, eqb}
 use lib.IntN.{pos, _+ℤ_}
 use lib.ListN.{length}
 use lib.Ieee.{Float, prec, add, sub, eq}
@@ -15,13 +15,16 @@ use Rattle.lists.specs.Bitset.{has, without}
 use Rattle.lists.specs.Each.{Each}
 use Rattle.kinds.specs.Limits.{Width, exponentOf, blocksOf}
 use Rattle.kinds.specs.declared.State.{State}
+use Rattle.kinds.specs.declared.Step.the-variants.{More}
 use Rattle.kinds.specs.declared.Verdict.the-variants.{Good, Refused}
 use Rattle.sums.specs.Sums.{sumOf}
-use Rattle.extract.specs.Extract.{plusZero, gathered}
+use Rattle.extract.specs.Extract.{plusZero, gathered, largest}
+use Rattle.extract.specs.LargestLaws.{Positive}
 use Rattle.sound.specs.Sound.{sound, gated}
 use Rattle.rounds.specs.Round.{allZero, blockOf, turned}
 use Rattle.rounds.specs.Exactness.{Exact, ExactSums}
 use Rattle.walk.specs.Walk.{faithfulOf}
+use Rattle.runs.specs.Taken.{pendingAt, takenOf}
 use Rattle.runs.specs.Runs.{Ran, tried, members}
 
 -- as a round closes, with tau and the area that all its blocks have left: tau1 is t', tau2 is tau - (tau1 - t)
@@ -51,6 +54,12 @@ pub record Going (W : Width) (k : ℕ) (ps : List ℕ) (r : Ran) (s : State) : T
   pub exact : Each (Exact (W .format) (s .sigma)) (r .walk .area)
   pub gathers : (b : ℕ) → has (s .pending) b ≡ true → ExactSums (W .format) (s .sigma) (s .tau) (blockOf W b (r .walk .area))
   pub plus : magnitude (W .format) (s .tau) ≡ 0 → negative (s .tau) ≡ false
+  -- rule WS13: the largest remainder of the blocks taken in this round, whose places hold their remainders; every other block is pending
+  pub keeps : Positive (W .format) (s .largest) (largest (W .format) (takenOf (pendingAt W (s .pending)) 0 (r .walk .area)))
+  -- rule WS14: what a step tells is that of its own round, with its own block; the next state keeps it too, unless the round has closed
+  pub tells : (b : ℕ) → has (s .pending) b ≡ true → (s' : State) (told : Float) → tried W k r b .walk .answer ≡ More s' told
+      → Positive (W .format) told (largest (W .format) (takenOf (pendingAt W (without (s .pending) b)) 0 (tried W k r b .walk .area)))
+      × (s' .largest ≡ cond (eqb (without (s .pending) b) 0) (plusZero (W .format)) told)
   -- rule WE2
   pub conserves : value (W .format) (s .t) +ℤ value (W .format) (s .tau) +ℤ exactSum (map (value (W .format)) (r .walk .area)) ≡ sumOf (W .format) ps
   pub closes : (b : ℕ) → has (s .pending) b ≡ true → without (s .pending) b ≡ 0

@@ -75,12 +75,12 @@ module _ {W : Width} (F : Fitting W) (e : ℕ) (ps : List ℕ) (work : List Floa
     reached : Reached W F e ps work (runOf W e ps work bs)
     reached = reached-run W F e ps work bs _ (reached-opens W F e ps work G)
 
-    pub run-goes : (s : State) → runOf W e ps work bs .walk .answer ≡ More s → Going W e ps (runOf W e ps work bs) s
-    run-goes s h = go reached
+    pub run-goes : (s : State) (told : Float) → runOf W e ps work bs .walk .answer ≡ More s told → Going W e ps (runOf W e ps work bs) s
+    run-goes s told h = go reached
       where
         go : Reached W F e ps work (runOf W e ps work bs) → Going W e ps (runOf W e ps work bs) s
-        go (inl D) = goes-on F e ps work _ D s h
-        go (inr O) = let m : Done (O .sum) (O .rounds) ≡ More s = sym (O .answer) ∙ h in apart (cc)
+        go (inl D) = goes-on F e ps work _ D s told h
+        go (inr O) = let m : Done (O .sum) (O .rounds) ≡ More s told = sym (O .answer) ∙ h in apart (cc)
 
     pub run-finishes : (x : Float) (k : ℕ) → runOf W e ps work bs .walk .answer ≡ Done x k → Finished W (F .top) ps work (runOf W e ps work bs) x k
     run-finishes x k h = go reached
@@ -121,12 +121,12 @@ module _ {W : Width} (F : Fitting W) (e : ℕ) (ps : List ℕ) (work : List Floa
 
 module _ {W : Width} (F : Fitting W) (e : ℕ) (ps : List ℕ) (work : List Float) (G : ListWhen W (eqb (length work) (length ps)) true ps Good) (bs : List ℕ) where
   -- rule DR3's bound: the steps of the rounds that it may still open, and of its pending blocks
-  pub run-left : (s : State) → runOf W e ps work bs .walk .answer ≡ More s → (cs : List ℕ)
+  pub run-left : (s : State) (told : Float) → runOf W e ps work bs .walk .answer ≡ More s told → (cs : List ℕ)
       → runOf W e ps work (bs ++ cs) .steps
       ≤ runOf W e ps work bs .steps + ((W .rounds - s .rounds) * blocksOf W (length ps) + members (s .pending) (blocksOf W (length ps)))
-  run-left s h cs =
+  run-left s told h cs =
       let B = blocksOf W (length ps) in
-      let g = run-goes F e ps work G bs s h in
+      let g = run-goes F e ps work G bs s told h in
       let k = W .rounds - s .rounds in
       let r : suc (W .rounds) ≡ suc (s .rounds) + k = omega (arith, g .rounds) in
       let m : suc (W .rounds) * B ≡ suc (s .rounds) * B + k * B = rw r (add-mul (suc (s .rounds)) k B) in

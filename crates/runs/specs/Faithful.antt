@@ -23,6 +23,7 @@ use Rattle.judge.specs.Table.{ListWhen, MinusZeros}
 use Rattle.judge.specs.ZeroLaws.{zero-plus}
 use Rattle.sums.specs.Sums.{sumOf}
 use Rattle.rounds.specs.Round.{allZero}
+use Rattle.extract.specs.Extract.{plusZero}
 use Rattle.rounds.specs.Fitting.{Fitting}
 use Rattle.walk.specs.Walk.{Walked, roundsFrom, faithfulOf}
 use Rattle.walk.specs.Undivided.{faithful-done}
@@ -58,7 +59,7 @@ module _ {W : Width} (F : Fitting W) (ps : List ℕ) (work : List Float) (G : Li
 
   numbers : allZero (W .format) (floats W ps) ≡ false → FaithfulSum W ps (faithfulOf W ps work)
   numbers a =
-      let R = run-faithful (W .rounds) (record { e = _; count = refl; summing = opened-summing F 0 ps work G a }) (omega arith) in
+      let R = run-faithful (W .rounds) (plusZero (W .format)) (record { e = _; count = refl; summing = opened-summing F 0 ps work G a }) (omega arith) in
       subst (λ (w : Walked). FaithfulSum W ps (roundsFrom W (blocksOf W (length ps)) (suc (W .rounds)) w)) (sym (opened-round F 0 ps work G a)) (record {
         sum = R .sum;
         rounds = R .rounds;

@@ -1,10 +1,11 @@
 -- A run in a round of the walk goes on as `Going` says, and has no more accepted steps than the rounds allow. Assumes nothing.
 use mathlib.Core.Path.{_≡_, refl, sym, ap, _∙_, subst}
-use mathlib.Core.Bool.{true}
+use mathlib.Core.Bool.{true, cond}
 use mathlib.Core.List.{List, [], _∷_, map}
 use Prim.Native.Nat.{ℕ, suc, _+_, _*_, _^_, _≤_, _<_}
 use native.Mathlib.Nat.{mul-le-mul-right, suc-mul}
 use native.Mathlib.Omega.{arith}
+use lib.Dec.{eqb}
 use lib.IntN.{ℤ, pos, _+ℤ_}
 use lib.ListN.{length, drop}
 use lib.Ieee.{Float, Format, sub, eq}
@@ -26,21 +27,24 @@ use Rattle.kinds.specs.declared.Step.the-variants.{More, Done, Refused}
 use Rattle.kinds.specs.declared.Verdict.the-variants.{Good}
 use Rattle.kinds.specs.declared.Verdict.the-variants as verdicts
 use Rattle.sums.specs.Sums.{sumOf}
-use Rattle.extract.specs.Extract.{plusZero, gathered}
+use Rattle.extract.specs.Extract.{plusZero, gathered, largest}
+use Rattle.extract.specs.LargestLaws.{Positive}
 use Rattle.sound.specs.Sound.{gated}
 use Rattle.sound.specs.GateLaws.{gated-21}
 use Rattle.rounds.specs.ClosedLaws.{tau1Of}
-use Rattle.rounds.specs.Round.{allZero, blockOf, turned, inRound, allTaken, allLeft}
+use Rattle.rounds.specs.Round.{allZero, blockOf, turned, inRound, takenState, allTaken, allLeft}
 use Rattle.rounds.specs.Fitting.{Fitting}
 use Rattle.rounds.specs.InUnits.{Small, wholes, taken-exact, gathers-exact}
 use Rattle.rounds.specs.Exactness.{Exact, ExactSums}
 use Rattle.rounds.specs.Begun.{begun-rounds}
 use Rattle.walk.specs.Walk.{Walked, taken}
+use Rattle.walk.specs.Told.{Tells, taken-tells}
 use Rattle.walk.specs.StepLaws.{stepped-good}
 use Rattle.walk.specs.NoRefusal.{verdictOf, taken-accepted}
 use Rattle.walk.specs.Stepping.{stepping-sound}
 use Rattle.runs.specs.Summing.{sums-nothing}
-use Rattle.runs.specs.Taken.{midArea}
+use Rattle.runs.specs.Taken.{pendingAt, takenOf, midArea}
+use Rattle.runs.specs.TakenLaws.{taken-mixed}
 use Rattle.runs.specs.OneBlock.{own-numbers, own-block, count-then}
 use Rattle.runs.specs.MidRound.{mid-takes, mid-stepping, count-small}
 use Rattle.runs.specs.Conserved.{mid-conserves, finish-conserves}
@@ -70,27 +74,31 @@ sums-to f x y xs S h =
     ∙ int-same (a ⊕ b ⊕ c) (difference S) h
     ∙ int-difference S
 
--- a step that the gate lets pass turns its block
-accepted-turns : (W : Width) (k : ℕ) (r : Ran) (s : State) (xs : List Float) (b : ℕ) → r .walk ≡ outcome (More s) xs → gated W s k b xs ≡ Good
-    → tried W k r b .walk .area ≡ turned W (s .sigma) b xs
-unfolding taken
-accepted-turns W k r s xs b e g =
-    ap (λ (q : Ran). q .walk .area) (tried-more W k r b s xs e ∙ ap (heeded r) (sym (stepped-good W s b xs (gated W s k b xs) g)))
-    ∙ kept (taken W s b xs) refl (taken-accepted W s b xs .good)
+-- a step that the gate lets pass is heeded, and turns its block
+pub accepted-walk : (W : Width) (k : ℕ) (r : Ran) (s : State) (told : Float) (xs : List Float) (b : ℕ) → r .walk ≡ outcome (More s told) xs
+    → gated W s k b xs ≡ Good → tried W k r b .walk ≡ taken W s b xs
+accepted-walk W k r s told xs b e g =
+    ap (λ (q : Ran). q .walk) (tried-more W k r b s told xs e ∙ ap (heeded r) (sym (stepped-good W s b xs (gated W s k b xs) g)))
+    ∙ heard (taken W s b xs) (taken-accepted W s b xs .good)
   where
-    kept : (w : Walked) → w .area ≡ turned W (s .sigma) b xs → verdictOf (w .answer) ≡ Good → heeded r w .walk .area ≡ turned W (s .sigma) b xs
-    kept w h v = go (w .answer) refl v
+    heard : (w : Walked) → verdictOf (w .answer) ≡ Good → heeded r w .walk ≡ w
+    heard w v = go (w .answer) (w .area) v
       where
-        go : (a : Step) → w .answer ≡ a → verdictOf a ≡ Good → heeded r w .walk .area ≡ turned W (s .sigma) b xs
-        go (More q) i v = rw i h
-        go (Done x n) i v = rw i h
-        go (Refused l p) i v = apart (cc)
+        go : (a : Step) (ys : List Float) → verdictOf a ≡ Good → heeded r (outcome a ys) .walk ≡ outcome a ys
+        go (More q m) ys v = refl
+        go (Done x n) ys v = refl
+        go (Refused l p) ys v = apart (cc)
+
+accepted-turns : (W : Width) (k : ℕ) (r : Ran) (s : State) (told : Float) (xs : List Float) (b : ℕ) → r .walk ≡ outcome (More s told) xs
+    → gated W s k b xs ≡ Good → tried W k r b .walk .area ≡ turned W (s .sigma) b xs
+unfolding taken
+accepted-turns W k r s told xs b e g = ap (λ (w : Walked). w .area) (accepted-walk W k r s told xs b e g)
 
 module _ {W : Width} (F : Fitting W) (k : ℕ) (ps : List ℕ) (work : List Float) where
   -- ---- a run that goes on
   module _ (r : Ran) (D : During W F k ps work r) where
     at : State
-    at = inRound (D .first) (D .tau) (D .pending)
+    at = inRound (D .first) (D .tau) (D .largest) (D .pending)
 
     area : List Float
     area = midArea W (D .first) (D .pending) (D .xs)
@@ -161,7 +169,35 @@ module _ {W : Width} (F : Fitting W) (k : ℕ) (ps : List ℕ) (work : List Floa
     unfolding at area
     strangers j b n = gated-21 W at j b area (mid-stepping (D .summing .begun) (D .mid) (D .some) .count) (λ e. n (e ∙ D .named))
 
-    during : Going W k ps (record { walk = outcome (More at) area; steps = r .steps }) at
+    -- what a step at a pending block tells
+    telling : (b : ℕ) → has (D .pending) b ≡ true → (s' : State) (told : Float)
+        → tried W k (record { walk = outcome (More at (D .told)) area; steps = r .steps }) b .walk .answer ≡ More s' told
+        → Positive (W .format) told (largest (W .format) (takenOf (pendingAt W (without (D .pending) b)) 0
+        (tried W k (record { walk = outcome (More at (D .told)) area; steps = r .steps }) b .walk .area)))
+        × (s' .largest ≡ cond (eqb (without (D .pending) b) 0) (plusZero (W .format)) told)
+    unfolding at area taken
+    telling b h s' told e =
+        let f = W .format in
+        let w = accepted-walk W k _ at (D .told) area b refl (lets-pass b h) in
+        let t = subst (Tells (next .largest) (cond (eqb (next .pending) 0) (plusZero f) (next .largest))) (ap (λ (w : Walked). w .answer) (sym w) ∙ e)
+        (taken-tells W at b area) in
+        (rw (ap (λ (w : Walked). w .area) w, t .0) kept-then, t .1 ∙ ap (cond (eqb (next .pending) 0) (plusZero f)) (sym (t .0)))
+      where
+        next : State
+        next = takenState W at b area
+
+        -- the places of the blocks taken, with this one's, hold their remainders
+        kept-then : Positive (W .format) (next .largest) (largest (W .format) (takenOf (pendingAt W (without (D .pending) b)) 0 (taken W at b area .area)))
+        kept-then =
+            let sigma = D .first .sigma in
+            rw (
+              own-numbers W (F .block) (D .xs) b (there b h) (D .pending) h sigma,
+              own-block W (F .block) (D .xs) b (there b h) (D .pending) h sigma,
+              taken-mixed (pendingAt W (without (D .pending) b)) (W .format) sigma 0 (D .xs),
+            )
+            (mid-takes (D .summing .begun) (D .mid) b h .kept)
+
+    during : Going W k ps (record { walk = outcome (More at (D .told)) area; steps = r .steps }) at
     unfolding at area
     during = record {
       count = D .count;
@@ -169,8 +205,8 @@ module _ {W : Width} (F : Fitting W) (k : ℕ) (ps : List ℕ) (work : List Floa
       sound = stepping-sound (mid-stepping (D .summing .begun) (D .mid) (D .some));
       accepts = lets-pass;
       refuses = λ b h. ap (λ (j : ℕ). gated W at j b area) (sym (D .named)) ∙ mid-refused (D .summing .begun) (D .mid) (D .some) b h;
-      others = λ j b n. (strangers j b n, tried-refused W j _ b at area refl 21 0 (strangers j b n));
-      turns = λ b h. accepted-turns W k _ at area b refl (lets-pass b h);
+      others = λ j b n. (strangers j b n, tried-refused W j _ b at (D .told) area refl 21 0 (strangers j b n));
+      turns = λ b h. accepted-turns W k _ at (D .told) area b refl (lets-pass b h);
       unchanged = λ b h. reached-refuses W F k ps work _ (record {
         e = D .e;
         first = D .first;
@@ -180,8 +216,10 @@ module _ {W : Width} (F : Fitting W) (k : ℕ) (ps : List ℕ) (work : List Floa
         summing = D .summing;
         pending = D .pending;
         tau = D .tau;
+        largest = D .largest;
         mid = D .mid;
         some = D .some;
+        told = D .told;
         walk = refl;
         steps = D .steps;
         rest = D .rest;
@@ -189,19 +227,21 @@ module _ {W : Width} (F : Fitting W) (k : ℕ) (ps : List ℕ) (work : List Floa
       exact = each-weaker (Small (W .format) (2 ^ D .e)) (Exact (W .format) (D .first .sigma)) (λ x X. taken-exact (D .summing .begun .scale) X) area small;
       gathers = sums;
       plus = D .mid .tau-is .plus;
+      keeps = rw (taken-mixed (pendingAt W (D .pending)) (W .format) (D .first .sigma) 0 (D .xs)) (D .mid .kept);
+      tells = telling;
       conserves = kept;
       closes = λ b h z. closing _ _ (last-tau-of b h z)
-          (accepted-turns W k _ at area b refl (lets-pass b h) ∙ last-area b h z);
+          (accepted-turns W k _ at (D .told) area b refl (lets-pass b h) ∙ last-area b h z);
       steps = D .steps;
       rounds = begun-rounds (D .summing .begun);
     }
 
-    pub goes-on : (s : State) → r .walk .answer ≡ More s → Going W k ps r s
+    pub goes-on : (s : State) (told : Float) → r .walk .answer ≡ More s told → Going W k ps r s
     unfolding at area
-    goes-on s h =
-        let m : More at ≡ More s = sym (ap (λ (w : Walked). w .answer) (D .walk)) ∙ h in
+    goes-on s told h =
+        let m : More at (D .told) ≡ More s told = sym (ap (λ (w : Walked). w .answer) (D .walk)) ∙ h in
         let e : at ≡ s = cc in
-        let whole : record { walk = outcome (More at) area; steps = r .steps } ≡ r = λ i. record { walk = sym (D .walk) i; steps = r .steps } in
+        let whole : record { walk = outcome (More at (D .told)) area; steps = r .steps } ≡ r = λ i. record { walk = sym (D .walk) i; steps = r .steps } in
         subst (λ (q : State). Going W k ps r q) e (subst (λ (q : Ran). Going W k ps q at) whole during)
 
     pub bounded : r .steps ≤ suc (W .rounds) * blocksOf W (length ps)

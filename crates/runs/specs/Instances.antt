@@ -24,13 +24,15 @@ use Rattle.sums.specs.Sums.{sumOf}
 use Rattle.rounds.specs.Instances.{doubles-fit, singles, singles-fit}
 use Rattle.sound.specs.Sound.{gated}
 use Rattle.walk.specs.Walk.{opened, rising, stepped, faithfulOf}
+use Rattle.walk.specs.Before.{faithfulBefore}
 use Rattle.runs.specs.AnyState.{Floats, Stepped}
 use Rattle.runs.specs.AnyStateLaws.{any-state}
 use Rattle.runs.specs.Faithful.{FaithfulSum, faithful-promised}
 use Rattle.runs.specs.ZeroSum.{opened-minus, faithful-minus, faithful-only, faithful-zero}
-use Rattle.runs.specs.Runs.{runOf, inTurn, members}
+use Rattle.runs.specs.Runs.{runOf, inTurn, members, runBefore, forgottenRun}
 use Rattle.runs.specs.AnyRun.{any-run}
 use Rattle.runs.specs.Demand3.{Going, Finished}
+use Rattle.runs.specs.Unchanged.{unchanged, undivided-unchanged}
 use Rattle.runs.specs.Demand3Laws.{run-goes, run-finishes, run-bounded, run-at-once, run-left, ends-alike}
 use Rattle.runs.specs.Reordering.{Summed}
 use Rattle.runs.specs.Reordered.{summed-close, summed-reordered, summed-rounds}
@@ -96,10 +98,12 @@ pub any-run-32 : (e : ℕ) (ps : List ℕ) (work : List Float) → Accepted sing
 any-run-32 = any-run singles-fit
 
 module _ (e : ℕ) (ps : List ℕ) (work : List Float) (bs : List ℕ) where
-  pub goes-64 : Accepted doubles ps work → (s : State) → runOf doubles e ps work bs .walk .answer ≡ More s → Going doubles e ps (runOf doubles e ps work bs) s
+  pub goes-64 : Accepted doubles ps work → (s : State) (told : Float) → runOf doubles e ps work bs .walk .answer ≡ More s told
+      → Going doubles e ps (runOf doubles e ps work bs) s
   goes-64 G = run-goes doubles-fit e ps work G bs
 
-  pub goes-32 : Accepted singles ps work → (s : State) → runOf singles e ps work bs .walk .answer ≡ More s → Going singles e ps (runOf singles e ps work bs) s
+  pub goes-32 : Accepted singles ps work → (s : State) (told : Float) → runOf singles e ps work bs .walk .answer ≡ More s told
+      → Going singles e ps (runOf singles e ps work bs) s
   goes-32 G = run-goes singles-fit e ps work G bs
 
   pub finishes-64 : Accepted doubles ps work → (x : Float) (k : ℕ) → runOf doubles e ps work bs .walk .answer ≡ Done x k
@@ -126,12 +130,12 @@ module _ (e : ℕ) (ps : List ℕ) (work : List Float) (bs : List ℕ) where
       → (k ≡ 0) × (runOf singles e ps work bs .steps ≡ 0)
   at-once-32 G = run-at-once singles-fit e ps work G bs
 
-  pub left-64 : Accepted doubles ps work → (s : State) → runOf doubles e ps work bs .walk .answer ≡ More s → (cs : List ℕ)
+  pub left-64 : Accepted doubles ps work → (s : State) (told : Float) → runOf doubles e ps work bs .walk .answer ≡ More s told → (cs : List ℕ)
       → runOf doubles e ps work (bs ++ cs) .steps
       ≤ runOf doubles e ps work bs .steps + ((50 - s .rounds) * blocksOf doubles (length ps) + members (s .pending) (blocksOf doubles (length ps)))
   left-64 G = run-left doubles-fit e ps work G bs
 
-  pub left-32 : Accepted singles ps work → (s : State) → runOf singles e ps work bs .walk .answer ≡ More s → (cs : List ℕ)
+  pub left-32 : Accepted singles ps work → (s : State) (told : Float) → runOf singles e ps work bs .walk .answer ≡ More s told → (cs : List ℕ)
       → runOf singles e ps work (bs ++ cs) .steps
       ≤ runOf singles e ps work bs .steps + ((19 - s .rounds) * blocksOf singles (length ps) + members (s .pending) (blocksOf singles (length ps)))
   left-32 G = run-left singles-fit e ps work G bs
@@ -146,6 +150,21 @@ pub ends-alike-32 : (j k : ℕ) (ps : List ℕ) (work : List Float) → Accepted
     → runOf singles j ps work bs .walk .answer ≡ Done x m → runOf singles k ps work cs .walk .answer ≡ Done y n
     → runOf singles j ps work bs .walk ≡ runOf singles k ps work cs .walk
 ends-alike-32 = ends-alike singles-fit
+
+-- ---- rule DR6: what a state keeps and tells of its remainders changes nothing else
+pub unchanged-64 : (k : ℕ) (ps : List ℕ) (work : List Float) (bs : List ℕ)
+    → runBefore doubles k ps work bs ≡ forgottenRun doubles (runOf doubles k ps work bs)
+unchanged-64 = unchanged doubles-fit
+
+pub unchanged-32 : (k : ℕ) (ps : List ℕ) (work : List Float) (bs : List ℕ)
+    → runBefore singles k ps work bs ≡ forgottenRun singles (runOf singles k ps work bs)
+unchanged-32 = unchanged singles-fit
+
+pub undivided-64 : (ps : List ℕ) (work : List Float) → faithfulBefore doubles ps work ≡ faithfulOf doubles ps work
+undivided-64 = undivided-unchanged doubles-fit
+
+pub undivided-32 : (ps : List ℕ) (work : List Float) → faithfulBefore singles ps work ≡ faithfulOf singles ps work
+undivided-32 = undivided-unchanged singles-fit
 
 -- ---- rule S8, faithful sums in any order; rule S9, how far off they are
 module _ {ps qs : List ℕ} (π : Perm ps qs) {x y : Float} {j k : ℕ} {xs ys : List Float} where

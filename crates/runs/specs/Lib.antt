@@ -28,4 +28,5 @@ pub mod Reordering
 pub mod ReorderedRounds
 pub mod Reordered
 pub mod AnyRun
+pub mod Unchanged
 pub mod Instances

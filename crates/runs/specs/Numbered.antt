@@ -41,7 +41,7 @@ module _ (W : Width) (k j : ℕ) where
   heeded-under r w = by (w .answer) (w .area)
     where
       by : (a : Step) (xs : List Float) → heeded (runUnder k r) (walkUnder k (outcome a xs)) ≡ runUnder k (heeded r (outcome a xs))
-      by (More s) xs = refl
+      by (More s told) xs = refl
       by (Done x n) xs = refl
       by (Refused l p) xs = refl
 
@@ -51,8 +51,8 @@ module _ (W : Width) (k j : ℕ) where
     where
       by : (a : Step) (xs : List Float) (m : ℕ) → Named j a
           → tried W k (runUnder k (record { walk = outcome a xs; steps = m })) b ≡ runUnder k (tried W j (record { walk = outcome a xs; steps = m }) b)
-      by (More s) xs m N =
-          let before : Ran = record { walk = outcome (More s) xs; steps = m } in
+      by (More s told) xs m N =
+          let before : Ran = record { walk = outcome (More s told) xs; steps = m } in
           ap (heeded (runUnder k before)) (stepped-under W k s b xs)
           ∙ heeded-under before (stepped W s (s .ensemble) b xs)
           ∙ ap (λ (i : ℕ). runUnder k (heeded before (stepped W s i b xs))) N
@@ -67,13 +67,13 @@ module _ (W : Width) (k j : ℕ) where
       kept before B w = go (w .answer) (w .area)
         where
           go : (a : Step) (xs : List Float) → Named j a → Named j (heeded before (outcome a xs) .walk .answer)
-          go (More s) xs N = N
+          go (More s told) xs N = N
           go (Done x n) xs N = tt
           go (Refused l p) xs N = B
 
       by : (a : Step) (xs : List Float) (m : ℕ) → Named j a → Named j (tried W j (record { walk = outcome a xs; steps = m }) b .walk .answer)
-      by (More s) xs m N =
-          kept (record { walk = outcome (More s) xs; steps = m }) N (stepped W s j b xs)
+      by (More s told) xs m N =
+          kept (record { walk = outcome (More s told) xs; steps = m }) N (stepped W s j b xs)
           (subst (λ (i : ℕ). Named i (stepped W s j b xs .answer)) N (stepped-named W s j b xs))
       by (Done x n) xs m N = tt
       by (Refused l p) xs m N = tt
@@ -95,14 +95,14 @@ stranger W k j r b N n = by (r .walk .answer) (r .walk .area) (r .steps) N
   where
     by : (a : Step) (xs : List Float) (m : ℕ) → Named k a
         → tried W j (record { walk = outcome a xs; steps = m }) b ≡ record { walk = outcome a xs; steps = m }
-    by (More s) xs m N = heard (eqb (length xs) (s .n)) refl
+    by (More s told) xs m N = heard (eqb (length xs) (s .n)) refl
       where
         before : Ran
-        before = record { walk = outcome (More s) xs; steps = m }
+        before = record { walk = outcome (More s told) xs; steps = m }
 
         heard : (c : Bool) → eqb (length xs) (s .n) ≡ c → tried W j before b ≡ before
-        heard true l = tried-refused W j before b s xs refl 21 0 (gated-21 W s j b xs (eqb-true (length xs) (s .n) l) (λ e. n (e ∙ N)))
-        heard false l = tried-refused W j before b s xs refl 4 0 (gated-4 W s j b xs (eqb-false (length xs) (s .n) l))
+        heard true l = tried-refused W j before b s told xs refl 21 0 (gated-21 W s j b xs (eqb-true (length xs) (s .n) l) (λ e. n (e ∙ N)))
+        heard false l = tried-refused W j before b s told xs refl 4 0 (gated-4 W s j b xs (eqb-false (length xs) (s .n) l))
     by (Done x l) xs m N = refl
     by (Refused l p) xs m N = refl
 

@@ -3,7 +3,7 @@ use mathlib.Core.Path.{_≡_, sym, ap, _∙_}
 use mathlib.Core.Logic.{_⊎_, inl, inr}
 use mathlib.Core.Bool.{Bool, true, false}
 use mathlib.Core.List.{List, [], _∷_, _++_, append-nil, map}
-use Prim.Native.Nat.{ℕ, suc, _+_, _-_, _*_, _/_, _≤_, _<_}
+use Prim.Native.Nat.{ℕ, suc, _+_, _-_, _*_, _/_, _≤_, _<_, max}
 use native.Mathlib.Nat.{mul-comm, suc-mul, le-div-iff-mul-le, div-lt-iff-lt-mul}
 use native.Mathlib.Omega.{arith}
 use lib.ListN.{length, take, drop, length-take, length-drop, drop-of-length-le, take-append-drop, length-append}
@@ -14,7 +14,8 @@ use Rattle.units.specs.Powers.{le-or-lt}
 use Rattle.lists.specs.Bitset.{has, without}
 use Rattle.lists.specs.BitsetLaws.{has-without, has-other}
 use Rattle.kinds.specs.Limits.{Width, blocksOf}
-use Rattle.extract.specs.Extract.{remainders}
+use Rattle.extract.specs.Extract.{remainders, largest}
+use Rattle.extract.specs.ExtractLaws.{remainders-join, largest-join}
 use Rattle.rounds.specs.Round.{blockOf, turned}
 use Rattle.runs.specs.Taken.{pendingAt, mixed, takenOf}
 use Rattle.runs.specs.TakenLaws.{Throughout, mixed-join, mixed-agree, mixed-nothing, mixed-all, mixed-length}
@@ -198,6 +199,11 @@ module _ (W : Width) (some : 0 < W .block) (xs : List Float) (b : ℕ) (there : 
   pub count-then : length (takenOf (pendingAt W (without P b)) 0 xs) ≡ length (takenOf (pendingAt W P) 0 xs) + length (blockOf W b xs)
   unfolding block
   count-then = rw (taken-is, taken-was) (simp length-append (omega arith))
+
+  pub largest-then : (f : Format) (sigma : Float) → largest f (remainders f sigma (takenOf (pendingAt W (without P b)) 0 xs))
+      ≡ max (largest f (remainders f sigma (takenOf (pendingAt W P) 0 xs))) (largest f (remainders f sigma (blockOf W b xs)))
+  unfolding block
+  largest-then f sigma = rw (taken-is, taken-was) (simp (remainders-join f sigma, largest-join f) (omega arith))
 
   pub total-then : (g : Float → Whole) → total (map g (takenOf (pendingAt W (without P b)) 0 xs))
       ≈ total (map g (takenOf (pendingAt W P) 0 xs)) ⊕ total (map g (blockOf W b xs))

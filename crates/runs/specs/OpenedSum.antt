@@ -30,7 +30,7 @@ use Rattle.judge.specs.Judge.{floats, zeroSign}
 use Rattle.judge.specs.Table.{ListWhen, MinusZeros}
 use Rattle.judge.specs.JudgeLaws.{list-when, list-passed, list-allowed}
 use Rattle.sums.specs.Sums.{sumOf}
-use Rattle.extract.specs.Extract.{largest}
+use Rattle.extract.specs.Extract.{plusZero, largest}
 use Rattle.rounds.specs.Round.{allZero, freshRound, fresh}
 use Rattle.rounds.specs.ClosedLaws.{fresh-zero, fresh-round}
 use Rattle.rounds.specs.Fitting.{Fitting}
@@ -68,14 +68,14 @@ abbrev pub zeroOf : Width → List ℕ → Float
 zeroOf W ps = nearestFloat (W .format) (zeroSign W ps) (pos 0)
 
 module _ {W : Width} (F : Fitting W) (k : ℕ) (ps : List ℕ) (work : List Float) (G : ListWhen W (eqb (length work) (length ps)) true ps Good) where
-  opened-is : opened W k ps work ≡ outcome (fresh W (zeroOf W ps) (length ps) (largest (W .format) (floats W ps)) 0 k) (floats W ps)
+  opened-is : opened W k ps work ≡ outcome (fresh W (zeroOf W ps) (length ps) (largest (W .format) (floats W ps)) 0 k (plusZero (W .format))) (floats W ps)
   opened-is =
       ap (λ (v : Verdict). openedAfter W k v ps work) (list-when W (eqb (length work) (length ps)) true ps Good .1 G)
       ∙ sym (opened-good W k ps work (floats W ps) (zeroOf W ps) _ refl refl refl)
 
   -- ---- every number is zero
   pub opened-zero : allZero (W .format) (floats W ps) ≡ true → opened W k ps work ≡ outcome (Done (zeroOf W ps) 0) (floats W ps)
-  opened-zero a = opened-is ∙ ap (λ (q : Step). outcome q (floats W ps)) (fresh-zero W (zeroOf W ps) (length ps) _ 0 k a)
+  opened-zero a = opened-is ∙ ap (λ (q : Step). outcome q (floats W ps)) (fresh-zero W (zeroOf W ps) (length ps) _ 0 k (plusZero (W .format)) a)
 
   pub zero-sum : allZero (W .format) (floats W ps) ≡ true → sumOf (W .format) ps ≡ pos 0
   zero-sum a =
@@ -86,8 +86,8 @@ module _ {W : Width} (F : Fitting W) (k : ℕ) (ps : List ℕ) (work : List Floa
 
   -- ---- the first round opens
   pub opened-round : allZero (W .format) (floats W ps) ≡ false
-      → opened W k ps work ≡ outcome (More (freshRound W (length ps) (largest (W .format) (floats W ps)) 0 k)) (floats W ps)
-  opened-round a = opened-is ∙ ap (λ (q : Step). outcome q (floats W ps)) (fresh-round W (zeroOf W ps) (length ps) _ 0 k a)
+      → opened W k ps work ≡ outcome (More (freshRound W (length ps) (largest (W .format) (floats W ps)) 0 k) (plusZero (W .format))) (floats W ps)
+  opened-round a = opened-is ∙ ap (λ (q : Step). outcome q (floats W ps)) (fresh-round W (zeroOf W ps) (length ps) _ 0 k (plusZero (W .format)) a)
 
   pub opened-summing : allZero (W .format) (floats W ps) ≡ false
       → Summing W F (difference (sumOf (W .format) ps)) (ceil (largest (W .format) (floats W ps)))

@@ -25,40 +25,40 @@ use Rattle.kinds.specs.declared.Verdict.the-variants as verdicts
 use Rattle.judge.specs.Judge.{floats}
 use Rattle.judge.specs.Table.{ListWhen}
 use Rattle.sums.specs.Sums.{sumOf}
-use Rattle.extract.specs.Extract.{gathered}
-use Rattle.rounds.specs.Round.{allZero, blockOf, inRound, allTaken, allLeft, closed}
+use Rattle.extract.specs.Extract.{plusZero}
+use Rattle.rounds.specs.Round.{allZero, inRound, allTaken, allLeft, closed}
 use Rattle.rounds.specs.Fitting.{Fitting}
 use Rattle.rounds.specs.Begun.{begun-rounds}
 use Rattle.walk.specs.Walk.{Walked, opened, roundsFrom, stepped, undividedOf}
 use Rattle.walk.specs.Undivided.{faithful-done}
 use Rattle.sound.specs.Sound.{gated}
 use Rattle.walk.specs.StepLaws.{stepped-refused}
-use Rattle.walk.specs.Run.{Running, run-ends, run-goes}
+use Rattle.walk.specs.Run.{Running, run-ends, run-goes, run-told}
 use Rattle.runs.specs.Taken.{midArea}
 use Rattle.runs.specs.Summing.{Summing}
 use Rattle.runs.specs.OpenedSum.{zeroOf, opened-zero, opened-round, opened-summing}
 use Rattle.runs.specs.SumRun.{SumNext, ends, goes, sums-close}
 use Rattle.runs.specs.MidRound.{Mid, mid-begins, begins-area, begins-some, mid-takes}
-use Rattle.runs.specs.MidStep.{mid-goes, mid-closes, mid-refused}
+use Rattle.runs.specs.MidStep.{after, mid-goes, mid-closes, mid-refused}
 use Rattle.runs.specs.Runs.{Ran, heeded, tried, members}
 use Rattle.runs.specs.MembersLaws.{members-none, members-full, members-without}
 
-pub tried-more : (W : Width) (k : ℕ) (r : Ran) (b : ℕ) (s : State) (xs : List Float) → r .walk ≡ outcome (More s) xs
+pub tried-more : (W : Width) (k : ℕ) (r : Ran) (b : ℕ) (s : State) (told : Float) (xs : List Float) → r .walk ≡ outcome (More s told) xs
     → tried W k r b ≡ heeded r (stepped W s k b xs)
-tried-more W k r b s xs e = rw e
+tried-more W k r b s told xs e = rw e
 
 -- a refused step leaves a run as it is
-pub tried-refused : (W : Width) (k : ℕ) (r : Ran) (b : ℕ) (s : State) (xs : List Float) → r .walk ≡ outcome (More s) xs → (l p : ℕ)
+pub tried-refused : (W : Width) (k : ℕ) (r : Ran) (b : ℕ) (s : State) (told : Float) (xs : List Float) → r .walk ≡ outcome (More s told) xs → (l p : ℕ)
     → gated W s k b xs ≡ verdicts.Refused l p → tried W k r b ≡ r
-tried-refused W k r b s xs w l p g =
+tried-refused W k r b s told xs w l p g =
     let same : xs ≡ r .walk .area = sym (ap (λ (w : Walked). w .area) w) in
-    tried-more W k r b s xs w
+    tried-more W k r b s told xs w
     ∙ ap (heeded r) (sym (stepped-refused W s b xs (gated W s k b xs) l p g))
     ∙ (λ i. record { walk = outcome (r .walk .answer) (same i); steps = r .steps })
 
 module _ (W : Width) (F : Fitting W) (k : ℕ) (ps : List ℕ) (work : List Float) where
   -- in a round of the walk over the list: the state that opened it and the area then, whose numbers sum to S, what of it was taken since, and that what
-  -- follows from its opening is the undivided walk under k
+  -- follows from its opening, whatever was told then, is the undivided walk under k
   pub record During (r : Ran) : Type 0 where
     pub e : ℕ
     pub first : State
@@ -68,11 +68,13 @@ module _ (W : Width) (F : Fitting W) (k : ℕ) (ps : List ℕ) (work : List Floa
     pub summing : Summing W F (difference (sumOf (W .format) ps)) e first xs
     pub pending : ℕ
     pub tau : Float
-    pub mid : Mid (summing .begun) pending tau
+    pub largest : Float
+    pub mid : Mid (summing .begun) pending tau largest
     pub some : 0 < pending
-    pub walk : r .walk ≡ outcome (More (inRound first tau pending)) (midArea W first pending xs)
+    pub told : Float
+    pub walk : r .walk ≡ outcome (More (inRound first tau largest pending) told) (midArea W first pending xs)
     pub steps : r .steps + members pending (blocksOf W (first .n)) ≡ first .rounds * blocksOf W (first .n) + blocksOf W (first .n)
-    pub rest : roundsFrom W (blocksOf W (length ps)) (suc (W .rounds) - first .rounds) (outcome (More first) xs) ≡ undividedOf W k ps work
+    pub rest : (m : Float) → roundsFrom W (blocksOf W (length ps)) (suc (W .rounds) - first .rounds) (outcome (More first m) xs) ≡ undividedOf W k ps work
 
   -- ended, as the undivided walk under k does
   pub record Over (r : Ran) : Type 0 where
@@ -88,10 +90,10 @@ module _ (W : Width) (F : Fitting W) (k : ℕ) (ps : List ℕ) (work : List Floa
 
   -- ---- as a round opens
   opening : {e : ℕ} {s : State} {xs : List Float} → s .n ≡ length ps → s .ensemble ≡ k → (A : Summing W F (difference (sumOf (W .format) ps)) e s xs)
-      (r : Ran) → r .walk ≡ outcome (More s) xs → r .steps ≡ s .rounds * blocksOf W (s .n)
-      → roundsFrom W (blocksOf W (length ps)) (suc (W .rounds) - s .rounds) (outcome (More s) xs) ≡ undividedOf W k ps work
+      (r : Ran) (told : Float) → r .walk ≡ outcome (More s told) xs → r .steps ≡ s .rounds * blocksOf W (s .n)
+      → roundsFrom W (blocksOf W (length ps)) (suc (W .rounds) - s .rounds) (outcome (More s told) xs) ≡ undividedOf W k ps work
       → During r
-  opening {e} {s} {xs} n m A r w c h = record {
+  opening {e} {s} {xs} n m A r told w c h = record {
     e = e;
     first = s;
     xs = xs;
@@ -100,12 +102,23 @@ module _ (W : Width) (F : Fitting W) (k : ℕ) (ps : List ℕ) (work : List Floa
     summing = A;
     pending = s .pending;
     tau = s .tau;
+    largest = s .largest;
     mid = mid-begins (A .begun);
     some = begins-some (A .begun);
-    walk = w ∙ ap (λ (l : List Float). outcome (More s) l) (sym (begins-area (A .begun)));
+    told = told;
+    walk = w ∙ ap (λ (l : List Float). outcome (More s told) l) (sym (begins-area (A .begun)));
     steps = rw (A .begun .pending, members-full (blocksOf W (s .n))) (omega (arith, c));
-    rest = h;
+    rest = λ l. (λ i. roundsFrom W (blocksOf W (length ps)) (left i) (outcome (More s l) xs))
+        ∙ run-told R (W .rounds - s .rounds) l told
+        ∙ (λ i. roundsFrom W (blocksOf W (length ps)) (sym left i) (outcome (More s told) xs))
+        ∙ h;
   }
+    where
+      R : Running W F (length ps) s xs
+      R = record { e = e; count = n; begun = A .begun }
+
+      left : suc (W .rounds) - s .rounds ≡ suc (W .rounds - s .rounds)
+      left = omega (arith, begun-rounds (A .begun))
 
   -- ---- a step at a pending block
   module _ (r : Ran) (D : During r) (b : ℕ) (h : has (D .pending) b ≡ true) where
@@ -113,10 +126,10 @@ module _ (W : Width) (F : Fitting W) (k : ℕ) (ps : List ℕ) (work : List Floa
     B = blocksOf W (D .first .n)
 
     trying : tried W k r b
-        ≡ heeded r (stepped W (inRound (D .first) (D .tau) (D .pending)) (D .first .ensemble) b (midArea W (D .first) (D .pending) (D .xs)))
+        ≡ heeded r (stepped W (inRound (D .first) (D .tau) (D .largest) (D .pending)) (D .first .ensemble) b (midArea W (D .first) (D .pending) (D .xs)))
     trying =
-        tried-more W k r b (inRound (D .first) (D .tau) (D .pending)) (midArea W (D .first) (D .pending) (D .xs)) (D .walk)
-        ∙ (λ i. heeded r (stepped W (inRound (D .first) (D .tau) (D .pending)) (sym (D .named) i) b (midArea W (D .first) (D .pending) (D .xs))))
+        tried-more W k r b (inRound (D .first) (D .tau) (D .largest) (D .pending)) (D .told) (midArea W (D .first) (D .pending) (D .xs)) (D .walk)
+        ∙ (λ i. heeded r (stepped W (inRound (D .first) (D .tau) (D .largest) (D .pending)) (sym (D .named) i) b (midArea W (D .first) (D .pending) (D .xs))))
 
     fewer : members (without (D .pending) b) B + 1 ≡ members (D .pending) B
     unfolding B
@@ -133,13 +146,18 @@ module _ (W : Width) (F : Fitting W) (k : ℕ) (ps : List ℕ) (work : List Floa
       named = D .named;
       summing = D .summing;
       pending = without (D .pending) b;
-      tau = gathered (W .format) (D .first .sigma) (D .tau) (blockOf W b (D .xs));
+      tau = next .tau;
+      largest = next .largest;
       mid = mid-takes (D .summing .begun) (D .mid) b h;
       some = omega (arith, z);
+      told = next .largest;
       walk = refl;
       steps = omega (arith, D .steps, fewer);
       rest = D .rest;
     })
+      where
+        next : State
+        next = after (D .summing .begun) (D .pending) (D .tau) (D .largest) b
 
     -- the last: the round closes
     running : Running W F (length ps) (D .first) (D .xs)
@@ -166,8 +184,8 @@ module _ (W : Width) (F : Fitting W) (k : ℕ) (ps : List ℕ) (work : List Floa
         walked : ℕ → Walked → Walked
         walked j w = roundsFrom W (blocksOf W (length ps)) j w
 
-        again : walked (suc left-over) (outcome (More s) (D .xs)) ≡ undividedOf W k ps work
-        again = ap (λ (j : ℕ). walked j (outcome (More s) (D .xs))) (sym fuel) ∙ D .rest
+        again : walked (suc left-over) (outcome (More s (D .told)) (D .xs)) ≡ undividedOf W k ps work
+        again = ap (λ (j : ℕ). walked j (outcome (More s (D .told)) (D .xs))) (sym fuel) ∙ D .rest (D .told)
 
         steps : r .steps + 1 ≡ (s .rounds + 1) * B
         steps =
@@ -180,14 +198,14 @@ module _ (W : Width) (F : Fitting W) (k : ℕ) (ps : List ℕ) (work : List Floa
           sum = x;
           rounds = s .rounds + 1;
           answer = refl;
-          undivided = run-ends running left-over x (s .rounds + 1) e ∙ again;
+          undivided = run-ends running left-over (D .told) x (s .rounds + 1) e ∙ again;
           steps = steps ∙ ap (λ (n : ℕ). (s .rounds + 1) * blocksOf W n) (D .count);
           lowered = λ j i. let e : j ≡ s .rounds = omega arith in rw (e, ← (D .count)) (omega (arith, D .summing .begun .lowered));
         })
-        go (goes e' next same named more A) e =
+        go (goes e' next m same named more A) e =
             let j : suc (W .rounds) - next .rounds ≡ left-over = omega (arith, more) in
-            inl (opening (same ∙ D .count) (named ∙ D .named) A _ refl (steps ∙ (λ i. sym more i * blocksOf W (sym same i)))
-            (ap (λ (j : ℕ). walked j (outcome (More next) left)) j ∙ sym (run-goes running left-over next e) ∙ again))
+            inl (opening (same ∙ D .count) (named ∙ D .named) A _ m refl (steps ∙ (λ i. sym more i * blocksOf W (sym same i)))
+            (ap (λ (j : ℕ). walked j (outcome (More next m) left)) j ∙ sym (run-goes running left-over (D .told) next m e) ∙ again))
 
     pub reached-accepts : Reached (tried W k r b)
     reached-accepts = go (eqb (without (D .pending) b) 0) refl
@@ -199,9 +217,9 @@ module _ (W : Width) (F : Fitting W) (k : ℕ) (ps : List ℕ) (work : List Floa
   -- ---- a step at any other block leaves the run as it is
   pub reached-refuses : (r : Ran) (D : During r) (b : ℕ) → has (D .pending) b ≡ false → tried W k r b ≡ r
   reached-refuses r D b h =
-      let s = inRound (D .first) (D .tau) (D .pending) in
+      let s = inRound (D .first) (D .tau) (D .largest) (D .pending) in
       let area = midArea W (D .first) (D .pending) (D .xs) in
-      tried-refused W k r b s area (D .walk) _ _
+      tried-refused W k r b s (D .told) area (D .walk) _ _
       (ap (λ (j : ℕ). gated W s j b area) (sym (D .named)) ∙ mid-refused (D .summing .begun) (D .mid) (D .some) b h)
 
   pub reached-step : (r : Ran) → Reached r → (b : ℕ) → Reached (tried W k r b)
@@ -240,5 +258,5 @@ module _ (W : Width) (F : Fitting W) (k : ℕ) (ps : List ℕ) (work : List Floa
       go false a =
           let z : suc (W .rounds) - 0 ≡ suc (W .rounds) = omega arith in
           let e = opened-round F k ps work G a in
-          inl (opening refl refl (opened-summing F k ps work G a) start e (sym (zero-mul (blocksOf W (length ps))))
+          inl (opening refl refl (opened-summing F k ps work G a) start (plusZero (W .format)) e (sym (zero-mul (blocksOf W (length ps))))
           (λ i. roundsFrom W (blocksOf W (length ps)) (z i) (sym e i)))

@@ -32,7 +32,8 @@ use Rattle.rounds.specs.ClosedLaws.{tau1Of, finishes, furtherRound}
 use Rattle.rounds.specs.Exactness.{ExactSums}
 use Rattle.rounds.specs.Fitting.{Fitting}
 use Rattle.rounds.specs.InUnits.{gathers, gathers-exact}
-use Rattle.rounds.specs.Begun.{Begun, first-tau}
+use Rattle.extract.specs.LargestWithLaws.{positive-same}
+use Rattle.rounds.specs.Begun.{Begun, first-tau, largest-left}
 use Rattle.walk.specs.Walk.{Walked, roundsFrom, faithfulOf}
 use Rattle.walk.specs.Run.{Running, run-round, run-running, run-done}
 use Rattle.runs.specs.OpenedSum.{opened-zero, opened-round, opened-summing}
@@ -73,7 +74,7 @@ module _ {W : Width} {F : Fitting W} {d e : ℕ} {s : State} {xs ys : List Float
 
 -- ---- a close
 data Closes : Step → Step → Type 0 where
-  goes : (s : State) → Closes (More s) (More s)
+  goes : (s : State) (told : Float) → Closes (More s told) (More s told)
   ends : (x y : Float) (r : ℕ) → Closes (Done x r) (Done y r)
 
 -- of the area only the last sum is asked, and mu
@@ -86,35 +87,40 @@ closes-alike W mu s xs ys = go (eq (tau1Of W s) (plusZero (W .format))) (eqb mu 
 
     at : List Float → Bool → Bool → Bool → Step
     at zs a b c =
-        cond a (cond b (Done (plusZero f) (s .rounds + 1)) (More (freshRound W (s .n) mu (s .rounds + 1) (s .ensemble))))
-        (cond c (Done (finished f (tau1Of W s) (s .t) (s .tau) zs) (s .rounds + 1)) (More (furtherRound W s)))
+        cond a (cond b (Done (plusZero f) (s .rounds + 1)) (More (freshRound W (s .n) mu (s .rounds + 1) (s .ensemble)) (s .largest)))
+        (cond c (Done (finished f (tau1Of W s) (s .t) (s .tau) zs) (s .rounds + 1)) (More (furtherRound W s) (s .largest)))
 
     go : (a b c : Bool) → Closes (at xs a b c) (at ys a b c)
     go true true c = ends _ _ _
-    go true false c = goes _
+    go true false c = goes _ _
     go false b true = ends _ _ _
-    go false b false = goes _
+    go false b false = goes _ _
 
 -- ---- a walk
 pub data SameRounds : Walked → Walked → Type 0 where
-  going : (s : State) {xs ys : List Float} → Perm xs ys → SameRounds (outcome (More s) xs) (outcome (More s) ys)
+  going : (s : State) (told : Float) {xs ys : List Float} → Perm xs ys → SameRounds (outcome (More s told) xs) (outcome (More s told) ys)
   ended : (x y : Float) (r : ℕ) {xs ys : List Float} → Perm xs ys → SameRounds (outcome (Done x r) xs) (outcome (Done y r) ys)
 
 module _ {W : Width} {F : Fitting W} {n : ℕ} where
-  rounds-alike : (k : ℕ) {s : State} {xs ys : List Float} → Running W F n s xs → Running W F n s ys → Perm xs ys
-      → SameRounds (roundsFrom W (blocksOf W n) k (outcome (More s) xs)) (roundsFrom W (blocksOf W n) k (outcome (More s) ys))
+  rounds-alike : (k : ℕ) (told : Float) {s : State} {xs ys : List Float} → Running W F n s xs → Running W F n s ys → Perm xs ys
+      → SameRounds (roundsFrom W (blocksOf W n) k (outcome (More s told) xs)) (roundsFrom W (blocksOf W n) k (outcome (More s told) ys))
   unfolding roundsFrom remainders
-  rounds-alike zero {s} R Q π = going s π
-  rounds-alike (suc k) {s} {xs} {ys} R Q π =
-      rw (run-round R k, run-round Q k) (after same refl refl (λ s' a b. rounds-alike k (run-running R s' a .0) (run-running Q s' b .0) left))
+  rounds-alike zero told {s} R Q π = going s told π
+  rounds-alike (suc k) told {s} {xs} {ys} R Q π =
+      rw (run-round R k told, run-round Q k told)
+      (after same refl refl (λ s' m a b. rounds-alike k m (run-running R s' m a .0) (run-running Q s' m b .0) left))
     where
       left : Perm (allLeft W s xs) (allLeft W s ys)
       left = Perm·map (remainderOf (W .format) (s .sigma)) π
 
+      kept-reordered : allTaken W s xs .largest ≡ allTaken W s ys .largest
+      kept-reordered =
+          positive-same (largest-left (R .begun)) (rw (largest-reordered (W .format) left) (largest-left (Q .begun)))
+
       same : Closes (closed W (allTaken W s xs) (allLeft W s xs)) (closed W (allTaken W s ys) (allLeft W s ys))
       same =
-          rw (tau-reordered (R .begun) (Q .begun) π, largest-reordered (W .format) left)
-          (closes-alike W (largest (W .format) (allLeft W s ys)) (allTaken W s ys) (allLeft W s xs) (allLeft W s ys))
+          rw (tau-reordered (R .begun) (Q .begun) π, kept-reordered)
+          (closes-alike W (magnitude (W .format) (allTaken W s ys .largest)) (allTaken W s ys) (allLeft W s xs) (allLeft W s ys))
 
       close : List Float → Step
       close zs = closed W (allTaken W s zs) (allLeft W s zs)
@@ -123,9 +129,9 @@ module _ {W : Width} {F : Fitting W} {n : ℕ} where
       ends-with q zs = roundsFrom W (blocksOf W n) k (outcome q (allLeft W s zs))
 
       after : {p q : Step} → Closes p q → close xs ≡ p → close ys ≡ q
-          → ((s' : State) → close xs ≡ More s' → close ys ≡ More s' → SameRounds (ends-with (More s') xs) (ends-with (More s') ys))
+          → ((s' : State) (m : Float) → close xs ≡ More s' m → close ys ≡ More s' m → SameRounds (ends-with (More s' m) xs) (ends-with (More s' m) ys))
           → SameRounds (ends-with p xs) (ends-with q ys)
-      after (goes s') a b next = next s' a b
+      after (goes s' m) a b next = next s' m a b
       after (ends x y r) a b next =
           rw (run-done W (blocksOf W n) k x r (allLeft W s xs), run-done W (blocksOf W n) k y r (allLeft W s ys)) (ended x y r left)
 
@@ -155,12 +161,12 @@ module _ {W : Width} (F : Fitting W) {ps qs : List ℕ} (π : Perm ps qs) (work 
           let R : Running W F (length ps) _ _ = record { e = _; count = refl; begun = opened-summing F 0 ps work G a .begun } in
           let Q : Running W F (length qs) _ _ = record { e = _; count = refl; begun = opened-summing F 0 qs room H (e ∙ a) .begun } in
           rw (opened-round F 0 ps work G a, opened-round F 0 qs room H (e ∙ a), ← (length-reordered π), ← mu-same)
-          (rounds-alike (suc (W .rounds)) R (rw (← (length-reordered π), ← mu-same) at Q) numbers)
+          (rounds-alike (suc (W .rounds)) (plusZero (W .format)) R (rw (← (length-reordered π), ← mu-same) at Q) numbers)
 
 -- what two walks that have ended have in common
 pub ended-alike : {v w : Walked} {x y : Float} {j k : ℕ} {xs ys : List Float} → SameRounds v w → v ≡ outcome (Done x j) xs → w ≡ outcome (Done y k) ys
     → (j ≡ k) × Perm xs ys
-ended-alike (going s π) e d = let m = ap (λ (w : Walked). w .answer) e in apart (cc)
+ended-alike (going s told π) e d = let m = ap (λ (w : Walked). w .answer) e in apart (cc)
 ended-alike (ended a b r π) e d =
     let m = ap (λ (w : Walked). w .answer) e in
     let n = ap (λ (w : Walked). w .answer) d in

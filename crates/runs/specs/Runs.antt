@@ -11,6 +11,7 @@ use Rattle.kinds.specs.Outcome.{outcome}
 use Rattle.kinds.specs.declared.Step.{Step}
 use Rattle.kinds.specs.declared.Step.the-variants.{More, Done, Refused}
 use Rattle.walk.specs.Walk.{Walked, opened, stepped, onward}
+use Rattle.walk.specs.Before.{steppedBefore, forgotten}
 
 -- what the opening or the last accepted step left, and how many steps were accepted
 pub record Ran : Type 0 where
@@ -22,7 +23,7 @@ abbrev pub heeded : Ran → Walked → Ran
 heeded r w = by (w .answer)
   where
     by : Step → Ran
-    by (More s) = record { walk = w; steps = r .steps + 1 }
+    by (More s told) = record { walk = w; steps = r .steps + 1 }
     by (Done x k) = record { walk = w; steps = r .steps + 1 }
     by (Refused k p) = record { walk = outcome (r .walk .answer) (w .area); steps = r .steps }
 
@@ -30,7 +31,7 @@ abbrev pub tried : Width → ℕ → Ran → ℕ → Ran
 tried W k r b = by (r .walk .answer)
   where
     by : Step → Ran
-    by (More s) = heeded r (stepped W s k b (r .walk .area))
+    by (More s told) = heeded r (stepped W s k b (r .walk .area))
     by (Done x n) = r
     by (Refused l p) = r
 
@@ -48,6 +49,21 @@ asked W r a = tried W (a .named) r (a .block)
 unfoldable pub own : ℕ → List Asked → List ℕ
 own k [] = []
 own k (a ∷ rest) = cond (eqb (a .named) k) (a .block ∷ own k rest) (own k rest)
+
+-- rule DR6: a run of the walk as it was before, and a run without the largest remainders that are kept and told
+abbrev pub triedBefore : Width → ℕ → Ran → ℕ → Ran
+triedBefore W k r b = by (r .walk .answer)
+  where
+    by : Step → Ran
+    by (More s told) = heeded r (steppedBefore W s k b (r .walk .area))
+    by (Done x n) = r
+    by (Refused l p) = r
+
+abbrev pub runBefore : Width → ℕ → List ℕ → List Float → List ℕ → Ran
+runBefore W k ps work bs = foldl (triedBefore W k) (record { walk = opened W k ps work; steps = 0 }) bs
+
+abbrev pub forgottenRun : Width → Ran → Ran
+forgottenRun W r = record { walk = forgotten W (r .walk); steps = r .steps }
 
 -- how many of the numbers below count are in a set
 unfoldable pub members : ℕ → ℕ → ℕ

@@ -97,7 +97,7 @@ module _ {W : Width} {F : Fitting W} {S : Whole} {e : ℕ} {s : State} {xs : Lis
   next-units : (whole (W .format) (tau1Of W (allTaken W s xs))
       ≡ units.tau1 (prec (W .format)) (whole (W .format) (s .t)) (whole (W .format) (allTaken W s xs .tau)))
       × Held (W .format) (F .bound + 1) (tau1Of W (allTaken W s xs))
-  next-units = tau1-units (F .bound) room (held (A .begun .kept)) (held (tau-all (A .begun)))
+  next-units = tau1-units (F .bound) room (held (A .begun .carried)) (held (tau-all (A .begun)))
 
   next-zero : eq (tau1Of W (allTaken W s xs)) (plusZero (W .format)) ≡ true
       → units.tau1 (prec (W .format)) (whole (W .format) (s .t)) (whole (W .format) (allTaken W s xs .tau)) ≈ nat 0
@@ -176,11 +176,12 @@ module _ {W : Width} {F : Fitting W} {S : Whole} {e : ℕ} {s : State} {xs : Lis
   pub finished-units : Number (W .format) answer
       × (whole (W .format) answer
       ≡ units.answer (prec (W .format)) (whole (W .format) (s .t)) (whole (W .format) (allTaken W s xs .tau)) (wholes (W .format) (allLeft W s xs)))
-  finished-units = answer-units (F .bound) room (held (A .begun .kept)) (held (tau-all (A .begun))) (allLeft W s xs) (left-sum .0) (left-sum .1) (left-sum .2)
+  finished-units =
+      answer-units (F .bound) room (held (A .begun .carried)) (held (tau-all (A .begun))) (allLeft W s xs) (left-sum .0) (left-sum .1) (left-sum .2)
 
   pub finished-plus : eq (tau1Of W (allTaken W s xs)) (plusZero (W .format)) ≡ false → magnitude (W .format) answer ≡ 0 → negative answer ≡ false
   finished-plus z =
-      sum-number (F .bound) room (held (A .begun .kept)) (held (tau-all (A .begun))) (allLeft W s xs)
+      sum-number (F .bound) room (held (A .begun .carried)) (held (tau-all (A .begun))) (allLeft W s xs)
       (record { number = left-sum .0; within = left-sum .2 })
       (λ m. absurd (not-zero (W .format) (tau1Of W (allTaken W s xs)) (next-units .1 .number) z m)) .1
 

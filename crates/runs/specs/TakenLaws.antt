@@ -1,7 +1,7 @@
 -- The area and the numbers taken of a joined list; where all places of a part are pending, where none is, and where two sets agree. Assumes nothing.
 use mathlib.Core.Path.{_≡_, refl, ap}
 use mathlib.Core.Bool.{Bool, true, false, cond}
-use mathlib.Core.List.{List, [], _∷_, _++_}
+use mathlib.Core.List.{List, [], _∷_, _++_, map}
 use Prim.Native.Nat.{ℕ, suc, _+_, _≤_, _<_}
 use native.Mathlib.Omega.{arith}
 use lib.ListN.{length}
@@ -43,7 +43,29 @@ module _ (pend : ℕ → Bool) where
       go true us h = omega arith
       go false us h = omega arith
 
+  pub taken-each : (P : Float → Type 0) (i : ℕ) (xs : List Float) → Each P xs → Each P (takenOf pend i xs)
+  unfolding takenOf
+  taken-each P i [] h = tt
+  taken-each P i (x ∷ xs) h = go (pend i) (taken-each P (suc i) xs (h .1))
+    where
+      go : (b : Bool) → Each P (takenOf pend (suc i) xs) → Each P (cond b (takenOf pend (suc i) xs) (x ∷ takenOf pend (suc i) xs))
+      go true r = r
+      go false r = (h .0, r)
+
   module _ (f : Format) (sigma : Float) where
+    -- at the places that were taken stand their remainders
+    pub taken-mixed : (i : ℕ) (xs : List Float) → takenOf pend i (mixed f sigma pend i xs) ≡ remainders f sigma (takenOf pend i xs)
+    unfolding takenOf mixed remainders
+    taken-mixed i [] = refl
+    taken-mixed i (x ∷ xs) = go (pend i) (taken-mixed (suc i) xs)
+      where
+        go : (b : Bool) → takenOf pend (suc i) (mixed f sigma pend (suc i) xs) ≡ map (remainderOf f sigma) (takenOf pend (suc i) xs)
+            → cond b (takenOf pend (suc i) (mixed f sigma pend (suc i) xs))
+            (cond b x (remainderOf f sigma x) ∷ takenOf pend (suc i) (mixed f sigma pend (suc i) xs))
+            ≡ map (remainderOf f sigma) (cond b (takenOf pend (suc i) xs) (x ∷ takenOf pend (suc i) xs))
+        go true e = e
+        go false e = ap (λ (l : List Float). remainderOf f sigma x ∷ l) e
+
     pub mixed-join : (i : ℕ) (xs ys : List Float) → mixed f sigma pend i (xs ++ ys) ≡ mixed f sigma pend i xs ++ mixed f sigma pend (i + length xs) ys
     unfolding mixed
     mixed-join i [] ys = let z : i + 0 ≡ i = omega arith in rw z

@@ -1,9 +1,10 @@
--- The numbers of a sound state in propositions: n and the rounds, sigma, t and tau. What else is said of such a state stands on these. Definitions only.
+-- The numbers of a sound state in propositions: n and the rounds, sigma, t and tau, the largest remainder. What else is said of such a state stands on these.
+-- Definitions only.
 use mathlib.Core.Path.{_≡_}
 use mathlib.Core.Bool.{false}
-use Prim.Native.Nat.{ℕ, _+_, _^_, _≤_}
+use Prim.Native.Nat.{ℕ, _+_, _*_, _^_, _≤_}
 use lib.Dec.{T}
-use lib.Ieee.{Float, Format}
+use lib.Ieee.{Float, Format, prec}
 use lib.Ieee.Scale.{finite}
 use Rattle.units.specs.Rounding.{ceil}
 use Rattle.ieee.specs.Units.{negative, magnitude}
@@ -39,9 +40,16 @@ pub record Counts (W : Width) (n closed : ℕ) : Type 0 where
   pub few : n ≤ W .length
   pub rounds : closed ≤ W .rounds
 
+-- rule WS15: eps is 2^-prec
+pub record UpToEps (f : Format) (sigma x : Float) : Type 0 where
+  pub fini : T (finite x)
+  pub unsigned : negative x ≡ false
+  pub small : 2 ^ prec f * magnitude f x ≤ magnitude f sigma
+
 pub record Numbers (W : Width) (s : State) : Type 0 where
   pub counts : Counts W (s .n) (s .rounds)
   pub sigma : SigmaBetween W (s .n) (s .sigma)
   -- rule WS7
   pub t : FiniteWithin (W .format) (sizeOf W (W .carried)) (s .t)
   pub tau : FiniteWithin (W .format) (sizeOf W (W .carried)) (s .tau)
+  pub largest : UpToEps (W .format) (s .sigma) (s .largest)

@@ -3,14 +3,14 @@
 use mathlib.Core.Path.{_≡_, refl, sym, ap, _∙_}
 use mathlib.Core.Bool.{Bool, true, false, _&&_, cond}
 use mathlib.Core.List.{List, [], _∷_}
-use Prim.Native.Nat.{ℕ, suc, _+_, _-_, _*_, _^_, _≤_, _<_}
-use native.Mathlib.Nat.{mul-le-mul-left, le-of-mul-le-mul-left}
+use Prim.Native.Nat.{ℕ, zero, suc, _+_, _-_, _*_, _^_, _≤_, _<_}
+use native.Mathlib.Nat.{mul-zero, mul-suc, mul-le-mul-left, le-of-mul-le-mul-left}
 use native.Mathlib.Numerals.{add-one}
 use native.Mathlib.Omega.{arith}
 use borrow.Author.Tests.{ne-eqb}
 use lib.Dec.{leb, eqb, leb→le, le→leb}
 use lib.ListN.{length, getD, drop, drop-of-length-le}
-use lib.Pow.{pow-pos}
+use lib.Pow.{pow-pos, pow-lt}
 use lib.Seq.{drop-cons}
 use lib.Ieee.{Float}
 use lib.Ieee.Scale.{finite}
@@ -70,24 +70,36 @@ none-above W most [] = refl
 none-above W most (x ∷ xs) =
     ap (λ (b : Bool). atMost W most x && b) (none-above W most xs) ∙ sym (counts (atMost W most x) (firstAbove W most xs) (length xs))
 
+-- ---- 2^-j sigma, of a sigma of 2^k units
+pub scaled : (j k a : ℕ) → j ≤ k → leb a (2 ^ (k - j)) ≡ leb (2 ^ j * a) (2 ^ k)
+scaled j k a low =
+    same-test (leb a Q) (leb (2 ^ j * a) (2 ^ k))
+    (λ t. le→leb (2 ^ j * a) (2 ^ k) (rw whole (mul-le-mul-left (2 ^ j) (leb→le a Q t))))
+    (λ t. le→leb a Q (le-of-mul-le-mul-left (rw whole at (leb→le (2 ^ j * a) (2 ^ k) t)) (pow-pos j)))
+  where
+    Q : ℕ
+    Q = 2 ^ (k - j)
+
+    whole : 2 ^ k ≡ 2 ^ j * Q
+    whole = omega (arith, pow-split low)
+
+-- where it is less than a unit
+pub scaled-none : (j k a : ℕ) → k < j → leb a 0 ≡ leb (2 ^ j * a) (2 ^ k)
+scaled-none j k a high =
+    same-test (leb a 0) (leb (2 ^ j * a) (2 ^ k))
+    (λ t. let z : a ≡ 0 = omega (arith, leb→le a 0 t) in le→leb (2 ^ j * a) (2 ^ k) (rw (z, mul-zero (2 ^ j)) (omega arith)))
+    (λ t. le→leb a 0 (omega (arith, none a (leb→le (2 ^ j * a) (2 ^ k) t))))
+  where
+    none : (a : ℕ) → 2 ^ j * a ≤ 2 ^ k → a ≡ 0
+    none zero h = refl
+    none (suc a) h = absurd (omega (arith, mul-suc (2 ^ j) a, pow-lt {i = k} {j = j} high))
+
 -- ---- 2^-M sigma
 module _ (W : Width) (s : State) {k : ℕ} (sigma : magnitude (W .format) (s .sigma) ≡ 2 ^ k) (low : exponentOf (s .n) ≤ k) where
-  scaled : (a : ℕ) → leb a (2 ^ (k - exponentOf (s .n))) ≡ leb (2 ^ exponentOf (s .n) * a) (magnitude (W .format) (s .sigma))
-  scaled a =
-      same-test (leb a Q) (leb (P * a) (magnitude (W .format) (s .sigma)))
-      (λ t. le→leb (P * a) (magnitude (W .format) (s .sigma)) (rw whole (mul-le-mul-left P (leb→le a Q t))))
-      (λ t. le→leb a Q (le-of-mul-le-mul-left (rw whole at (leb→le (P * a) (magnitude (W .format) (s .sigma)) t)) (pow-pos (exponentOf (s .n)))))
-    where
-      P : ℕ
-      P = 2 ^ exponentOf (s .n)
-
-      Q : ℕ
-      Q = 2 ^ (k - exponentOf (s .n))
-
-      whole : magnitude (W .format) (s .sigma) ≡ P * Q
-      whole = sigma ∙ omega (arith, pow-split low)
+  at-place : (a : ℕ) → leb a (2 ^ (k - exponentOf (s .n))) ≡ leb (2 ^ exponentOf (s .n) * a) (magnitude (W .format) (s .sigma))
+  at-place a = rw sigma (scaled (exponentOf (s .n)) k a low)
 
   pub places-same : (xs : List Float) → firstAbove W (2 ^ (k - exponentOf (s .n))) xs ≡ badPlace W s xs
   unfolding firstAbove badPlace atMost
   places-same [] = refl
-  places-same (x ∷ xs) = λ i. cond (finite x && scaled (magnitude (W .format) x) i) (places-same xs i + 1) 0
+  places-same (x ∷ xs) = λ i. cond (finite x && at-place (magnitude (W .format) x) i) (places-same xs i + 1) 0

@@ -4,7 +4,7 @@ use mathlib.Core.List.{List, [], _∷_}
 use Prim.Native.Nat.{ℕ, _+_, _*_, _^_}
 use lib.Dec.{leb, ltb, eqb}
 use lib.ListN.{length}
-use lib.Ieee.{Float}
+use lib.Ieee.{Float, prec}
 use lib.Ieee.Scale.{finite}
 use Rattle.units.specs.Rounding.{ceil}
 use Rattle.ieee.specs.Units.{negative, magnitude}
@@ -25,11 +25,15 @@ soundSigma W n sigma =
 unfoldable pub atMost : Width → ℕ → Float → Bool
 atMost W most x = finite x && leb (magnitude (W .format) x) most
 
--- rules WS3, WS4, WS6 and WS7
+-- rule WS15: no sign, and at most eps times sigma, which is 2^-prec times it
+unfoldable pub soundLargest : Width → Float → Float → Bool
+soundLargest W sigma x = finite x && not (negative x) && leb (2 ^ prec (W .format) * magnitude (W .format) x) (magnitude (W .format) sigma)
+
+-- rules WS3, WS4, WS6, WS7 and WS15
 unfoldable pub soundNumbers : Width → State → Bool
 soundNumbers W s =
     leb 1 (s .n) && leb (s .n) (W .length) && leb (s .rounds) (W .rounds) && soundSigma W (s .n) (s .sigma)
-    && atMost W (sizeOf W (W .carried)) (s .t) && atMost W (sizeOf W (W .carried)) (s .tau)
+    && atMost W (sizeOf W (W .carried)) (s .t) && atMost W (sizeOf W (W .carried)) (s .tau) && soundLargest W (s .sigma) (s .largest)
 
 -- rule WS5
 unfoldable pub soundPending : Width → State → Bool
@@ -44,7 +48,7 @@ unfoldable pub badPlace : Width → State → List Float → ℕ
 badPlace W s [] = 0
 badPlace W s (x ∷ xs) = cond (soundPlace W s x) (badPlace W s xs + 1) 0
 
--- rules WS3 to WS8
+-- rules WS3 to WS8, and WS15
 unfoldable pub sound : Width → State → List Float → Bool
 sound W s xs = soundNumbers W s && soundPending W s && eqb (badPlace W s xs) (length xs)
 

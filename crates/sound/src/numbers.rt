@@ -1,9 +1,10 @@
 // The numbers of a sound state, its pending set excepted, and that set.
 use kinds::Doubles;
+use kinds::EPS;
 use kinds::SIGN;
 use kinds::State;
 ghost use mathlib.Core.Path.{_≡_};
-ghost use mathlib.Core.Bool.{false};
+ghost use mathlib.Core.Bool.{true, false, not, _&&_};
 ghost use Prim.Native.Nat.{_≤_, _<_};
 ghost use lib.Dec.{T};
 ghost use lib.Ieee.{binary64};
@@ -13,7 +14,7 @@ ghost use Rattle.ieee.specs.Units.{magnitude, negative};
 ghost use Rattle.kinds.specs.Limits.{doubles};
 ghost use Rattle.judge.specs.Table.{sizeOf};
 ghost use Rattle.exponent.specs.Power.{powers};
-ghost use Rattle.sound.specs.Sound.{soundSigma, atMost, soundNumbers, soundPending};
+ghost use Rattle.sound.specs.Sound.{soundSigma, atMost, soundLargest, soundNumbers, soundPending};
 ghost use Rattle.sound.specs.SigmaLaws.{isPowerFrom};
 
 // Whether x is finite and no larger than the limit. A NaN passes no comparison, so it fails this one.
@@ -57,7 +58,30 @@ pub fn sigma(sigma: f64, n: usize) -> bool
     false
 }
 
-// Rules WS3, WS4, WS6 and WS7.
+// Whether x is finite, no larger than the limit, and has no sign: +0 will do, and -0 won't.
+fn unsigned_at_most(x: f64, limit: f64) -> bool
+    requires { ⌜ T (finite limit) × (negative limit ≡ false) ⌝ }
+    ensures { λ r. ⌜ r ≡ (atMost doubles (magnitude binary64 limit) x && not (negative x)) ⌝ }
+{
+    if at_most(x, limit) {
+        return f64::to_bits(x) < SIGN;
+    }
+    false
+}
+
+// Rule WS15, of a sound sigma: 2^k units. Below 2^53 of them eps times sigma is less than a unit, and only +0 will do.
+pub fn largest(x: f64, sigma: f64, n: usize) -> bool
+    requires { ⌜ (n ≤ doubles .length) × (soundSigma doubles n sigma ≡ true) ⌝ }
+    ensures { λ r. ⌜ r ≡ soundLargest doubles sigma x ⌝ }
+{
+    let k = exponent::ceiling(sigma);
+    if k < EPS {
+        return unsigned_at_most(x, 0.0);
+    }
+    unsigned_at_most(x, exponent::power(k - EPS))
+}
+
+// Rules WS3, WS4, WS6, WS7 and WS15.
 pub fn numbers(s: State) -> bool
     ensures { λ r. ⌜ r ≡ soundNumbers doubles s ⌝ }
 {
@@ -67,11 +91,14 @@ pub fn numbers(s: State) -> bool
     if Doubles::LENGTH < s.n {
         return false;
     }
+    if !sigma(s.sigma, s.n) {
+        return false;
+    }
     let limit = f64::from_bits(Doubles::CARRIED);
     (s.rounds <= Doubles::ROUNDS)
-        & sigma(s.sigma, s.n)
         & at_most(s.t, limit)
         & at_most(s.tau, limit)
+        & largest(s.largest, s.sigma, s.n)
 }
 
 // Rule WS5. Asked of an n that `numbers` has tested: then B is 1 to 64.

@@ -12,7 +12,7 @@ use Rattle.kinds.specs.declared.Step.the-variants as steps
 
 -- a refusal, if it is one, is of the table
 abbrev pub StepRefusal : Step → Type 0
-StepRefusal (steps.More s) = Unit {0}
+StepRefusal (steps.More s told) = Unit {0}
 StepRefusal (steps.Done x r) = Unit {0}
 StepRefusal (steps.Refused k p) = Refusal (doubles .length) k p
 
@@ -23,3 +23,4 @@ number p = leb (p % top binary64) (ones binary64 * hid binary64)
 abbrev pub readable : List ℕ → Bool
 readable ns =
     leb (getD ns 6 0) (2 ^ 32 - 1) && leb (getD ns 7 0) (2 ^ 32 - 1) && number (getD ns 1 0) && number (getD ns 2 0) && number (getD ns 3 0)
+    && number (getD ns 8 0)

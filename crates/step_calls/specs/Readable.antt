@@ -37,6 +37,7 @@ sound-readable ns e N =
       finite-number (getD ns 1 0) (N .sigma .fini),
       finite-number (getD ns 2 0) (N .t .fini),
       finite-number (getD ns 3 0) (N .tau .fini),
+      finite-number (getD ns 8 0) (N .largest .fini),
     )
 
 pub record Fields (ns : List ℕ) : Type 0 where
@@ -45,13 +46,22 @@ pub record Fields (ns : List ℕ) : Type 0 where
   pub sigma : getD ns 1 0 % top binary64 ≤ ones binary64 * hid binary64
   pub t : getD ns 2 0 % top binary64 ≤ ones binary64 * hid binary64
   pub tau : getD ns 3 0 % top binary64 ≤ ones binary64 * hid binary64
+  pub largest : getD ns 8 0 % top binary64 ≤ ones binary64 * hid binary64
 
 pub fields : (ns : List ℕ) → readable ns ≡ true → Fields ns
 fields ns h =
-    let p = both-true _ (number (getD ns 3 0)) h in
+    let l = both-true _ (number (getD ns 8 0)) h in
+    let p = both-true _ (number (getD ns 3 0)) (l .0) in
     let q = both-true _ (number (getD ns 2 0)) (p .0) in
     let r = both-true _ (number (getD ns 1 0)) (q .0) in
     let u = both-true (leb (getD ns 6 0) (2 ^ 32 - 1)) (leb (getD ns 7 0) (2 ^ 32 - 1)) (r .0) in
     let few : getD ns 6 0 ≤ 2 ^ 32 - 1 = leb-true (getD ns 6 0) (2 ^ 32 - 1) (u .0) in
     let small : getD ns 7 0 ≤ 2 ^ 32 - 1 = leb-true (getD ns 7 0) (2 ^ 32 - 1) (u .1) in
-    record { rounds = omega arith; ensemble = omega arith; sigma = leb-true _ _ (r .1); t = leb-true _ _ (q .1); tau = leb-true _ _ (p .1) }
+    record {
+      rounds = omega arith;
+      ensemble = omega arith;
+      sigma = leb-true _ _ (r .1);
+      t = leb-true _ _ (q .1);
+      tau = leb-true _ _ (p .1);
+      largest = leb-true _ _ (l .1);
+    }

@@ -12,13 +12,14 @@ use Rattle.kinds.specs.declared.State.{State}
 use Rattle.walk.specs.Walk.{Walked, opened, stepped}
 use Rattle.arrays.specs.Arrays.{codeOf, Returned, returned, tooManyOr4}
 
--- rule C11, a walk in ten numbers: 1, the state's seven, and two that are kept for later; or 2, the sum's pattern, its rounds, and zeros
+-- rule C11, a walk in ten numbers: 1, the state's eight, and the largest remainder that is told; or 2, the sum's pattern, its rounds, and zeros
 abbrev pub walkNumbers : ℕ
 walkNumbers = 10
 
 abbrev pub walkValues : Heard → List ℕ → List ℕ
 walkValues (refused k p) before = before
-walkValues (more sigma t tau n pending rounds ensemble) before = 1 ∷ sigma ∷ t ∷ tau ∷ n ∷ pending ∷ rounds ∷ ensemble ∷ 0 ∷ 0 ∷ []
+walkValues (more sigma t tau n pending rounds ensemble largest told) before =
+    1 ∷ sigma ∷ t ∷ tau ∷ n ∷ pending ∷ rounds ∷ ensemble ∷ largest ∷ told ∷ []
 walkValues (done x rounds) before = 2 ∷ x ∷ rounds ∷ replicate 7 0
 walkValues (nearest x) before = before
 walkValues (parts b) before = before
@@ -26,13 +27,14 @@ walkValues accepted before = before
 walkValues (count n) before = before
 walkValues (rescued written taken missing over) before = before
 
--- the state that a step reads: the second number to the eighth
+-- the state that a step reads: the second number to the ninth
 abbrev pub floatIn : List ℕ → ℕ → Float
 floatIn numbers i = ofBits (doubles .format) (getD numbers i 0)
 
 abbrev pub stateIn : List ℕ → State
 stateIn numbers =
     stateOf (getD numbers 4 0) (floatIn numbers 1) (floatIn numbers 2) (floatIn numbers 3) (getD numbers 5 0) (getD numbers 6 0) (getD numbers 7 0)
+    (floatIn numbers 8)
 
 -- ---- the calls
 abbrev pub walkReturned : Walked → List ℕ → Returned Float

@@ -74,7 +74,7 @@ module _ (numbers : List ℕ) (work : List Float) (e b : ℕ) where
 
 -- ---- what is refused is refused with a number of the table
 step-by : (a : Step) → ((k i : ℕ) → a ≡ steps.Refused k i → Refusal (doubles .length) k i) → StepRefusal a
-step-by (steps.More s) h = tt
+step-by (steps.More s told) h = tt
 step-by (steps.Done x r) h = tt
 step-by (steps.Refused k i) h = h k i refl
 

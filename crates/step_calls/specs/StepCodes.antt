@@ -61,11 +61,12 @@ module _ {r q : ℕ} {xs ys : List Float} {us vs : List ℕ} where
   step-determined numbers work e b = returned-determined (stepArrays numbers work e b)
 
 -- ---- what a step reads is what the call before it wrote
-pub state-back : (s : State) (before : List ℕ) → StepFits doubles (steps.More s) → stateIn (walkValues (stepHeard doubles (steps.More s)) before) ≡ s
-state-back s before F =
+pub state-back : (s : State) (told : Float) (before : List ℕ) → StepFits doubles (steps.More s told)
+    → stateIn (walkValues (stepHeard doubles (steps.More s told)) before) ≡ s
+state-back s told before F =
     let f = doubles .format in
     λ i. stateOf (s .n) (ofBits-toBits f (s .sigma) (F .0) i) (ofBits-toBits f (s .t) (F .1) i) (ofBits-toBits f (s .tau) (F .2) i) (s .pending) (s .rounds)
-    (s .ensemble)
+    (s .ensemble) (ofBits-toBits f (s .largest) (F .3) i)
 
 -- ---- what a refusal leaves
 walk-left : (h : Heard) (before : List ℕ) → (codeOf h ≡ 0 → ⊥) → walkValues h before ≡ before

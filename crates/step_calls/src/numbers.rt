@@ -23,16 +23,30 @@ pub const NUMBERS: usize = 10;
 // The most that a state's field of 32 bits holds: its rounds, and its ensemble.
 const MOST: u64 = 0xFFFF_FFFF;
 
-fn state_numbers(s: State) -> [u64; NUMBERS]
-    ensures { λ r. ⌜ r ≡ walkValues (stepHeard doubles (More s)) [] ⌝ }
+// The state, and the largest remainder that is told with it.
+fn state_numbers(s: State, told: f64) -> [u64; NUMBERS]
+    ensures { λ r. ⌜ r ≡ walkValues (stepHeard doubles (More s told)) [] ⌝ }
 {
     let sigma = pattern(s.sigma);
     let t = pattern(s.t);
     let tau = pattern(s.tau);
+    let largest = pattern(s.largest);
+    let shown = pattern(told);
     let n = s.n as u64;
     let rounds = s.rounds as u64;
     let ensemble = s.ensemble as u64;
-    [1, sigma, t, tau, n, s.pending, rounds, ensemble, 0, 0]
+    [
+        1,
+        sigma,
+        t,
+        tau,
+        n,
+        s.pending,
+        rounds,
+        ensemble,
+        largest,
+        shown,
+    ]
 }
 
 // A state or a sum goes to the ten numbers; a refusal leaves them.
@@ -43,8 +57,8 @@ pub fn told(answer: Step, numbers: &mut [u64]) -> u32
         ⌝ }
 {
     match answer {
-        Step::More(s) => {
-            let ten = state_numbers(s);
+        Step::More(s, largest) => {
+            let ten = state_numbers(s, largest);
             write(&ten, numbers);
             0
         }
@@ -69,6 +83,7 @@ pub fn readable(numbers: &[u64]) -> bool
         & (numbers[1] % SIGN <= INFINITY)
         & (numbers[2] % SIGN <= INFINITY)
         & (numbers[3] % SIGN <= INFINITY)
+        & (numbers[8] % SIGN <= INFINITY)
 }
 
 pub fn state(numbers: &[u64]) -> State
@@ -83,5 +98,6 @@ pub fn state(numbers: &[u64]) -> State
         numbers[5],
         numbers[6] as u32,
         numbers[7] as u32,
+        f64::from_bits(numbers[8]),
     )
 }

@@ -25,7 +25,7 @@ pub extern "C" fn kewohiata_walk_faithful(list: &[u64], work: &mut [f64], out: &
             0
         }
         Step::Refused(number, place) => calls::refusal(number, place),
-        Step::More(_) => 0,
+        Step::More(_, _) => 0,
     }
 }
 

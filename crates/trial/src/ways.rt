@@ -46,7 +46,7 @@ fn run(list: &[u64], work: &mut [f64], order: u64) -> Step {
     let mut turn = lists::START;
     let mut steps = 0;
     while steps < STEPS {
-        let Step::More(s) = at else {
+        let Step::More(s, _) = at else {
             break;
         };
         turn = lists::following(turn);
@@ -71,7 +71,7 @@ fn mix(work: &[f64]) -> u64 {
 // An answer, and what it leaves in the work area: after a refusal what was there.
 fn told(answer: Step, work: &[f64]) {
     match answer {
-        Step::More(_) => text::put(b" more"),
+        Step::More(_, _) => text::put(b" more"),
         Step::Done(x, rounds) => {
             text::pattern(b" ", text::bits(x));
             text::named(b" rounds ", rounds as u64);

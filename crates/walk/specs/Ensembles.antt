@@ -9,7 +9,7 @@ use lib.Dec.{eqb}
 use lib.ListN.{length}
 use lib.IntN.{pos}
 use lib.Ieee.{Float, eq}
-use Rattle.ieee.specs.Units.{nearestFloat}
+use Rattle.ieee.specs.Units.{magnitude, nearestFloat}
 use Rattle.kinds.specs.Limits.{Width, blocksOf}
 use Rattle.kinds.specs.States.{stateOf}
 use Rattle.kinds.specs.Outcome.{outcome}
@@ -27,10 +27,10 @@ use Rattle.walk.specs.Walk.{Walked, openedAfter, opened, taken, steppedA
 
 -- the same state, answer and walk under the number k
 abbrev pub under : ℕ → State → State
-under k s = stateOf (s .n) (s .sigma) (s .t) (s .tau) (s .pending) (s .rounds) k
+under k s = stateOf (s .n) (s .sigma) (s .t) (s .tau) (s .pending) (s .rounds) k (s .largest)
 
 abbrev pub answerUnder : ℕ → Step → Step
-answerUnder k (More s) = More (under k s)
+answerUnder k (More s told) = More (under k s) told
 answerUnder k (Done x r) = Done x r
 answerUnder k (Refused l p) = Refused l p
 
@@ -39,24 +39,25 @@ walkUnder k w = outcome (answerUnder k (w .answer)) (w .area)
 
 -- ---- the number stays: an answer's state, if it has one, is of the ensemble k
 abbrev pub Named : ℕ → Step → Type 0
-Named k (More s) = s .ensemble ≡ k
+Named k (More s told) = s .ensemble ≡ k
 Named k (Done x r) = Unit {0}
 Named k (Refused l p) = Unit {0}
 
 module _ (W : Width) where
-  fresh-named : (none : Float) (n mu rounds k : ℕ) → Named k (fresh W none n mu rounds k)
-  fresh-named none n mu rounds k = fresh-each (Named k) W none n mu rounds k (λ a. tt) (λ a. refl)
+  fresh-named : (none : Float) (n mu rounds k : ℕ) (told : Float) → Named k (fresh W none n mu rounds k told)
+  fresh-named none n mu rounds k told = fresh-each (Named k) W none n mu rounds k told (λ a. tt) (λ a. refl)
 
   closed-named : (s : State) (xs : List Float) → Named (s .ensemble) (closed W s xs)
   closed-named s xs =
-      closed-each (Named (s .ensemble)) W (largest (W .format) xs) s xs (λ z. fresh-named (plusZero (W .format)) (s .n) _ (s .rounds + 1) (s .ensemble))
-      (λ z r. tt) (λ z r. refl)
+      closed-each (Named (s .ensemble)) W (magnitude (W .format) (s .largest)) s xs
+      (λ z. fresh-named (plusZero (W .format)) (s .n) _ (s .rounds + 1) (s .ensemble) (s .largest)) (λ z r. tt) (λ z r. refl)
 
   taken-named : (s : State) (b : ℕ) (xs : List Float) → Named (s .ensemble) (taken W s b xs .answer)
   unfolding taken
   taken-named s b xs = by (eqb (takenState W s b xs .pending) 0)
     where
-      by : (c : Bool) → Named (s .ensemble) (cond c (closed W (takenState W s b xs) (turned W (s .sigma) b xs)) (More (takenState W s b xs)))
+      by : (c : Bool) → Named (s .ensemble) (cond c (closed W (takenState W s b xs) (turned W (s .sigma) b xs))
+          (More (takenState W s b xs) (takenState W s b xs .largest)))
       by true = closed-named (takenState W s b xs) (turned W (s .sigma) b xs)
       by false = refl
 
@@ -73,15 +74,15 @@ module _ (W : Width) where
   opened-named k ps work = by (judged W (eqb (length work) (length ps)) true ps)
     where
       by : (v : Verdict) → Named k (openedAfter W k v ps work .answer)
-      by verdicts.Good = fresh-named (nearestFloat (W .format) (zeroSign W ps) (pos 0)) (length ps) _ 0 k
+      by verdicts.Good = fresh-named (nearestFloat (W .format) (zeroSign W ps) (pos 0)) (length ps) _ 0 k (plusZero (W .format))
       by (verdicts.Refused l p) = tt
 
 -- ---- the walk under another number
 module _ (W : Width) (k : ℕ) where
   -- a sum or a state, by a test; and by another one which of two such
-  either : (c : Bool) (x : Float) (r : ℕ) (s : State) → cond c (Done x r) (More (under k s)) ≡ answerUnder k (cond c (Done x r) (More s))
-  either true x r s = refl
-  either false x r s = refl
+  either : (c : Bool) (x : Float) (r : ℕ) (s : State) (m : Float) → cond c (Done x r) (More (under k s) m) ≡ answerUnder k (cond c (Done x r) (More s m))
+  either true x r s m = refl
+  either false x r s m = refl
 
   any : (c : Bool) (a b a' b' : Step) → a' ≡ answerUnder k a → b' ≡ answerUnder k b → cond c a' b' ≡ answerUnder k (cond c a b)
   any true a b a' b' p q = p
@@ -100,20 +101,21 @@ module _ (W : Width) (k : ℕ) where
   closed-under : (s : State) (xs : List Float) → closed W (under k s) xs ≡ answerUnder k (closed W s xs)
   unfolding closedBy fresh
   closed-under s xs =
-      let mu = largest (W .format) xs in
+      let mu = magnitude (W .format) (s .largest) in
       let none = plusZero (W .format) in
       let sum = finished (W .format) (tau1Of W s) (s .t) (s .tau) xs in
       let r = s .rounds + 1 in
       let first = freshRound W (s .n) mu r (s .ensemble) in
-      any (eq (tau1Of W s) none) (cond (eqb mu 0) (Done none r) (More first)) (cond (finishes W s) (Done sum r) (More (furtherRound W s))) _ _
-      (either (eqb mu 0) none r first) (either (finishes W s) sum r (furtherRound W s))
+      let m = s .largest in
+      any (eq (tau1Of W s) none) (cond (eqb mu 0) (Done none r) (More first m)) (cond (finishes W s) (Done sum r) (More (furtherRound W s) m)) _ _
+      (either (eqb mu 0) none r first m) (either (finishes W s) sum r (furtherRound W s) m)
 
   taken-under : (s : State) (b : ℕ) (xs : List Float) → taken W (under k s) b xs ≡ walkUnder k (taken W s b xs)
   unfolding taken
   taken-under s b xs =
       let next = takenState W s b xs in
       let ys = turned W (s .sigma) b xs in
-      ap (λ (a : Step). outcome a ys) (any (eqb (next .pending) 0) (closed W next ys) (More next) _ _ (closed-under next ys) refl)
+      ap (λ (a : Step). outcome a ys) (any (eqb (next .pending) 0) (closed W next ys) (More next (next .largest)) _ _ (closed-under next ys) refl)
 
   pub stepped-under : (s : State) (b : ℕ) (xs : List Float) → stepped W (under k s) k b xs ≡ walkUnder k (stepped W s (s .ensemble) b xs)
   unfolding steppedAfter
@@ -128,7 +130,7 @@ module _ (W : Width) (k : ℕ) where
   onward-under b w = by (w .answer) (w .area)
     where
       by : (a : Step) (xs : List Float) → onward W (walkUnder k (outcome a xs)) b ≡ walkUnder k (onward W (outcome a xs) b)
-      by (More s) xs = stepped-under s b xs
+      by (More s m) xs = stepped-under s b xs
       by (Done x r) xs = refl
       by (Refused l p) xs = refl
 
@@ -151,7 +153,8 @@ module _ (W : Width) (k : ℕ) where
         by verdicts.Good =
             let xs = floats W ps in
             let mu = largest (W .format) xs in
-            ap (λ (a : Step). outcome a xs) (either (eqb mu 0) (nearestFloat (W .format) (zeroSign W ps) (pos 0)) 0 (freshRound W (length ps) mu 0 j))
+            ap (λ (a : Step). outcome a xs)
+            (either (eqb mu 0) (nearestFloat (W .format) (zeroSign W ps) (pos 0)) 0 (freshRound W (length ps) mu 0 j) (plusZero (W .format)))
         by (verdicts.Refused l p) = refl
 
     pub undivided-under : undividedOf W k ps work ≡ walkUnder k (undividedOf W j ps work)

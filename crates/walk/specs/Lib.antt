@@ -10,3 +10,6 @@ pub mod Run
 pub mod Undivided
 pub mod Ensembles
 pub mod NoRefusal
+pub mod Told
+pub mod Before
+pub mod BeforeLaws

@@ -18,7 +18,7 @@ use Rattle.walk.specs.Walk.{taken}
 
 -- the verdict that an answer comes from
 abbrev pub verdictOf : Step → Verdict
-verdictOf (More s) = verdicts.Good
+verdictOf (More s told) = verdicts.Good
 verdictOf (Done x r) = verdicts.Good
 verdictOf (Refused k i) = verdicts.Refused k i
 
@@ -28,19 +28,20 @@ pub record Unrefused (a : Step) : Type 0 where
 done : {x : Float} {r : ℕ} → Unrefused (Done x r)
 done = record { good = refl }
 
-more : {s : State} → Unrefused (More s)
+more : {s : State} {told : Float} → Unrefused (More s told)
 more = record { good = refl }
 
 either : (t : Bool) {a b : Step} → Unrefused a → Unrefused b → Unrefused (cond t a b)
 either true A B = A
 either false A B = B
 
-pub fresh-accepted : (W : Width) (zero : Float) (n mu rounds ensemble : ℕ) → Unrefused (fresh W zero n mu rounds ensemble)
-fresh-accepted W zero n mu rounds ensemble = fresh-each Unrefused W zero n mu rounds ensemble (λ a. done) (λ a. more)
+pub fresh-accepted : (W : Width) (zero : Float) (n mu rounds ensemble : ℕ) (told : Float) → Unrefused (fresh W zero n mu rounds ensemble told)
+fresh-accepted W zero n mu rounds ensemble told = fresh-each Unrefused W zero n mu rounds ensemble told (λ a. done) (λ a. more)
 
 closed-accepted : (W : Width) (mu : ℕ) (s : State) (xs : List Float) → Unrefused (closedBy W mu s xs)
 closed-accepted W mu s xs =
-    closed-each Unrefused W mu s xs (λ z. fresh-accepted W (plusZero (W .format)) (s .n) mu (s .rounds + 1) (s .ensemble)) (λ z r. done) (λ z r. more)
+    closed-each Unrefused W mu s xs
+    (λ z. fresh-accepted W (plusZero (W .format)) (s .n) mu (s .rounds + 1) (s .ensemble) (s .largest)) (λ z r. done) (λ z r. more)
 
 pub taken-accepted : (W : Width) (s : State) (b : ℕ) (work : List Float) → Unrefused (taken W s b work .answer)
 unfolding taken

@@ -20,14 +20,14 @@ use Rattle.sound.specs.Sound.{gated}
 use Rattle.rounds.specs.Round.{allTaken, allLeft, closed}
 use Rattle.rounds.specs.Fitting.{Fitting}
 use Rattle.rounds.specs.Begun.{Begun}
-use Rattle.rounds.specs.Blocks.{tauAt, stateAt, workAt, next-state, next-work, first-state, first-work, covers, last-state, last-work}
+use Rattle.rounds.specs.Blocks.{tauAt, largestAt, stateAt, workAt, next-state, next-work, first-state, first-work, covers, last-state, last-work}
 use Rattle.walk.specs.Walk.{Walked, taken, stepped, steppedAfter, onward, rising}
 use Rattle.walk.specs.Stepping.{stepping, stepping-accepted}
 
 module _ {W : Width} {F : Fitting W} {e : ℕ} {s : State} {xs : List Float} (B : Begun W F e s xs) where
   -- ---- one block
   accepted : (j : ℕ) → j < blocksOf W (s .n) → gated W (stateAt B j) (stateAt B j .ensemble) j (workAt B j) ≡ Good
-  unfolding stateAt tauAt workAt
+  unfolding stateAt tauAt largestAt workAt
   accepted j h =
       stepping-accepted
       (stepping B (W .block * j) (2 ^ blocksOf W (s .n) - 2 ^ j)
@@ -35,13 +35,14 @@ module _ {W : Width} {F : Fitting W} {e : ℕ} {s : State} {xs : List Float} (B 
       j h (has-from h)
 
   takes : (j : ℕ) → j < blocksOf W (s .n) → stepped W (stateAt B j) (stateAt B j .ensemble) j (workAt B j)
-      ≡ outcome (cond (eqb (stateAt B (suc j) .pending) 0) (closed W (stateAt B (suc j)) (workAt B (suc j))) (More (stateAt B (suc j)))) (workAt B (suc j))
+      ≡ outcome (cond (eqb (stateAt B (suc j) .pending) 0) (closed W (stateAt B (suc j)) (workAt B (suc j)))
+      (More (stateAt B (suc j)) (stateAt B (suc j) .largest))) (workAt B (suc j))
   unfolding steppedAfter taken stateAt
   takes j h =
       let next = next-state B j h in
       let work = next-work B j h in
       ap (λ (v : Verdict). steppedAfter W v (stateAt B j) j (workAt B j)) (accepted j h)
-      ∙ (λ i. outcome (cond (eqb (next i .pending) 0) (closed W (next i) (work i)) (More (next i))) (work i))
+      ∙ (λ i. outcome (cond (eqb (next i .pending) 0) (closed W (next i) (work i)) (More (next i) (next i .largest))) (work i))
 
   some-left : (j : ℕ) → suc j < blocksOf W (s .n) → eqb (stateAt B (suc j) .pending) 0 ≡ false
   unfolding stateAt
@@ -52,38 +53,47 @@ module _ {W : Width} {F : Fitting W} {e : ℕ} {s : State} {xs : List Float} (B 
   none-left m b = eq-eqb (2 ^ blocksOf W (s .n) - 2 ^ suc m) 0 (rw b (sub-self (2 ^ suc m)))
 
   -- ---- the blocks before the last, and the last
-  goes-on : (j : ℕ) → j < blocksOf W (s .n) → foldl (onward W) (outcome (More (stateAt B 0)) (workAt B 0)) (rising j)
-      ≡ outcome (More (stateAt B j)) (workAt B j)
-  unfolding rising
-  goes-on zero h = refl
-  goes-on (suc j) h =
-      foldl-append (onward W) (outcome (More (stateAt B 0)) (workAt B 0)) (rising j) (j ∷ [])
-      ∙ ap (λ (w : Walked). onward W w j) (goes-on j (omega arith))
-      ∙ takes j (omega arith)
-      ∙ ap (λ (t : Bool). outcome (cond t (closed W (stateAt B (suc j)) (workAt B (suc j))) (More (stateAt B (suc j)))) (workAt B (suc j))) (some-left j h)
+  -- what is told before the first block is of no matter
+  toldAt : Float → ℕ → Float
+  toldAt m zero = m
+  toldAt m (suc j) = stateAt B (suc j) .largest
 
-  closes : (m : ℕ) → blocksOf W (s .n) ≡ suc m → foldl (onward W) (outcome (More (stateAt B 0)) (workAt B 0)) (rising (suc m))
+  goes-on : (m : Float) (j : ℕ) → j < blocksOf W (s .n) → foldl (onward W) (outcome (More (stateAt B 0) m) (workAt B 0)) (rising j)
+      ≡ outcome (More (stateAt B j) (toldAt m j)) (workAt B j)
+  unfolding rising toldAt
+  goes-on m zero h = refl
+  goes-on m (suc j) h =
+      let next = stateAt B (suc j) in
+      let work = workAt B (suc j) in
+      foldl-append (onward W) (outcome (More (stateAt B 0) m) (workAt B 0)) (rising j) (j ∷ [])
+      ∙ ap (λ (w : Walked). onward W w j) (goes-on m j (omega arith))
+      ∙ takes j (omega arith)
+      ∙ ap (λ (t : Bool). outcome (cond t (closed W next work) (More next (next .largest))) work) (some-left j h)
+
+  closes : (told : Float) (m : ℕ) → blocksOf W (s .n) ≡ suc m → foldl (onward W) (outcome (More (stateAt B 0) told) (workAt B 0)) (rising (suc m))
       ≡ outcome (closed W (stateAt B (suc m)) (workAt B (suc m))) (workAt B (suc m))
   unfolding rising
-  closes m b =
-      foldl-append (onward W) (outcome (More (stateAt B 0)) (workAt B 0)) (rising m) (m ∷ [])
-      ∙ ap (λ (w : Walked). onward W w m) (goes-on m (omega arith))
+  closes told m b =
+      let next = stateAt B (suc m) in
+      let work = workAt B (suc m) in
+      foldl-append (onward W) (outcome (More (stateAt B 0) told) (workAt B 0)) (rising m) (m ∷ [])
+      ∙ ap (λ (w : Walked). onward W w m) (goes-on told m (omega arith))
       ∙ takes m (omega arith)
-      ∙ ap (λ (t : Bool). outcome (cond t (closed W (stateAt B (suc m)) (workAt B (suc m))) (More (stateAt B (suc m)))) (workAt B (suc m))) (none-left m b)
+      ∙ ap (λ (t : Bool). outcome (cond t (closed W next work) (More next (next .largest))) work) (none-left m b)
 
   -- ---- the round
-  pub round-closes : foldl (onward W) (outcome (More s) xs) (rising (blocksOf W (s .n)))
+  pub round-closes : (told : Float) → foldl (onward W) (outcome (More s told) xs) (rising (blocksOf W (s .n)))
       ≡ outcome (closed W (allTaken W s xs) (allLeft W s xs))
       (allLeft W s xs)
-  round-closes = go (blocksOf W (s .n)) refl
+  round-closes told = go (blocksOf W (s .n)) refl
     where
-      go : (m : ℕ) → blocksOf W (s .n) ≡ m → foldl (onward W) (outcome (More s) xs) (rising (blocksOf W (s .n)))
+      go : (m : ℕ) → blocksOf W (s .n) ≡ m → foldl (onward W) (outcome (More s told) xs) (rising (blocksOf W (s .n)))
           ≡ outcome (closed W (allTaken W s xs) (allLeft W s xs))
           (allLeft W s xs)
       go zero b = absurd (omega (arith, covers B, B .some, ap (λ (k : ℕ). W .block * k) b, mul-zero (W .block)))
       go (suc m) b =
           let state = ap (stateAt B) (sym b) ∙ last-state B in
           let work = ap (workAt B) (sym b) ∙ last-work B in
-          (λ i. foldl (onward W) (outcome (More (sym (first-state B) i)) (sym (first-work B) i)) (rising (b i)))
-          ∙ closes m b
+          (λ i. foldl (onward W) (outcome (More (sym (first-state B) i) told) (sym (first-work B) i)) (rising (b i)))
+          ∙ closes told m b
           ∙ (λ i. outcome (closed W (state i) (work i)) (work i))

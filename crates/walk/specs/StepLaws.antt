@@ -26,12 +26,12 @@ module _ (W : Width) (s : State) (b : ℕ) (work : List Float) where
   stepped-good v e = rw e
 
   module _ (next : State) (xs : List Float) (N : next ≡ takenState W s b work) (X : xs ≡ turned W (s .sigma) b work) where
-    taken-is : taken W s b work ≡ outcome (cond (eqb (next .pending) 0) (closed W next xs) (More next)) xs
+    taken-is : taken W s b work ≡ outcome (cond (eqb (next .pending) 0) (closed W next xs) (More next (next .largest))) xs
     unfolding taken
-    taken-is = λ i. outcome (cond (eqb (sym N i .pending) 0) (closed W (sym N i) (sym X i)) (More (sym N i))) (sym X i)
+    taken-is = λ i. outcome (cond (eqb (sym N i .pending) 0) (closed W (sym N i) (sym X i)) (More (sym N i) (sym N i .largest))) (sym X i)
 
     pub taken-closes : (q : Step) → next .pending ≡ 0 → q ≡ closed W next xs → outcome q xs ≡ taken W s b work
     taken-closes q z e = rw e (sym (simp (eq-eqb (next .pending) 0 z) at taken-is))
 
-    pub taken-goes : (next .pending ≡ 0 → ⊥) → outcome (More next) xs ≡ taken W s b work
+    pub taken-goes : (next .pending ≡ 0 → ⊥) → outcome (More next (next .largest)) xs ≡ taken W s b work
     taken-goes z = sym (simp (ne-eqb (next .pending) 0 z) at taken-is)

@@ -19,7 +19,7 @@ use Rattle.lists.specs.Each.{Each, each-join, each-take, each-drop}
 use Rattle.kinds.specs.Limits.{Width, exponentOf, blocksOf}
 use Rattle.kinds.specs.declared.State.{State}
 use Rattle.kinds.specs.declared.Verdict.the-variants.{Good}
-use Rattle.extract.specs.Extract.{remainders, gathered}
+use Rattle.extract.specs.Extract.{remainders, gathered, largest, largestWith}
 use Rattle.extract.specs.ExtractLaws.{remainders-length}
 use Rattle.extract.specs.LargestLaws.{Positive}
 use Rattle.sound.specs.Sound.{soundPending, badPlace, sound, gated}
@@ -29,8 +29,8 @@ use Rattle.sound.specs.SoundLaws.{numbers-true, sound-all}
 use Rattle.sound.specs.GateLaws.{gated-good}
 use Rattle.rounds.specs.Round.{inRound}
 use Rattle.rounds.specs.Fitting.{Fitting}
-use Rattle.rounds.specs.InUnits.{Small, remainders-small}
-use Rattle.rounds.specs.Begun.{Begun, begun-rounds, tau-small}
+use Rattle.rounds.specs.InUnits.{Small, remainders-small, largest-eps}
+use Rattle.rounds.specs.Begun.{Begun, begun-rounds, tau-small, largest-taken}
 
 -- what holds of a state of a run and its work area: its numbers are sound, sigma is 2^(M + e) units, and the work numbers are at most 2^e
 pub record Stepping (W : Width) (F : Fitting W) (e : ℕ) (s : State) (xs : List Float) : Type 0 where
@@ -74,20 +74,25 @@ module _ {W : Width} {F : Fitting W} {e : ℕ} {s : State} {xs : List Float} (I 
   stepping-accepted b h p = gated-good W s (s .ensemble) b xs (I .count) refl stepping-sound h p
 
 module _ {W : Width} {F : Fitting W} {e : ℕ} {s : State} {xs : List Float} (B : Begun W F e s xs) where
-  -- the numbers of a round that has begun are sound, whatever blocks are pending
-  pub begun-numbers : {tau : Float} (P : ℕ) → Small (W .format) (2 ^ F .bound) tau → Numbers W (inRound s tau P)
-  begun-numbers P T = record {
+  -- the numbers of a round that has begun are sound, whatever blocks are pending, with the largest remainder of any numbers
+  -- as small as its own
+  pub begun-numbers : {tau m : Float} (P : ℕ) → Small (W .format) (2 ^ F .bound) tau → (ys : List Float) → Each (Small (W .format) (2 ^ e)) ys
+      → Positive (W .format) m (largest (W .format) (remainders (W .format) (s .sigma) ys)) → Numbers W (inRound s tau m P)
+  begun-numbers P T ys Y M = record {
     counts = record { some = B .some; few = B .few; rounds = begun-rounds B };
     sigma = sigma-bounds F (s .n) e (B .scale .power) (omega (arith, B .lowered));
-    t = record { fini = B .kept .number .fini; small = rw (F .bound-is) (B .kept .within) };
+    t = record { fini = B .carried .number .fini; small = rw (F .bound-is) (B .carried .within) };
     tau = record { fini = T .number .fini; small = rw (F .bound-is) (T .within) };
+    largest = record { fini = M .number .fini; unsigned = M .sign; small = rw (M .units) (largest-eps (B .scale) ys Y) };
   }
 
   -- the state and the work area after the first k numbers
   pub stepping : (k P : ℕ) → 0 < P → P < 2 ^ blocksOf W (s .n)
-      → Stepping W F e (inRound s (gathered (W .format) (s .sigma) (s .tau) (take k xs)) P) (remainders (W .format) (s .sigma) (take k xs) ++ drop k xs)
+      → Stepping W F e (inRound s (gathered (W .format) (s .sigma) (s .tau) (take k xs))
+      (largestWith (W .format) (s .largest) (remainders (W .format) (s .sigma) (take k xs))) P)
+      (remainders (W .format) (s .sigma) (take k xs) ++ drop k xs)
   stepping k P l h = record {
-    numbers = begun-numbers P (tau-small B k);
+    numbers = begun-numbers P (tau-small B k) (take k xs) (each-take (Small (W .format) (2 ^ e)) k xs (B .work)) (largest-taken B k);
     count = length-front xs (remainders (W .format) (s .sigma) (take k xs)) k (remainders-length (W .format) (s .sigma) (take k xs)) ∙ B .count;
     sigma = B .scale .power .units;
     work = each-join (Small (W .format) (2 ^ e)) (remainders (W .format) (s .sigma) (take k xs)) (drop k xs)

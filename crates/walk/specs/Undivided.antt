@@ -20,12 +20,12 @@ use Rattle.kinds.specs.declared.Verdict.{Verdict}
 use Rattle.kinds.specs.declared.Verdict.the-variants as verdicts
 use Rattle.judge.specs.Judge.{judged, floats, zeroSign}
 use Rattle.judge.specs.JudgeLaws.{list-when, list-passed, list-allowed}
-use Rattle.extract.specs.Extract.{largest}
+use Rattle.extract.specs.Extract.{plusZero, largest}
 use Rattle.rounds.specs.Round.{allZero, freshRound, fresh}
 use Rattle.rounds.specs.Fitting.{Fitting}
 use Rattle.walk.specs.Walk.{Walked, openedAfter, opened, roundsFrom, undividedOf}
 use Rattle.walk.specs.Opening.{opens}
-use Rattle.walk.specs.Run.{Running, run-done, run-refused}
+use Rattle.walk.specs.Run.{Running, run-done, run-refused, run-told}
 
 -- a state that opens the first round of a walk over n numbers
 pub record FirstRound (W : Width) (F : Fitting W) (n : ℕ) (s : State) (xs : List Float) : Type 0 where
@@ -33,9 +33,9 @@ pub record FirstRound (W : Width) (F : Fitting W) (n : ℕ) (s : State) (xs : Li
   pub rounds : s .rounds ≡ 0
 
 module _ {W : Width} (F : Fitting W) (k : ℕ) (ps : List ℕ) (work : List Float) where
-  pub opened-first : (s : State) (xs : List Float) → opened W k ps work ≡ outcome (More s) xs → FirstRound W F (length ps) s xs
+  pub opened-first : (s : State) (m : Float) (xs : List Float) → opened W k ps work ≡ outcome (More s m) xs → FirstRound W F (length ps) s xs
   unfolding openedAfter fresh
-  opened-first s xs e = by (judged W (eqb (length work) (length ps)) true ps) refl e
+  opened-first s m xs e = by (judged W (eqb (length work) (length ps)) true ps) refl e
     where
       n : ℕ
       n = length ps
@@ -52,20 +52,20 @@ module _ {W : Width} (F : Fitting W) (k : ℕ) (ps : List ℕ) (work : List Floa
       zero = nearestFloat (W .format) (zeroSign W ps) (pos 0)
 
       starts : (b : Bool) → allZero (W .format) (floats W ps) ≡ b → judged W (eqb (length work) n) true ps ≡ verdicts.Good
-          → outcome (cond b (Done zero 0) (More first)) (floats W ps) ≡ outcome (More s) xs → FirstRound W F n s xs
+          → outcome (cond b (Done zero 0) (More first (plusZero (W .format)))) (floats W ps) ≡ outcome (More s m) xs → FirstRound W F n s xs
       starts true z g h =
-          let m : Done zero 0 ≡ More s = ap (λ (w : Walked). w .answer) h in
+          let e : Done zero 0 ≡ More s m = ap (λ (w : Walked). w .answer) h in
           apart (cc)
       starts false z g h =
-          let m : More first ≡ More s = ap (λ (w : Walked). w .answer) h in
+          let e : More first (plusZero (W .format)) ≡ More s m = ap (λ (w : Walked). w .answer) h in
           let a : first ≡ s = cc in
           let b : floats W ps ≡ xs = ap (λ (w : Walked). w .area) h in
           rw (a, b) at (round z g)
 
-      by : (v : Verdict) → judged W (eqb (length work) n) true ps ≡ v → openedAfter W k v ps work ≡ outcome (More s) xs → FirstRound W F n s xs
+      by : (v : Verdict) → judged W (eqb (length work) n) true ps ≡ v → openedAfter W k v ps work ≡ outcome (More s m) xs → FirstRound W F n s xs
       by verdicts.Good g h = starts (allZero (W .format) (floats W ps)) refl g h
       by (verdicts.Refused l p) g h =
-          let m : Refused l p ≡ More s = ap (λ (w : Walked). w .answer) h in
+          let e : Refused l p ≡ More s m = ap (λ (w : Walked). w .answer) h in
           apart (cc)
 
   rest : Walked → Walked
@@ -85,15 +85,19 @@ module _ {W : Width} (F : Fitting W) (k : ℕ) (ps : List ℕ) (work : List Floa
     unfolding rest
     faithful-refused l p d = stays (rw d (run-refused W (blocksOf W (length ps)) (suc (W .rounds)) l p xs))
 
-    module _ (s : State) (d : q ≡ More s) where
+    module _ (s : State) (m : Float) (d : q ≡ More s m) where
       first : FirstRound W F (length ps) s xs
-      first = opened-first s xs (sym e ∙ ap (λ (q : Step). outcome q xs) d)
+      first = opened-first s m xs (sym e ∙ ap (λ (q : Step). outcome q xs) d)
 
       pub faithful-running : Running W F (s .n) s xs
       faithful-running = subst (λ (n : ℕ). Running W F n s xs) (sym (first .running .count)) (first .running)
 
-      pub faithful-more : roundsFrom W (blocksOf W (s .n)) (suc (W .rounds) - s .rounds) (outcome (More s) xs) ≡ undividedOf W k ps work
+      -- whatever is told before it
+      pub faithful-more : (told : Float) → roundsFrom W (blocksOf W (s .n)) (suc (W .rounds) - s .rounds) (outcome (More s told) xs) ≡ undividedOf W k ps work
       unfolding rest
-      faithful-more =
+      faithful-more told =
           let j : suc (W .rounds) - s .rounds ≡ suc (W .rounds) = omega (arith, first .rounds) in
-          (λ i. roundsFrom W (blocksOf W (first .running .count i)) (j i) (outcome (sym d i) xs)) ∙ ap rest e
+          (λ i. roundsFrom W (blocksOf W (first .running .count i)) (j i) (outcome (More s told) xs))
+          ∙ run-told (first .running) (W .rounds) told m
+          ∙ (λ i. rest (outcome (sym d i) xs))
+          ∙ ap rest e

@@ -15,7 +15,7 @@ use Rattle.kinds.specs.declared.Step.the-variants.{More, Done, Refused}
 use Rattle.kinds.specs.declared.Verdict.{Verdict}
 use Rattle.kinds.specs.declared.Verdict.the-variants as verdicts
 use Rattle.judge.specs.Judge.{judged, floats, zeroSign}
-use Rattle.extract.specs.Extract.{largest}
+use Rattle.extract.specs.Extract.{plusZero, largest}
 use Rattle.sound.specs.Sound.{gated}
 use Rattle.rounds.specs.Round.{turned, takenState, fresh, closed}
 
@@ -23,24 +23,24 @@ use Rattle.rounds.specs.Round.{turned, takenState, fresh, closed}
 abbrev pub Walked : Type 0
 Walked = Outcome Step Float
 
--- ---- rules WO1 to WO3 and WS12: the opening, under the number k of an ensemble
+-- ---- rules WO1 to WO3, WS12 and WS14: the opening, under the number k of an ensemble; it tells +0
 unfoldable pub openedAfter : Width → ℕ → Verdict → List ℕ → List Float → Walked
 openedAfter W k verdicts.Good ps work =
     let zero = nearestFloat (W .format) (zeroSign W ps) (pos 0) in
     let xs = floats W ps in
-    outcome (fresh W zero (length ps) (largest (W .format) xs) 0 k) xs
+    outcome (fresh W zero (length ps) (largest (W .format) xs) 0 k (plusZero (W .format))) xs
 openedAfter W k (verdicts.Refused l p) ps work = outcome (Refused l p) work
 
 abbrev pub opened : Width → ℕ → List ℕ → List Float → Walked
 opened W k ps work = openedAfter W k (judged W (eqb (length work) (length ps)) true ps) ps work
 
 -- ---- rules WB1 and WC1, a step of an accepted block: its numbers become their remainders, tau gathers them, and after the last pending block the round
--- closes; no block is cut again before that (rule E3)
+-- closes; no block is cut again before that (rule E3). Rule WS14: what is told is the largest remainder of the block's own round
 unfoldable pub taken : Width → State → ℕ → List Float → Walked
 taken W s b work =
     let next = takenState W s b work in
     let xs = turned W (s .sigma) b work in
-    outcome (cond (eqb (next .pending) 0) (closed W next xs) (More next)) xs
+    outcome (cond (eqb (next .pending) 0) (closed W next xs) (More next (next .largest))) xs
 
 unfoldable pub steppedAfter : Width → Verdict → State → ℕ → List Float → Walked
 steppedAfter W verdicts.Good s b work = taken W s b work
@@ -56,7 +56,7 @@ abbrev pub onward : Width → Walked → ℕ → Walked
 onward W w b = after (w .answer)
   where
     after : Step → Walked
-    after (More s) = stepped W s (s .ensemble) b (w .area)
+    after (More s told) = stepped W s (s .ensemble) b (w .area)
     after (Done x r) = w
     after (Refused k p) = w
 

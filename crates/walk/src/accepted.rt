@@ -20,5 +20,5 @@ pub fn accepted(s: State, work: &mut [f64], block: usize) -> Step
     if pending == 0 {
         return close(next, work);
     }
-    Step::More(next)
+    Step::More(next, next.largest)
 }

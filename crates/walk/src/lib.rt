@@ -39,7 +39,7 @@ pub fn faithful(list: &[u64], work: &mut [f64]) -> Step
 {
     let first = open(list, work, 0);
     match first {
-        Step::More(state) => run::run(state, work),
+        Step::More(state, _) => run::run(state, work),
         Step::Done(_, _) => first,
         Step::Refused(_, _) => first,
     }

@@ -52,5 +52,5 @@ pub fn start(list: &[u64], work: &mut [f64], ensemble: u32) -> Step
 {
     let mu = copy(list, work);
     let zero = zero(judge::zero_sign(list));
-    from_mu(zero, list.len(), mu, 0, ensemble)
+    from_mu(zero, list.len(), mu, 0, ensemble, 0.0)
 }

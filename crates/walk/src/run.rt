@@ -5,6 +5,8 @@ use rounds::close::close;
 use rounds::round;
 ghost use mathlib.Core.Path.{_≡_};
 ghost use Prim.Native.Nat.{suc, _-_};
+ghost use lib.Ieee.{binary64};
+ghost use Rattle.extract.specs.Extract.{plusZero};
 ghost use Rattle.kinds.specs.Limits.{doubles, blocksOf};
 ghost use Rattle.kinds.specs.Outcome.{outcome};
 ghost use Rattle.kinds.specs.declared.Step.the-variants.{More};
@@ -17,7 +19,7 @@ pub fn run(first: State, work: &mut [f64]) -> Step
     requires { ⌜ Running doubles doubles-fit (first .n) first (now work) ⌝ }
     ensures { λ r. ⌜
         outcome r (now (work .exit))
-        ≡ roundsFrom doubles (blocksOf doubles (first .n)) (suc (doubles .rounds) - first .rounds) (outcome (More first) (now (work .entry)))
+        ≡ roundsFrom doubles (blocksOf doubles (first .n)) (suc (doubles .rounds) - first .rounds) (outcome (More first (plusZero binary64)) (now (work .entry)))
         ⌝ }
 {
     let mut s = first;
@@ -25,7 +27,7 @@ pub fn run(first: State, work: &mut [f64]) -> Step
         let taken = round::take_all(s, work);
         let answer = close(taken, work);
         match answer {
-            Step::More(next) => {
+            Step::More(next, _) => {
                 s = next;
             }
             Step::Done(_, _) => return answer,

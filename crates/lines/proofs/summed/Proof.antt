@@ -77,7 +77,7 @@ returns c =
     let f = c .before .before .before .before in
     let a = f .before .before .before .before .before .args in
     let e = ap (λ (w : Walked). w .answer) (sym (f .faithful .ensures)) ∙ c .enum-told .given .1 in
-    (ap (λ (w : Walked). w .area) (f .faithful .ensures), rw (lines-more (a .list .now) (a .work .now) _ e) (nothing (a .text .now)))
+    (ap (λ (w : Walked). w .area) (f .faithful .ensures), rw (lines-more (a .list .now) (a .work .now) _ _ e) (nothing (a .text .now)))
 
 same-length-2 : tie.Need-same-length-2
 same-length-2 c = search needs

@@ -61,7 +61,7 @@ returns-4 c =
     let after-faithful = c .before .before .before .before in
     let a = after-faithful .before .before .before .before .before .before .args in
     let e = sym (ap (λ (w : Walked). w .answer) (after-faithful .faithful .ensures)) ∙ c .enum-told .given .1 in
-    absurd (faithful-not-more (a .list .now) (a .work .now) _ e)
+    absurd (faithful-not-more (a .list .now) (a .work .now) _ _ e)
 
 pub kewohiata-walk-faithful-spec : {M : Type 1} → statement M
 kewohiata-walk-faithful-spec =

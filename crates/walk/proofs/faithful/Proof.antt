@@ -1,6 +1,8 @@
 -- `walk::faithful` meets its contract: the run from the opening's state, and any other answer is the opening's. Assumes nothing.
 use mathlib.Core.Path.{_∙_}
 use borrow.Author.Needs.{needs}
+use lib.Ieee.{binary64}
+use Rattle.extract.specs.Extract.{plusZero}
 use Rattle.rounds.specs.Instances.{doubles-fit}
 use Rattle.walk.specs.Undivided.{faithful-done, faithful-refused, faithful-running, faithful-more}
 use Rattle.walk.proofs.faithful.Statement.{statement}
@@ -16,7 +18,7 @@ run-requires : tie.Need-run-requires
 run-requires c κs =
     let o = c .before .before .before .before .before .before in
     let g = o .before .before .before .before in
-    faithful-running doubles-fit 0 (g .args .list .now) (g .args .work .now) _ _ (o .«open» .ensures) _ (c .before .before .first .given .1)
+    faithful-running doubles-fit 0 (g .args .list .now) (g .args .work .now) _ _ (o .«open» .ensures) _ _ (c .before .before .first .given .1)
 
 enum-told : tie.Need-enum-told
 enum-told c = search needs
@@ -33,7 +35,8 @@ returns c =
     let o = r .before .before .before .before .before .before .before in
     let g = o .before .before .before .before in
     r .run .ensures
-    ∙ faithful-more doubles-fit 0 (g .args .list .now) (g .args .work .now) _ _ (o .«open» .ensures) _ (r .before .before .before .first .given .1)
+    ∙ faithful-more doubles-fit 0 (g .args .list .now) (g .args .work .now) _ _ (o .«open» .ensures) _ _
+    (r .before .before .before .first .given .1) (plusZero binary64)
 
 same-length-2 : tie.Need-same-length-2
 same-length-2 c = search needs

@@ -89,7 +89,7 @@ returns-3 c =
     let start = after-faithful .before .before .before .before .before in
     let a = start .args in
     let e = sym (ap (λ (w : Walked). w .answer) (after-faithful .faithful .ensures)) ∙ c .enum-told .given .1 in
-    absurd (faithful-not-more (a .numbers .now) (a .work .now) _ e)
+    absurd (faithful-not-more (a .numbers .now) (a .work .now) _ _ e)
 
 pub answer-spec : {M : Type 1} → statement M
 answer-spec =

@@ -18,13 +18,13 @@ use Rattle.rounds.proofs.close.close.Tie as tie
 add-rounds : tie.Need-add-rounds
 add-rounds c = search needs
 
-fresh-requires : tie.Need-fresh-requires
-fresh-requires c κs = let p = c .before .before .before .before .pre in (p .count, p .counts .few, p .work)
+from-mu-requires : tie.Need-from-mu-requires
+from-mu-requires c κs = let p = c .before .before .before .before .pre in (p .counts .few, p .largest, p .positive, λ h. p .counts .some)
 
 returns : tie.Need-returns
 returns c =
     let s = c .before .before .before .before .before .args in
-    c .fresh .ensures ∙ sym (closed-zero doubles _ (s .s) (s .work .now) (c .before .if1 .taken))
+    c .from-mu .ensures ∙ sym (closed-zero doubles _ (s .s) (s .work .now) (c .before .if1 .taken))
 
 of-requires : tie.Need-of-requires
 of-requires c κs = search needs
@@ -94,7 +94,7 @@ close-spec =
     tie.close
     (tie.spec
     add-rounds
-    fresh-requires
+    from-mu-requires
     returns
     of-requires
     exponent-requires

@@ -25,7 +25,8 @@ returns : tie.Need-returns
 returns c =
     let s = c .before in
     let m = magnitude binary64 (s .args .mu) in
-    sym (fresh-zero doubles (s .args .zero) (s .args .n) m (s .args .rounds) (s .args .ensemble) (eq-eqb m 0 (zero-bits binary64 (mu s) .0 (c .if1 .taken))))
+    sym (fresh-zero doubles (s .args .zero) (s .args .n) m (s .args .rounds) (s .args .ensemble) (s .args .told)
+    (eq-eqb m 0 (zero-bits binary64 (mu s) .0 (c .if1 .taken))))
 
 some : (c : tie.Else1) → eqb (magnitude binary64 (c .before .args .mu)) 0 ≡ false
 some c = ne-eqb (magnitude binary64 (c .before .args .mu)) 0 (λ e. c .if1 .left (zero-bits binary64 (mu (c .before)) .1 e))
@@ -43,7 +44,8 @@ returns-2 : tie.Need-returns-2
 returns-2 c =
     let s = c .before .before .before in
     rw (c .begin .ensures, c .before .sigma .ensures)
-    (sym (fresh-round doubles (s .args .zero) (s .args .n) (magnitude binary64 (s .args .mu)) (s .args .rounds) (s .args .ensemble) (some (c .before .before))))
+    (sym (fresh-round doubles (s .args .zero) (s .args .n) (magnitude binary64 (s .args .mu)) (s .args .rounds) (s .args .ensemble) (s .args .told)
+    (some (c .before .before))))
 
 pub from-mu-spec : {M : Type 1} → statement M
 from-mu-spec = tie.close (tie.spec float-to-bits-if1 returns sigma-requires begin-requires returns-2)

@@ -26,7 +26,7 @@ returns c =
     let b = c .before .before in
     let a = b .before .before .args in
     let p = c .before .full .ensures ∙ ap full (b .blocks2 .ensures ∙ ap (blocksOf doubles) (b .before .of .ensures)) in
-    rw (c .of2 .ensures) (λ i. inRound (roundOf doubles (a .n) (a .sigma) (a .t) (a .rounds) (a .ensemble)) (plusZero binary64) (p i))
+    rw (c .of2 .ensures) (λ i. inRound (roundOf doubles (a .n) (a .sigma) (a .t) (a .rounds) (a .ensemble)) (plusZero binary64) (plusZero binary64) (p i))
 
 pub begin-spec : {M : Type 1} → statement M
 begin-spec = tie.close (tie.spec of-requires blocks-requires full-requires of-requires-2 returns)

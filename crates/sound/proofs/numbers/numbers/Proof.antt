@@ -1,11 +1,14 @@
 -- `sound::numbers::numbers` meets its contract, a part for each comparison. Assumes nothing.
 use borrow.Author.Needs.{needs}
-use mathlib.Core.Path.{sym}
+use mathlib.Core.Path.{_≡_, sym, _∙_}
+use mathlib.Core.Bool.{true}
 use native.Mathlib.Omega.{arith}
+use borrow.Author.Tests.{not-true, not-false}
 use lib.Dec.{lit<}
 use lib.Ieee.{binary64}
 use Rattle.kinds.specs.Limits.{doubles}
-use Rattle.sound.specs.SoundLaws.{numbers-none, numbers-many, numbers-are}
+use Rattle.sound.specs.Sound.{soundSigma}
+use Rattle.sound.specs.SoundLaws.{numbers-none, numbers-many, numbers-sigma, numbers-are}
 use Rattle.sound.specs.DoublesLaws.{limit-at}
 use Rattle.sound.proofs.numbers.numbers.Statement.{statement}
 use Rattle.sound.proofs.numbers.numbers.Tie as tie
@@ -22,16 +25,28 @@ float-from-bits-limit c = limit-at binary64 _ (lit< tt) .no-nan
 sigma-requires : tie.Need-sigma-requires
 sigma-requires c κs = search needs
 
+returns-3 : tie.Need-returns-3
+returns-3 c =
+    sym (numbers-sigma doubles (c .before .before .before .before .before .before .args .s) (sym (c .before .sigma .ensures) ∙ not-true _ (c .if3 .taken)))
+
+-- a sound sigma
+good : (c : tie.Else3) → let s = c .before .before .before .before .before .before .args .s in soundSigma doubles (s .n) (s .sigma) ≡ true
+good c = sym (c .before .sigma .ensures) ∙ not-false _ (c .if3 .left)
+
 at-most-requires : tie.Need-at-most-requires
 at-most-requires c κs = (limit-at binary64 _ (lit< tt) .number .fini, limit-at binary64 _ (lit< tt) .positive)
 
 at-most-requires-2 : tie.Need-at-most-requires-2
 at-most-requires-2 c κs = (limit-at binary64 _ (lit< tt) .number .fini, limit-at binary64 _ (lit< tt) .positive)
 
-returns-3 : tie.Need-returns-3
-returns-3 c =
-    rw (c .before .before .sigma .ensures, c .before .at-most .ensures, c .at-most2 .ensures)
-    (sym (numbers-are doubles (c .before .before .before .before .before .before .before .before .args .s) (omega arith) (omega arith)))
+largest-requires : tie.Need-largest-requires
+largest-requires c κs = (omega arith, good (c .before .before .before))
+
+returns-4 : tie.Need-returns-4
+returns-4 c =
+    let e = c .before .before .before .before in
+    rw (c .before .before .at-most .ensures, c .before .at-most2 .ensures, c .largest .ensures)
+    (sym (numbers-are doubles (e .before .before .before .before .before .before .args .s) (omega arith) (omega arith) (good e)))
 
 pub numbers-spec : {M : Type 1} → statement M
 numbers-spec =
@@ -39,8 +54,10 @@ numbers-spec =
     (tie.spec
     returns
     returns-2
-    float-from-bits-limit
     sigma-requires
+    returns-3
+    float-from-bits-limit
     at-most-requires
     at-most-requires-2
-    returns-3)
+    largest-requires
+    returns-4)

@@ -41,6 +41,11 @@ cast-of-2 c =
     let h : getD (start .args .numbers .now) 7 0 < 2 ^ 32 = fields (start .args .numbers .now) (start .pre .1) .ensemble in
     search needs
 
+float-from-bits-of-4 : tie.Need-float-from-bits-of-4
+float-from-bits-of-4 c =
+    let start = c .before .before .before .before .before .before .before .before .before in
+    no-nan _ (fields (start .args .numbers .now) (start .pre .1) .largest)
+
 pub state-spec : {M : Type 1} → statement M
 state-spec =
     tie.close
@@ -57,5 +62,7 @@ state-spec =
     cast-of
     (λ c. search needs)
     cast-of-2
+    (λ c. search needs)
+    float-from-bits-of-4
     (λ c κs. search needs)
     (λ c. search needs))

@@ -7,7 +7,7 @@ use Rattle.lists.specs.Each.{Each, each-from}
 use Rattle.kinds.specs.Limits.{doubles}
 use Rattle.sound.specs.AdmittedLaws.{Admitted}
 use Rattle.rounds.specs.Instances.{doubles-fit}
-use Rattle.walk.specs.Admitted.{admits, admitted-closable}
+use Rattle.walk.specs.Admitted.{admits, admitted-takable, admitted-closable}
 use Rattle.walk.specs.StepLaws.{taken-closes, taken-goes}
 use Rattle.walk.proofs.accepted.accepted.Statement.{statement}
 use Rattle.walk.proofs.accepted.accepted.Tie as tie
@@ -21,13 +21,15 @@ held : (c : tie.After-slice-known) → Each (λ x. T (fits binary64 x)) (c .befo
 held c = each-from (λ x. T (fits binary64 x)) (c .before .args .work .now) nan (λ i l. c .slice-known .given i)
 
 take-requires : tie.Need-take-requires
-take-requires c κs = let P = through (c .before) in (P .numbers .counts .few, P .long, P .inside)
+take-requires c κs =
+    let P = through (c .before) in
+    (P .numbers .counts .few, P .long, P .inside, admitted-takable doubles-fit P (held (c .before)))
 
 close-requires : tie.Need-close-requires
 close-requires c κs =
     let t = c .before .before .before .before in
     let k = t .before .before in
-    rw (t .take .ensures .0, t .take .ensures .1) (admitted-closable doubles-fit (through k) (held k))
+    rw (t .take .ensures .0) (admitted-closable doubles-fit (through k) (held k) (subst T (sym (k .before .good .0 .1 .1 .1 .1 .1 .1 .1 .1 .1 .0 .1)) tt))
 
 same-length : tie.Need-same-length
 same-length c = search needs

@@ -14,7 +14,7 @@ use Rattle.ieee.specs.Finite.{is-finite, is-units}
 use Rattle.kinds.specs.Limits.{doubles}
 use Rattle.judge.specs.Judge.{floats}
 use Rattle.judge.specs.FirstFaultLaws.{first-good}
-use Rattle.extract.specs.Extract.{largest}
+use Rattle.extract.specs.Extract.{plusZero, largest}
 use Rattle.extract.specs.LargestLaws.{Positive}
 use Rattle.rounds.specs.Round.{fresh}
 use Rattle.rounds.specs.FreshRound.{some-left}
@@ -71,7 +71,7 @@ returns c =
     let ps = g .args .list .now in
     let e = z .zero .ensures ∙ ap (λ (s : Bool). nearestFloat (doubles .format) s (pos 0)) (z .before .zero-sign .ensures) in
     let m = mu k .units ∙ ap (largest binary64) (sym (k .copy .ensures .0)) in
-    let q = c .from-mu .ensures ∙ ap (λ (u : ℕ). fresh doubles (z .zero .result) (length ps) u 0 (g .args .ensemble)) m in
+    let q = c .from-mu .ensures ∙ ap (λ (u : ℕ). fresh doubles (z .zero .result) (length ps) u 0 (g .args .ensemble) (plusZero binary64)) m in
     opened-good doubles (g .args .ensemble) ps (g .args .work .now) _ _ (c .from-mu .result) e (k .copy .ensures .0) q
 
 pub start-spec : {M : Type 1} → statement M

@@ -4,11 +4,14 @@ use mathlib.Core.Path.{_≡_, refl, sym, ap, _∙_}
 use Prim.Native.Nat.{suc, _-_}
 use borrow.Author.Needs.{needs}
 use lib.ListN.{length}
+use lib.Ieee.{binary64}
 use Rattle.kinds.specs.Limits.{doubles, blocksOf}
 use Rattle.kinds.specs.Outcome.{outcome}
 use Rattle.kinds.specs.declared.Step.the-variants.{More}
+use Rattle.extract.specs.Extract.{plusZero}
 use Rattle.extract.specs.ExtractLaws.{remainders-length}
 use Rattle.rounds.specs.Instances.{doubles-fit}
+use Rattle.rounds.specs.Begun.{begun-takable}
 use Rattle.walk.specs.Walk.{roundsFrom}
 use Rattle.walk.specs.Run.{Running, walk-closable, walk-ends, walk-accepted, walk-goes, walk-running, walk-lower}
 use Rattle.walk.proofs.run.run.Statement.{statement}
@@ -17,8 +20,8 @@ use Rattle.walk.proofs.run.run.Tie as tie
 abbrev Inv-loop : tie.InvT-loop
 Inv-loop work₀ s₀ work s =
     (length work ≡ length work₀) × Running doubles doubles-fit (s₀ .n) s work
-    × (roundsFrom doubles (blocksOf doubles (s₀ .n)) (suc (doubles .rounds) - s₀ .rounds) (outcome (More s₀) work₀)
-    ≡ roundsFrom doubles (blocksOf doubles (s₀ .n)) (suc (doubles .rounds) - s .rounds) (outcome (More s) work))
+    × (roundsFrom doubles (blocksOf doubles (s₀ .n)) (suc (doubles .rounds) - s₀ .rounds) (outcome (More s₀ (plusZero binary64)) work₀)
+    ≡ roundsFrom doubles (blocksOf doubles (s₀ .n)) (suc (doubles .rounds) - s .rounds) (outcome (More s (plusZero binary64)) work))
 
 abbrev μ-loop : tie.MeasureT-loop
 μ-loop work₀ s₀ work s = suc (doubles .rounds) - s .rounds
@@ -27,7 +30,7 @@ loop-holds : tie.Need-loop-holds Inv-loop μ-loop
 loop-holds c = (refl, c .before .pre, refl)
 
 take-all-requires : tie.Need-take-all-requires Inv-loop μ-loop
-take-all-requires c κs = search needs
+take-all-requires c κs = begun-takable (c .before .loop .inv .1 .begun)
 
 close-requires : tie.Need-close-requires Inv-loop μ-loop
 close-requires c κs =
@@ -43,7 +46,7 @@ loop-less c =
     let q = c .before .before .before in
     let t = q .before .before .before .before in
     let l = t .before .before in
-    walk-lower (l .loop .inv .1) (t .take-all .ensures .0) (t .take-all .ensures .1) (q .close .ensures) _ (c .before .answer .given .1)
+    walk-lower (l .loop .inv .1) (t .take-all .ensures .0) (t .take-all .ensures .1) (q .close .ensures) _ _ (c .before .answer .given .1)
 
 loop-again : tie.Need-loop-again Inv-loop μ-loop
 loop-again c =
@@ -54,8 +57,8 @@ loop-again c =
     let T = t .take-all .ensures .0 in
     let Y = t .take-all .ensures .1 in (
       ap length Y ∙ remainders-length (doubles .format) (l .loop .s .sigma) (l .loop .work) ∙ I .0,
-      walk-running (I .1) T Y (q .close .ensures) _ (c .before .answer .given .1),
-      I .2 ∙ walk-goes (I .1) T Y (q .close .ensures) _ (c .before .answer .given .1),
+      walk-running (I .1) T Y (q .close .ensures) _ _ (c .before .answer .given .1),
+      I .2 ∙ walk-goes (I .1) T Y (q .close .ensures) _ _ (c .before .answer .given .1) (plusZero binary64) (plusZero binary64),
     )
 
 enum-told : tie.Need-enum-told Inv-loop μ-loop
@@ -69,7 +72,7 @@ returns c =
     let q = c .before .before in
     let t = q .before .before .before .before in
     let I = t .before .before .loop .inv in
-    walk-ends (I .1) (t .take-all .ensures .0) (t .take-all .ensures .1) (q .close .ensures) _ _ (c .enum-told .given .1) ∙ sym (I .2)
+    walk-ends (I .1) (t .take-all .ensures .0) (t .take-all .ensures .1) (q .close .ensures) _ _ _ (c .enum-told .given .1) ∙ sym (I .2)
 
 enum-told-2 : tie.Need-enum-told-2 Inv-loop μ-loop
 enum-told-2 c = search needs
