@@ -191,7 +191,7 @@ module _ (P : Pairing) (R : Roomy P) (c : Pair) (e : pairFault P c ≡ 0) where
   sides = pair-0 P c .0 e
 
   same : (eqb (c .0 % top k) 0 || eqb (c .1 % top k) 0) ≡ (eqb (sizeOf (P .width) (c .0)) 0 || eqb (sizeOf (P .width) (c .1)) 0)
-  same = λ i. nothing P (c .0) (finite-below (P .width .format) (c .0) (sides .0 .0)) i || nothing P (c .1) (finite-below (P .width .format) (c .1) (sides .1 .0)) i
+  same = λ i. nothing P (c .0) (finite-below k (c .0) (sides .0 .0)) i || nothing P (c .1) (finite-below k (c .1) (sides .1 .0)) i
 
   pub tested-zero : (eqb (c .0 % top (P .width .format)) 0 || eqb (c .1 % top (P .width .format)) 0) ≡ true
       → (toBits (P .width .format) (productOf (P .width .format) c) ≡ 0) × (toBits (P .width .format) (errorOf (P .width .format) c) ≡ 0)
