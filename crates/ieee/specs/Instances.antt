@@ -53,11 +53,11 @@ factors-64 = record { above = lit≤ tt; split = lit≤ tt; below = lit≤ tt }
 pub factors-32 : Room binary32 99 199
 factors-32 = record { above = lit≤ tt; split = lit≤ tt; below = lit≤ tt }
 
-least-64 : patternUnits binary64 0x26F0000000000000 ≡ 2 ^ 674
+pub least-64 : patternUnits binary64 0x26F0000000000000 ≡ 2 ^ 674
 unfolding patternUnits
 least-64 = refl
 
-most-64 : patternUnits binary64 0x58F0000000000000 ≡ 2 ^ 1474
+pub most-64 : patternUnits binary64 0x58F0000000000000 ≡ 2 ^ 1474
 unfolding patternUnits
 most-64 = refl
 

@@ -1,11 +1,12 @@
 -- The limits on pairs of doubles: 2^-400 is 2^674 units and 2^400 is 2^1474 units, so that products and errors are of at most 2^1874 units, 2^800; and what is
--- promised of every pair and of every list of pairs, at the scope's width. Assumes nothing.
-use mathlib.Core.Path.{_≡_, refl}
+-- promised of every pair at the scope's width. Assumes nothing.
+use mathlib.Core.Path.{_≡_, sym, _∙_}
 use Prim.Native.Nat.{_^_}
-use lib.Dec.{lit≤}
-use lib.Ieee.{binary64, ofBits, toBits}
-use Rattle.ieee.specs.Units.{magnitude}
-use Rattle.ieee.specs.Instances.{factors-64, factor-64}
+use native.Mathlib.Nat.{le-of-eq}
+use lib.Dec.{lit<, lit≤}
+use lib.Ieee.{binary64, toBits}
+use Rattle.ieee.specs.Pattern.{magnitude-is}
+use Rattle.ieee.specs.Instances.{factors-64, least-64, most-64}
 use Rattle.kinds.specs.Limits.{doubles}
 use Rattle.judge.specs.Table.{sizeOf}
 use Rattle.judge.specs.FaultLaws.{most-doubles}
@@ -14,12 +15,19 @@ use Rattle.pairs.specs.Pairs.{Pair, productOf, errorOf, pairFault}
 use Rattle.pairs.specs.Promise.{TwoNumbers}
 use Rattle.pairs.specs.PairLaws.{Roomy, each-pair}
 
+-- rule M2: the limits in units
+pub least-factor : sizeOf doubles (doublePairs .least) ≡ 2 ^ 674
+least-factor = magnitude-is binary64 0x26F0000000000000 (lit< tt) ∙ least-64
+
+pub most-factor : sizeOf doubles (doublePairs .most) ≡ 2 ^ 1474
+most-factor = magnitude-is binary64 0x58F0000000000000 (lit< tt) ∙ most-64
+
 pub roomy-doubles : Roomy doublePairs
 roomy-doubles = record {
   l = 674;
   h = 1474;
-  above = factor-64 0x26F0000000000000 .0 (lit≤ tt, lit≤ tt) .least;
-  below = factor-64 0x58F0000000000000 .0 (lit≤ tt, lit≤ tt) .most;
+  above = le-of-eq (sym least-factor);
+  below = le-of-eq most-factor;
   room = factors-64;
   small = rw most-doubles (lit≤ tt);
   twice = lit≤ tt;
@@ -27,12 +35,3 @@ roomy-doubles = record {
 
 pub pair-64 : (c : Pair) → pairFault doublePairs c ≡ 0 → TwoNumbers doubles c (toBits binary64 (productOf binary64 c)) (toBits binary64 (errorOf binary64 c))
 pair-64 = each-pair doublePairs roomy-doubles
-
--- rule M2's two ends, in units of 2^-1074: 2^-400 and 2^400
-pub least-64 : sizeOf doubles (doublePairs .least) ≡ 2 ^ 674
-unfolding magnitude ofBits
-least-64 = refl
-
-pub most-64 : sizeOf doubles (doublePairs .most) ≡ 2 ^ 1474
-unfolding magnitude ofBits
-most-64 = refl
