@@ -3,22 +3,23 @@
  * The numbers of rules, as in "rule C3", are those of docs/SCOPE.md.
  *
  * Numbers (rules L4 and L5). A number is given as its IEEE 754 binary64 pattern: kewohiata_pattern and kewohiata_double go between the two. A list has at
- * most 4,094 numbers, none beyond 2^1000 in magnitude.
+ * most 4,094 numbers, none beyond 2^1000 in magnitude; of pairs, whose products are taken, there are at most 2,047 (rules M1 and M2).
  *
  * Codes (rule C3). Each call returns 0, or the number of a refusal plus 32 * (place + 1) where a place is told: kewohiata_refusal and kewohiata_place take a
  * code apart. A refused call writes nothing. Beside a call stands the order in which its refusals are told where more than one holds; docs/REFUSALS.md has
  * all of it.
  *
  * Floating-point environment (rule C12). The calls of the walk add doubles: kewohiata_faithful, kewohiata_walk_open, kewohiata_walk_step and
- * kewohiata_walk_faithful. They need the calling thread to round to nearest, to keep subnormal results (no flush-to-zero) and to read subnormal operands as
- * they are (no denormals-as-zero), and to trap no floating-point exception; else they may return 0 with a wrong sum. A program that was linked with -Ofast
- * or -ffast-math may start with both switched on: ask kewohiata_environment once per thread, before the first of these calls. All other calls work on whole
- * numbers, make doubles by their bits, and answer the same in every environment: nearest, parts, grades, registers, weights, sheets.
+ * kewohiata_walk_faithful. Those on pairs multiply and add them: kewohiata_pairs_products and kewohiata_pairs_nearest. They need the calling thread to round to
+ * nearest, to keep subnormal results (no flush-to-zero) and to read subnormal operands as they are (no denormals-as-zero), and to trap no floating-point
+ * exception; else they may return 0 with a wrong sum or product. A program that was linked with -Ofast or -ffast-math may start with both switched on: ask
+ * kewohiata_environment once per thread, before the first of these calls. All other calls work on whole numbers, make doubles by their bits, and answer the
+ * same in every environment: nearest, parts, grades, registers, weights, sheets.
  *
  * Outside the contract (rule C8), and nothing is promised of such a call: a null pointer (also with length 0), a length that isn't the array's, an array
  * that is not readable or not writable as its type says, an array of uint64_t or double that isn't aligned as its type is, two arrays of a call that
- * overlap (but for the two of a merge that are only read, which may be one), an array that something else writes to during the call, and a call of the walk in
- * another floating-point environment than the one above.
+ * overlap (but for the two of a merge, and of a call on pairs, that are only read, which may be one), an array that something else writes to during the call,
+ * and a call of the walk or on pairs in another floating-point environment than the one above.
  *
  * The calls keep no state between each other, allocate nothing and may run at the same time on different arrays. A call takes a time that grows as n, the
  * list's length, where nothing else stands beside it. */
@@ -34,13 +35,13 @@ extern "C" {
 #endif
 
 /* Below 1.0.0 calls may be added, and their forms and answers may still change; the second number tells it. */
-#define KEWOHIATA_VERSION "0.10.0"
-enum { KEWOHIATA_VERSION_MAJOR = 0, KEWOHIATA_VERSION_MINOR = 10, KEWOHIATA_VERSION_PATCH = 0 };
+#define KEWOHIATA_VERSION "0.11.0"
+enum { KEWOHIATA_VERSION_MAJOR = 0, KEWOHIATA_VERSION_MINOR = 11, KEWOHIATA_VERSION_PATCH = 0 };
 
-/* The refusals, rules R1 to R21. A code has room for numbers up to 31; those above 21 are kept for later ones. */
+/* The refusals, rules R1 to R23. A code has room for numbers up to 31; those above 23 are kept for later ones. */
 enum kewohiata_refusals {
     KEWOHIATA_ACCEPTED = 0,
-    KEWOHIATA_TOO_MANY = 1,          /* more than 4,094 numbers */
+    KEWOHIATA_TOO_MANY = 1,          /* more than 4,094 numbers, or more than 2,047 of pairs */
     KEWOHIATA_NOT_FINITE = 2,        /* a NaN or infinity; its place is told */
     KEWOHIATA_TOO_LARGE = 3,         /* a finite number of magnitude above 2^1000 (pattern 7E70000000000000); its place is told */
     KEWOHIATA_WRONG_LENGTH = 4,      /* an array, but for that of the parts, has not the length that the call asks for */
@@ -60,17 +61,20 @@ enum kewohiata_refusals {
     KEWOHIATA_UNSOUND_SET = 18,      /* the state's pending set is empty, or has a block that the list hasn't */
     KEWOHIATA_UNSOUND_WORK = 19,     /* a work number that isn't finite, or too large for the state's sigma; its place is told, the lowest */
     KEWOHIATA_CLAIM_NOT_FINITE = 20, /* the claim is a NaN or infinity */
-    KEWOHIATA_OTHER_ENSEMBLE = 21    /* the state is of another ensemble than the step names */
+    KEWOHIATA_OTHER_ENSEMBLE = 21,   /* the state is of another ensemble than the step names */
+    KEWOHIATA_LENGTHS_DIFFER = 22,   /* two lists that should make pairs have different lengths */
+    KEWOHIATA_FACTOR_OUTSIDE = 23    /* a number of a pair that isn't zero, and of magnitude below 2^-400 or above 2^400; the pair's place is told */
 };
 
 /* The lengths. */
 enum kewohiata_lengths {
     KEWOHIATA_LIST_MOST = 4094,         /* numbers of a list, at most */
     KEWOHIATA_LIST_BYTES_MOST = 32752,  /* the same in bytes */
+    KEWOHIATA_PAIRS_MOST = 2047,        /* pairs, at most: they make two numbers each */
     KEWOHIATA_BLOCK = 64,               /* numbers of a block; a list's last may have fewer */
     KEWOHIATA_STATE = 10,               /* numbers of a state */
     KEWOHIATA_FAITHFUL = 2,             /* numbers that kewohiata_walk_faithful writes: pattern, rounds */
-    KEWOHIATA_VALUE = 1,                /* numbers of `out` where a call tells one: nearest, parts, grade, round, sheet_read, sheet_write */
+    KEWOHIATA_VALUE = 1,                /* numbers of `out` where a call tells one: nearest, parts, grade, round, pairs_nearest, sheet_read, sheet_write */
     KEWOHIATA_REPORT = 4,               /* numbers that kewohiata_sheet_rescue reports */
     KEWOHIATA_SUM_BYTES = 16,           /* bytes of a sum of the calls on bytes */
     KEWOHIATA_WORDS = 33,               /* words of a register */
@@ -240,6 +244,20 @@ uint32_t kewohiata_words_round(const uint64_t *words, size_t words_length, uint6
  * list: the weights. leaver: its place, from 0. out: n numbers, the new weights.
  * Refusals: 1; 4; 2 or 3 of the lowest bad place; 14 of the lowest; 15; 16; 17. */
 uint32_t kewohiata_weights_hand_on(const uint64_t *list, size_t list_length, size_t leaver, uint64_t *out, size_t out_length);
+
+/* ---- pairs: two lists of one length; the numbers at one place of both are a pair of factors, each zero or of a magnitude from 2^-400 to 2^400 (rules M1
+ * and M2). a, b: the two lists' patterns. They may be one array, for squares. */
+
+/* Multiplies pairs without losing anything (rules M4 to M7): of pair i the product, rounded to nearest, goes to place 2i of `out`, and to place 2i + 1 its exact
+ * error, so that the two add up to the exact product. Where a factor is zero both are +0, and a zero error is +0. Every sum takes what was written,
+ * and its exact sum is that of the products (rule M8): so kewohiata_walk_faithful of it is a faithful weighted sum.
+ * out: 2n numbers, n being the length of either list.
+ * Refusals: 1; 22; 4; 2 or 23 of the lowest bad pair, 2 where that has both. Needs the environment above. */
+uint32_t kewohiata_pairs_products(const uint64_t *a, size_t a_length, const uint64_t *b, size_t b_length, uint64_t *out, size_t out_length);
+
+/* The nearest weighted sum (rule M9): no double is nearer to the exact sum of the products, at a tie the one with the even significand; zero gives +0.
+ * out: 1 number, its pattern. Refusals: 1; 22; 4; 2 or 23 of the lowest bad pair, 2 where that has both. Needs the environment above. */
+uint32_t kewohiata_pairs_nearest(const uint64_t *a, size_t a_length, const uint64_t *b, size_t b_length, uint64_t *out, size_t out_length);
 
 /* ---- a contribution sheet (rule H1): the byte 1, the count in 4 bytes, and 8 bytes for each number, all with the highest byte first */
 

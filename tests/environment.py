@@ -6,7 +6,7 @@
 The header is compiled as C99 and C++11 by the kit's compiler, and by gcc and g++ where they are, with every warning an error; its names are held to numbers
 written here. Then tests/host/environment.c is built unoptimised, optimised and with fast mathematics, and asked in each environment: kewohiata_environment
 has to say yes to round to nearest with subnormals and no to every other, and the calls on whole numbers have to answer what exact integers do in all of them.
-That the sums of the walk are wrong in some is shown too: it is why the question is there. Under gcc's -Ofast the program starts in such an environment.
+That the sums of the walk, and the products of pairs, are wrong in some is shown too: it is why the question is there. Under gcc's -Ofast the program starts in such an environment.
 """
 import itertools
 import os
@@ -25,6 +25,7 @@ import farewell  # noqa: E402
 import grades  # noqa: E402
 import kit  # noqa: E402
 import samples  # noqa: E402
+import weighted  # noqa: E402
 
 ROOT = built.ROOT
 PLACE = os.path.join(ROOT, "target", "environment")
@@ -45,7 +46,7 @@ ENVIRONMENTS = {
     "both, upward": USUAL | UP | FLUSH | ZEROED,
 }
 GOOD = {"as usual", "with flags raised"}
-ENVIRONMENT, NEAREST, ADD, WITHDRAW, FAITHFUL, LIST_NEAREST, WORDS_ROUND, PARTS, WALK, READ, HAND_ON, WRITE, MERGE, GRADE, STEP, RESCUE = range(16)
+ENVIRONMENT, NEAREST, ADD, WITHDRAW, FAITHFUL, LIST_NEAREST, WORDS_ROUND, PARTS, WALK, READ, HAND_ON, WRITE, MERGE, GRADE, STEP, RESCUE, PAIRED = range(17)
 
 TINY = [exact.ONE, 0x36EB6, exact.ONE | exact.SIGN]
 LISTS = 150
@@ -56,16 +57,16 @@ NAMES = {
     "TOO_MANY": 1, "NOT_FINITE": 2, "TOO_LARGE": 3, "WRONG_LENGTH": 4, "WRONG_PARTS": 5, "NO_SUCH_BLOCK": 6, "BLOCK_NOT_PENDING": 7, "UNSOUND_NUMBERS": 8,
     "REGISTER_FULL": 9, "NO_FINITE_DOUBLE": 10, "SHEET_TOO_SHORT": 11, "OTHER_VERSION": 12, "SHEET_TOO_LONG": 13, "NOT_A_WEIGHT": 14,
     "WRONG_TOTAL": 15, "NO_SUCH_CLOCK": 16, "NO_OTHER_WEIGHT": 17, "UNSOUND_SET": 18, "UNSOUND_WORK": 19, "CLAIM_NOT_FINITE": 20,
-    "OTHER_ENSEMBLE": 21, "GRADE_EXACT": 0, "GRADE_NEAREST": 1, "GRADE_FAITHFUL": 2, "GRADE_WRONG": 3, "LIST_MOST": 4094,
-    "LIST_BYTES_MOST": 32752, "BLOCK": 64, "STATE": 10, "FAITHFUL": 2, "VALUE": 1, "SUM_BYTES": 16, "WORDS": 33, "REGISTER_BYTES": 264, "PARTS_MOST": 8,
+    "OTHER_ENSEMBLE": 21, "LENGTHS_DIFFER": 22, "FACTOR_OUTSIDE": 23, "GRADE_EXACT": 0, "GRADE_NEAREST": 1, "GRADE_FAITHFUL": 2, "GRADE_WRONG": 3, "LIST_MOST": 4094,
+    "LIST_BYTES_MOST": 32752, "PAIRS_MOST": 2047, "BLOCK": 64, "STATE": 10, "FAITHFUL": 2, "VALUE": 1, "SUM_BYTES": 16, "WORDS": 33, "REGISTER_BYTES": 264, "PARTS_MOST": 8,
     "ROUNDS_MOST": 51, "SHEET_HEADER": 5, "SHEET_BYTES_MOST": 32757, "ACCEPTED": 0, "MORE": 1, "DONE": 2, "STATE_KIND": 0, "STATE_SIGMA": 1, "STATE_T": 2,
     "STATE_TAU": 3, "STATE_N": 4, "STATE_PENDING": 5, "STATE_ROUNDS": 6, "STATE_ENSEMBLE": 7, "STATE_LARGEST": 8, "STATE_TOLD": 9, "DONE_SUM": 1,
-    "DONE_ROUNDS": 2, "VERSION_MAJOR": 0, "VERSION_MINOR": 10, "VERSION_PATCH": 0, "REPORT": 4, "REPORT_WRITTEN": 0, "REPORT_TAKEN": 1, "REPORT_MISSING": 2,
+    "DONE_ROUNDS": 2, "VERSION_MAJOR": 0, "VERSION_MINOR": 11, "VERSION_PATCH": 0, "REPORT": 4, "REPORT_WRITTEN": 0, "REPORT_TAKEN": 1, "REPORT_MISSING": 2,
     "REPORT_OVER": 3, "MARK_KEPT": 0, "MARK_NOT_FINITE": 1, "MARK_TOO_LARGE": 2,
 }  # fmt: skip
 
 DIFFERENCES = []
-COUNTS = {"compilations": 0, "answers": 0, "wrong sums of the walk": 0}
+COUNTS = {"compilations": 0, "answers": 0, "wrong sums of the walk": 0, "wrong products": 0}
 
 
 def expect(name, held, *more):
@@ -234,6 +235,26 @@ def check_walk(name, program, prefix, some):
             expect(f"{name}, {what}: {{1, 36EB6, -1}} is 0 in 1 round", told[0][1] == 0 and told[0][2][:2] == [0, 1], told[0])
 
 
+def pairs_of(numbers):
+    """The values of the calls on pairs, as tests/host/environment.c makes them of a list."""
+    one = [p & ~(0x7FF << 52) | exact.ONE for p in numbers[:16]]
+    other = one[1:] + one[:1]
+    products = weighted.products(one, other, 2 * len(one))
+    return products + [0] * (32 - len(products)) + [weighted.nearest_sum(one, other)]
+
+
+def check_pairs(name, program, prefix, some):
+    """Where numbers are rounded to nearest the products are right, subnormal numbers or not, since none are met; elsewhere some are wrong."""
+    right = [pairs_of(numbers) for numbers in some]
+    for what, control in ENVIRONMENTS.items():
+        told = answers(program, prefix, [(control, PAIRED, numbers) for numbers in some])
+        wrong = [k for k, (after, code, values) in enumerate(told) if code or values != right[k] or after | 0x3F != control | 0x3F]
+        if control & (DOWN | UP):
+            COUNTS["wrong products"] += len(wrong)
+        else:
+            expect(f"{name}, {what}: pairs", not wrong, wrong)
+
+
 def check_environment(name, program, prefix):
     """The header's function says yes to the usual environment alone, and of the start what the control word says."""
     for what, control in ENVIRONMENTS.items():
@@ -273,8 +294,10 @@ def main():
         check_calls(name, program, prefix, some)
         check_scaled(name, program, prefix)
         check_walk(name, program, prefix, some)
+        check_pairs(name, program, prefix, some)
     expect("programs", tried >= 3, tried)
     expect("the walk is wrong in some environment", COUNTS["wrong sums of the walk"] > tried * LISTS)
+    expect("products are wrong in some environment", COUNTS["wrong products"] > tried * LISTS)
     for difference in DIFFERENCES[:9]:
         print("environment:", *(str(part)[:400] for part in difference))
     print(f"environment: {tried} programs, {len(ENVIRONMENTS)} environments, {', '.join(f'{n} {what}' for what, n in COUNTS.items())}; "

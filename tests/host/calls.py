@@ -1,8 +1,8 @@
 """The C calls: each as a request to the driver, with the answer that docs/SCOPE.md asks for.
 
-The answers come from the models of tests/exact.py (sums, parts and registers in whole units), tests/walk.py (the faithful walk), tests/grades.py (grades) and
-tests/farewell.py (weights); what is said here is how they lie in arrays and which lengths are refused. Sheets are read, written and rescued as by
-tests/sheets.py. An array is its bytes, of whatever its elements are.
+The answers come from the models of tests/exact.py (sums, parts and registers in whole units), tests/walk.py (the faithful walk), tests/grades.py (grades),
+tests/farewell.py (weights) and tests/weighted.py (pairs); what is said here is how they lie in arrays and which lengths are refused. Sheets are read, written
+and rescued as by tests/sheets.py. An array is its bytes, of whatever its elements are.
 """
 import collections
 import functools
@@ -13,6 +13,7 @@ import farewell
 import grades
 import sheets
 import walk
+import weighted
 from exact import INFINITY, NAN, SIGN, Refused
 
 # the calls in the order of the driver's numbers, and of what their arrays are, in struct's letters: bytes, numbers of 64 bits, doubles
@@ -35,6 +36,8 @@ CALLS = {
     "kewohiata_words_merge": "QQQ",
     "kewohiata_list_grade": "QQ",
     "kewohiata_sheet_rescue": "BBBQ",
+    "kewohiata_pairs_products": "QQQ",
+    "kewohiata_pairs_nearest": "QQQ",
 }
 NUMBERS = {call: number for number, call in enumerate(CALLS)}
 SIZE, SUM, REGISTER = 8, 16, 8 * exact.WORDS  # bytes of a number, of a sum in bytes, and of a register
@@ -62,7 +65,7 @@ def unpacked(data):
 
 def heard(number, place):
     """A refusal's code, rule C3."""
-    return number + 32 * (place + 1) if number in (2, 3, 14, 19) else number
+    return number + 32 * (place + 1) if number in (2, 3, 14, 19, 23) else number
 
 
 # ---- what goes through the pipes
@@ -321,6 +324,23 @@ def handed(data, leaver, out):
         return [data, packed(farewell.hand_on(unpacked(data), leaver, len(out) // SIZE))], None
 
     return asked("kewohiata_weights_hand_on", [data, out], model, leaver)
+
+
+# ---- pairs
+def multiplied(one, other, out, squares=False):
+    """1, 22, 4, and then 2 or 23. Where the first list is handed in twice, the second stays aside."""
+    def model():
+        return [one, other, packed(weighted.products(unpacked(one), unpacked(one if squares else other), len(out) // SIZE))], None
+
+    return asked("kewohiata_pairs_products", [one, other, out], model, int(squares))
+
+
+def weighed(one, other, out, squares=False):
+    """The same order, where 4 is for the value."""
+    def model():
+        return [one, other, packed([weighted.nearest_sum(unpacked(one), unpacked(one if squares else other), len(out) == SIZE)])], None
+
+    return asked("kewohiata_pairs_nearest", [one, other, out], model, int(squares))
 
 
 # ---- sheets

@@ -43,6 +43,8 @@ static uint64_t call(const struct request *r)
     case 15: return kewohiata_words_merge(LENT(0, numbers), LENT(r->number ? 0 : 1, numbers), LENT(2, numbers)); /* or the first register twice */
     case 16: return kewohiata_list_grade(LENT(0, numbers), r->number, LENT(1, numbers));
     case 17: return kewohiata_sheet_rescue(LENT(0, bytes), LENT(1, bytes), LENT(2, bytes), LENT(3, numbers));
+    case 18: return kewohiata_pairs_products(LENT(0, numbers), LENT(r->number ? 0 : 1, numbers), LENT(2, numbers)); /* or squares */
+    case 19: return kewohiata_pairs_nearest(LENT(0, numbers), LENT(r->number ? 0 : 1, numbers), LENT(2, numbers));
     default: return UINT64_MAX;
     }
 }

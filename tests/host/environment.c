@@ -128,6 +128,21 @@ static uint32_t stepped(void)
     return kewohiata_walk_step(values, KEWOHIATA_STATE, area, 1, 0, 0);
 }
 
+/* pairs of neighbours in the list, of their signs and digits and with magnitudes from 1 to 2: the products and errors of up to 16, and the nearest weighted sum
+   behind them */
+static uint32_t paired(size_t n)
+{
+    static uint64_t a[MOST], b[MOST];
+    const uint64_t field = (uint64_t)0x7FF << 52;
+    const size_t pairs = n < 16 ? n : 16;
+    for (size_t i = 0; i < pairs; i++)
+        a[i] = (list[i] & ~field) | kewohiata_pattern(1.0);
+    for (size_t i = 0; i < pairs; i++)
+        b[i] = a[(i + 1) % pairs];
+    uint32_t code = kewohiata_pairs_products(a, pairs, b, pairs, values, 2 * pairs);
+    return code ? code : kewohiata_pairs_nearest(a, pairs, b, pairs, values + VALUES - 1, KEWOHIATA_VALUE);
+}
+
 static uint32_t call(uint64_t which, size_t n)
 {
     switch (which) {
@@ -147,6 +162,7 @@ static uint32_t call(uint64_t which, size_t n)
     case 13: return graded(n);
     case 14: return stepped();
     case 15: return sheet_rescued(n);
+    case 16: return paired(n);
     default: return UINT32_MAX;
     }
 }

@@ -17,6 +17,8 @@ use Rattle.sheet.specs.Sheet.{readOf}
 use Rattle.sheet.specs.Write.{writtenOf, writtenHeard}
 use Rattle.rescue.specs.Rescue.{rescuedOf, rescuedHeard}
 use Rattle.weights.specs.Weights.{handedOf, handedHeard}
+use Rattle.pairs.specs.Limits.{doublePairs}
+use Rattle.pairs.specs.Pairs.{multipliedOf, weightedOf, pairedHeard}
 use Rattle.grade.specs.Grade.{gradeOf, gradedHeard}
 
 -- what an area holds before the call, at each place: 1.5, a number that is in no list and no answer of the table
@@ -75,6 +77,9 @@ pub data Call : Type 0 where
   handOn : List ℕ → ℕ → ℕ → Call
   -- the grade of a claim, by its pattern, of a list's sum
   grading : List ℕ → ℕ → Call
+  -- the products of two lists' pairs, to an area of a length; the nearest weighted sum of them
+  products : List ℕ → List ℕ → ℕ → Call
+  weightedSum : List ℕ → List ℕ → Call
 
 -- what its caller hears, beside the patterns or words of the lent area afterwards; of two areas the second stands behind the first
 abbrev pub Result : Type 0
@@ -112,6 +117,10 @@ resultOf (handOn ps place m) =
     let r = handedOf doubles ps place (replicate m beforehand) in
     outcome (handedHeard (r .answer)) (r .area)
 resultOf (grading ps c) = outcome (gradedHeard (gradeOf doubles ps c)) []
+resultOf (products ps qs m) =
+    let r = multipliedOf doublePairs ps qs (replicate m beforehand) in
+    outcome (pairedHeard (r .answer)) (r .area)
+resultOf (weightedSum ps qs) = outcome (nearestHeard doubles (weightedOf doublePairs ps qs)) []
 
 -- one row of the table
 pub record Case : Type 0 where

@@ -2,7 +2,7 @@
 -- here a slip in the order of the ten numbers, of values or of a sheet's bytes shows. The walk is of 2^100, 2^51 and -2^100: it opens, closes a round that
 -- leaves 2^51 in t, and finishes. Assumes nothing.
 use mathlib.Core.Path.{_≡_, refl}
-use mathlib.Core.List.{List, [], _∷_, _++_}
+use mathlib.Core.List.{List, [], _∷_, _++_, zip, zipWith}
 use Prim.Native.Nat.{ℕ}
 use lib.Ieee.{Float, binary64, ofBits, toBits, add, sub, mul, le, eq}
 use lib.ListN.{replicate}
@@ -12,7 +12,7 @@ use Rattle.ieee.specs.Units.{value, magnitude, negative, nearestFloat}
 use Rattle.kinds.specs.Outcome.{outcome}
 use Rattle.lists.specs.Every.{every}
 use Rattle.lists.specs.Filter.{filter}
-use Rattle.judge.specs.Judge.{faultOf, firstFault, judged, zeroSign}
+use Rattle.judge.specs.Judge.{faultOf, firstBad, firstFault, judged, zeroSign}
 use Rattle.register.specs.Register.{enter, rounded}
 use Rattle.register.specs.Merge as G
 use Rattle.octets.specs.Octets.{eights, joined}
@@ -26,6 +26,7 @@ use Rattle.sheet.specs.Sheet.{sheetOf, readOf}
 use Rattle.sheet.specs.Write.{writtenOf}
 use Rattle.rescue.specs.Rescue.{rescuedOf}
 use Rattle.weights.specs.Weights as H
+use Rattle.pairs.specs.Pairs as X
 use Rattle.arrays.specs.Arrays.{returned}
 use Rattle.step_calls.specs.StepArrays.{openArrays, stepArrays}
 use Rattle.sum_calls.specs.SumArrays.{faithfulArrays, nearestArrays}
@@ -34,6 +35,7 @@ use Rattle.register_calls.specs.RegisterArrays.{addArrays, withdrawArrays, merg
 use Rattle.sheet_calls.specs.SheetArrays.{readArrays, writeArrays}
 use Rattle.sheet_calls.specs.RescueArrays.{rescueReturned, rescueArrays}
 use Rattle.weight_calls.specs.WeightArrays.{handOnArrays}
+use Rattle.pair_calls.specs.PairArrays.{productsArrays, weightedArrays}
 use Rattle.grade.specs.Grade as Q
 use Rattle.grade_calls.specs.GradeArrays.{gradeArrays}
 
@@ -131,6 +133,24 @@ pub hands-on : handOnArrays (0x3FE0000000000000 ∷ 0x3FD0000000000000 ∷ 0x3FD
 unfolding judged firstFault faultOf H.weightGood H.weightOf H.patternFor H.total H.spread H.badWeight H.weighed H.handedAfter
     magnitude negative nearestFloat ofBits toBits
 hands-on = refl
+
+-- ---- pairs: (1 + 2^-52) times itself with the error, and 1 and 2^-53 in one sum; at another length of its array 22 before 4
+pub multiplies : productsArrays (0x3FF0000000000001 ∷ []) (0x3FF0000000000001 ∷ []) (7 ∷ 7 ∷ []) ≡ outcome 0 (0x3FF0000000000002 ∷ 0x3970000000000000 ∷ [])
+unfolding zip zipWith firstBad X.pairFault X.pairsJudged X.nearestProduct X.productsOf X.multipliedAfter magnitude value ofBits toBits
+multiplies = refl
+
+pub weighs : weightedArrays (0x3FF0000000000000 ∷ 0x3E40000000000000 ∷ []) (0x3FF0000000000000 ∷ 0x3E50000000000000 ∷ []) (7 ∷ [])
+    ≡ outcome 0 (0x3FF0000000000000 ∷ [])
+unfolding weightedArrays zip zipWith firstBad X.pairFault X.pairsJudged X.nearestProduct X.weightedAfter magnitude value ofBits toBits
+weighs = refl
+
+pub outside-at-1 : weightedArrays (0 ∷ 0 ∷ []) (0 ∷ 1 ∷ []) (7 ∷ []) ≡ outcome 87 (7 ∷ [])
+unfolding weightedArrays zip zipWith firstBad X.pairFault X.pairsJudged X.weightedAfter magnitude ofBits
+outside-at-1 = refl
+
+pub twenty-two-before-four : weightedArrays (0 ∷ []) [] [] ≡ outcome 22 []
+unfolding weightedArrays
+twenty-two-before-four = refl
 
 -- ---- grades: the odd neighbour of a tie is faithful; a NaN is no claim; another length of the array before that
 pub grades : gradeArrays (0x3FF0000000000000 ∷ 0x3CA0000000000000 ∷ []) 0x3FF0000000000001 (7 ∷ []) ≡ outcome 0 (2 ∷ [])

@@ -1,7 +1,7 @@
--- Every row of the four tables holds: one test that is computed over a whole table, and one law from the test to each row. Assumes nothing.
+-- Every row of the five tables holds: one test that is computed over a whole table, and one law from the test to each row. Assumes nothing.
 use mathlib.Core.Path.{_≡_, refl, sym, ap, _∙_}
 use mathlib.Core.Bool.{Bool, true, false, cond, _&&_}
-use mathlib.Core.List.{List, [], _∷_, map}
+use mathlib.Core.List.{List, [], _∷_, map, zip, zipWith}
 use Prim.Native.Nat.{ℕ, zero, suc, _<_}
 use native.Mathlib.Omega.{arith}
 use lib.Dec.{T, eqb, eqb→eq}
@@ -13,7 +13,7 @@ use Rattle.lists.specs.Digits.{number, digits, signed, residue}
 use Rattle.ieee.specs.Units.{value, nearestFloat}
 use Rattle.lists.specs.Every as L
 use Rattle.lists.specs.Filter.{filter}
-use Rattle.judge.specs.Judge.{faultOf, firstFault, judged, zeroSign}
+use Rattle.judge.specs.Judge.{faultOf, firstBad, firstFault, judged, zeroSign}
 use Rattle.register.specs.Register.{enter, rounded}
 use Rattle.register.specs.Merge.{merged}
 use Rattle.extract.specs.Extract.{remainders, gathered, lastSum, largest, largestWith}
@@ -24,6 +24,7 @@ use Rattle.walk.specs.Walk as W
 use Rattle.walk.specs.Before.{takenBefore, steppedBeforeAfter, steppedBefore}
 use Rattle.sums.specs.Sums as S
 use Rattle.weights.specs.Weights as H
+use Rattle.pairs.specs.Pairs as X
 use Rattle.grade.specs.Grade as Q
 use Rattle.kinds.specs.Limits.{doubles}
 use Rattle.kinds.specs.Outcome.{outcome}
@@ -36,6 +37,7 @@ use Rattle.cases.specs.Calls.{Result, Case, givenState, walkResult, resu
 use Rattle.cases.specs.Table.{table}
 use Rattle.cases.specs.Bounds.{bounds}
 use Rattle.cases.specs.Faults.{faults}
+use Rattle.cases.specs.PairRows.{pairs}
 use Rattle.cases.specs.Largest.{outside, witness, largests}
 
 -- ---- what is heard, as numbers, and back
@@ -156,6 +158,11 @@ unfolding
     ofBits toBits le eq
 computed-faults = refl
 
+computed-pairs : every pairs ≡ true
+unfolding
+    every pairs zip zipWith firstBad X.pairFault X.pairsJudged X.nearestProduct X.productsOf X.multipliedAfter X.weightedAfter value ofBits toBits
+computed-pairs = refl
+
 computed-largests : every largests ≡ true
 unfolding
     every largests W.steppedAfter W.taken R.turned R.fresh R.scaled R.finished R.closedBy
@@ -171,6 +178,9 @@ bounds-hold k d h = rows-hold bounds (rw computed-bounds tt) k d h
 
 pub faults-hold : (k : ℕ) (d : Case) → k < length faults → resultOf (getD faults k d .call) ≡ getD faults k d .expected
 faults-hold k d h = rows-hold faults (rw computed-faults tt) k d h
+
+pub pairs-hold : (k : ℕ) (d : Case) → k < length pairs → resultOf (getD pairs k d .call) ≡ getD pairs k d .expected
+pairs-hold k d h = rows-hold pairs (rw computed-pairs tt) k d h
 
 pub largests-hold : (k : ℕ) (d : Case) → k < length largests → resultOf (getD largests k d .call) ≡ getD largests k d .expected
 largests-hold k d h = rows-hold largests (rw computed-largests tt) k d h

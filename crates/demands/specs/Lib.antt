@@ -9,3 +9,4 @@ pub mod Refusals
 pub mod Hearing
 pub mod Weighed
 pub mod Graded
+pub mod Products

@@ -13,14 +13,13 @@ use lib.Ieee.{Float, Format, binary64, top, ofBits, toBits}
 use lib.Ieee.Scale.{finite}
 use Rattle.ieee.specs.Units.{Number, magnitude, value, signOf, limit, patternUnits}
 use Rattle.ieee.specs.Nearest.{nearest-number}
-use Rattle.ieee.specs.Pattern.{bits-units}
+use Rattle.ieee.specs.Pattern.{no-units, bits-units}
 use Rattle.lists.specs.Digits.{number}
 use Rattle.kinds.specs.Limits.{doubles}
 use Rattle.words.specs.Words.{wordBits, wholeOf, wordsOf}
 use Rattle.addend.specs.Addend.{unitsOf}
 use Rattle.grade.specs.Grade.{near, otherSide, gradeAt}
 use Rattle.grade.specs.Distances.{not-apart, apart-none}
-use Rattle.grade.specs.Neighbours.{no-units}
 use Rattle.grade.specs.CaseLaws.{grade-exact, grade-missed, grade-near, grade-side, grade-off}
 use Rattle.grade.specs.SideLaws.{near-zero, no-number}
 use Rattle.grade.specs.declared.Graded.the-variants.{Exact, Nearest, Faithful, Wrong}

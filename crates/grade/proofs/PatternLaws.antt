@@ -14,10 +14,10 @@ use lib.Ieee.Scale.{finite}
 use Rattle.ieee.specs.Units.{Number, magnitude, value, patternUnits}
 use Rattle.ieee.specs.Finite.{finite-no-nan, same-float}
 use Rattle.ieee.specs.Fractions.{same-test}
-use Rattle.ieee.specs.Pattern.{bits-units, pattern-finite}
+use Rattle.ieee.specs.Pattern.{no-units, bits-units, pattern-finite}
 use Rattle.ieee.specs.Sum.{value-mag}
 use Rattle.grade.specs.Distances.{not-apart, apart-none}
-use Rattle.grade.specs.Neighbours.{no-units, bare-none}
+use Rattle.grade.specs.Neighbours.{bare-none}
 use Rattle.grade.specs.GradeLaws.{zero-value}
 
 pub above-finite : {p : ℕ} → p < 2 ^ 64 → T (finite (ofBits binary64 p)) → p + 1 < 2 ^ 64

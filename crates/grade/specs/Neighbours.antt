@@ -8,7 +8,7 @@ use native.Mathlib.Nat.{mod-eq-of-lt, add-mod-left, div-eq-of-lt, zero-add}
 use native.Mathlib.Omega.{arith}
 use borrow.Author.Tests.{le-leb, lt-leb}
 use lib.Dec.{leb}
-use lib.Pow.{pow-pos, pow-mono}
+use lib.Pow.{pow-mono}
 use lib.Ieee.{Float, Format, prec, hid, ones, top, ofBits, toBits}
 use lib.Ieee.Fits.{two}
 use lib.Ieee.Bits.{ofBits-toBits, toBits-ofBits, toBits-lt}
@@ -16,7 +16,7 @@ use Rattle.units.specs.Whole.{_≺_}
 use Rattle.units.specs.Powers.{le-or-lt}
 use Rattle.ieee.specs.Units.{Number, negative, magnitude, signedWhole, whole, patternUnits}
 use Rattle.ieee.specs.Finite.{finite-no-nan}
-use Rattle.ieee.specs.Pattern.{pattern-lt, pattern-number, bits-below, bits-units}
+use Rattle.ieee.specs.Pattern.{no-units, pattern-lt, pattern-number, bits-below, bits-units}
 
 module _ (f : Format) where
   -- ---- a pattern is its sign and the pattern without it
@@ -66,10 +66,6 @@ module _ (f : Format) where
     signed-magnitude = bits-units signed-number .1 ∙ ap (λ (b : ℕ). patternUnits f (b % top f)) signed-bits ∙ ap (patternUnits f) (signed-rest s r below-top .0)
 
   -- ---- the least patterns: 0 stands for nothing, and 1 for one unit
-  pub no-units : patternUnits f 0 ≡ 0
-  unfolding patternUnits
-  no-units = rw (div-eq-of-lt (pow-pos (prec f - 1)), mod-eq-of-lt (pow-pos (prec f - 1)))
-
   pub one-unit : patternUnits f 1 ≡ 1
   unfolding patternUnits
   one-unit = rw (div-eq-of-lt small, mod-eq-of-lt small)
@@ -80,7 +76,7 @@ module _ (f : Format) where
   pub bare-none : {x : Float} → Number f x → magnitude f x ≡ 0 → toBits f x % top f ≡ 0
   bare-none {x} X e = elim (le-or-lt (toBits f x % top f) 0) [
     | inl l ↦ omega arith
-    | inr l ↦ absurd (omega (arith, pattern-lt f .0 l, no-units, sym (bits-units X .1) ∙ e))
+    | inr l ↦ absurd (omega (arith, pattern-lt f .0 l, no-units f, sym (bits-units X .1) ∙ e))
   ]
 
   -- ---- y has the next pattern behind x's, away from zero

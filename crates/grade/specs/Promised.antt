@@ -11,7 +11,7 @@ use lib.Ieee.Bits.{is-true, ofBits-toBits}
 use lib.Ieee.Scale.{finite}
 use Rattle.ieee.specs.Units.{Number, magnitude, nearestFloat, patternUnits}
 use Rattle.ieee.specs.Finite.{is-units}
-use Rattle.ieee.specs.Pattern.{pattern-is, pattern-number}
+use Rattle.ieee.specs.Pattern.{no-units, pattern-is, pattern-number}
 use Rattle.ieee.specs.Accuracy.{FaithfulTo, NearestTo}
 use Rattle.lists.specs.Apart.{apart}
 use Rattle.kinds.specs.Limits.{doubles}
@@ -29,7 +29,6 @@ use Rattle.grade.specs.Table as table
 use Rattle.grade.specs.Table.{Earns, AtLeastNearest, NotWrong}
 use Rattle.grade.specs.Distances.{nearest-faithful}
 use Rattle.grade.specs.GradeLaws.{some-grade, grade-earned, zeros-alike}
-use Rattle.grade.specs.Neighbours.{no-units}
 use Rattle.grade.specs.AnswerLaws.{list-refused, claim-graded}
 use Rattle.grade.specs.TableLaws.{roomy-doubles}
 use Rattle.grade.specs.declared.Graded.{Graded}

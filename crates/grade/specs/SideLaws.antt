@@ -18,11 +18,11 @@ use Rattle.ieee.specs.Units.{Number, negative, magnitude, signedWhole, value, w
 use Rattle.ieee.specs.Rounded.{prec-pos}
 use Rattle.ieee.specs.Overflow.{nearest-negative, nearest-whole}
 use Rattle.ieee.specs.Nearest.{nearest-number, nearest-nearest}
-use Rattle.ieee.specs.Pattern.{pattern-lt, bits-below, bits-units}
+use Rattle.ieee.specs.Pattern.{no-units, pattern-lt, bits-below, bits-units}
 use Rattle.grade.specs.Grade.{near, otherSide}
 use Rattle.grade.specs.Distances.{is-sum, sum-is, best-distance}
 use Rattle.grade.specs.Neighbours.{signedBits, pattern-split, signed-number, signed-bits, signed-negative, signed-magnitude}
-use Rattle.grade.specs.Neighbours.{no-units, one-unit, bare-none, next-bare, next-further, gap-up, gap-down}
+use Rattle.grade.specs.Neighbours.{one-unit, bare-none, next-bare, next-further, gap-up, gap-down}
 use Rattle.grade.specs.Amid.{Amid}
 use Rattle.grade.specs.CaseLaws.{side-away, side-back}
 

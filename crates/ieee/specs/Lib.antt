@@ -1,6 +1,7 @@
 -- Floats and their bit patterns as whole numbers of units, over lib.Ieee's formats. Definitions first, then laws, each file over those above it.
 pub mod Units
 pub mod Accuracy
+pub mod ErrorFree
 pub mod Finite
 pub mod Rounded
 pub mod Fractions
@@ -16,4 +17,7 @@ pub mod FaithfulFloat
 pub mod TwoFaithful
 pub mod InRange
 pub mod Zeros
+pub mod Scaled
+pub mod Split
+pub mod TwoProduct
 pub mod Instances

@@ -6,7 +6,7 @@ use mathlib.Core.Bool.{Bool, true, false, cond, not}
 use Prim.Native.Nat.{ℕ, zero, suc, _+_, _-_, _*_, _/_, _%_, _^_, _≤_, _<_}
 use native.Mathlib.Nat.{le-of-eq, le-of-lt, le-antisymm, le-of-suc-le-suc, lt-of-lt-of-le, lt-of-not-le, not-le-of-lt, eq-or-lt-of-le, zero-lt-suc}
 use native.Mathlib.Nat.{mul-one, mul-comm, mul-pos, mul-le-mul-left, mul-le-mul-right, mul-lt-mul-of-pos-right, pow-succ'}
-use native.Mathlib.Nat.{mod-lt, mod-eq-of-lt, div-add-mod', mod-mod-of-dvd, dvd-mul-right, div-lt-iff-lt-mul, le-div-iff-mul-le}
+use native.Mathlib.Nat.{mod-lt, mod-eq-of-lt, div-add-mod', mod-mod-of-dvd, dvd-mul-right, div-lt-iff-lt-mul, le-div-iff-mul-le, zero-div, zero-mod}
 use native.Mathlib.Omega.{arith}
 use lib.Dec.{T, leb, ltb, eqb, eqb→eq, lt→ltb, ltb→lt}
 use lib.Arith.{le→nltb, lt→nleb}
@@ -18,7 +18,7 @@ use lib.Ieee.Exact.{odd-sign}
 use lib.Ieee.Scale.{finite}
 use lib.Ieee.Nearest.{div-mono}
 use Rattle.units.specs.Powers.{le-or-lt}
-use Rattle.ieee.specs.Units.{Is, Number, negative, magnitude, fieldUnits, patternUnits}
+use Rattle.ieee.specs.Units.{Is, Between, Number, negative, magnitude, fieldUnits, patternUnits}
 use Rattle.ieee.specs.Finite.{is-units, is-finite}
 
 module _ (f : Format) where
@@ -84,6 +84,10 @@ module _ (f : Format) where
 
   -- ---- a larger pattern is a larger magnitude
 
+  pub no-units : patternUnits f 0 ≡ 0
+  unfolding patternUnits
+  no-units = rw (zero-div (hid f), zero-mod (hid f))
+
   -- a field x stands for less than hid * 2 ^ x units, and a larger field for no less
   under : (x t : ℕ) → t < hid f → fieldUnits f x t < hid f * 2 ^ x
   under zero t h = omega arith
@@ -117,21 +121,41 @@ module _ (f : Format) where
   pattern-le = (not-falling, λ h. le-of-suc-le-suc (lt-of-not-le (λ g. not-le-of-lt (rising g) h)))
 
   -- a bound on patterns is a bound on magnitudes
+  pub magnitude-is : (b : ℕ) → b % top f < ones f * hid f → magnitude f (ofBits f b) ≡ patternUnits f (b % top f)
+  magnitude-is b l = is-units f (ofBits f b) (leb (top f) b) (patternUnits f (b % top f)) (pattern-is b l) .1
+
+  pub finite-below : (b : ℕ) → T (finite (ofBits f b)) → b % top f < ones f * hid f
+  finite-below b t = ltb→lt (b % top f) (ones f * hid f) (rw (pattern-finite b) at t)
+
   pub pattern-within : (b L : ℕ) → L < ones f * hid f → (b % top f ≤ L) ↔ (T (finite (ofBits f b)) × (magnitude f (ofBits f b) ≤ patternUnits f L))
   pattern-within b L h = (there, back)
     where
-      units : b % top f < ones f * hid f → magnitude f (ofBits f b) ≡ patternUnits f (b % top f)
-      units l = is-units f (ofBits f b) (leb (top f) b) (patternUnits f (b % top f)) (pattern-is b l) .1
-
       there : b % top f ≤ L → T (finite (ofBits f b)) × (magnitude f (ofBits f b) ≤ patternUnits f L)
       there k =
           let l : b % top f < ones f * hid f = omega arith in
-          (rw (pattern-finite b) (lt→ltb (b % top f) (ones f * hid f) l), rw (units l) (not-falling k))
+          (rw (pattern-finite b) (lt→ltb (b % top f) (ones f * hid f) l), rw (magnitude-is b l) (not-falling k))
 
       back : T (finite (ofBits f b)) × (magnitude f (ofBits f b) ≤ patternUnits f L) → b % top f ≤ L
-      back k =
-          let l : b % top f < ones f * hid f = ltb→lt (b % top f) (ones f * hid f) (rw (pattern-finite b) at (k .0)) in
-          pattern-le .1 (rw (units l) at (k .1))
+      back k = pattern-le .1 (rw (magnitude-is b (finite-below b (k .0))) at (k .1))
+
+  pub pattern-between : (b L H l h : ℕ) → patternUnits f L ≡ 2 ^ l → patternUnits f H ≡ 2 ^ h → H < ones f * hid f
+      → ((L ≤ b % top f) × (b % top f ≤ H)) ↔ Between f l h (ofBits f b)
+  pattern-between b L H l h u v k = (there, back)
+    where
+      there : (L ≤ b % top f) × (b % top f ≤ H) → Between f l h (ofBits f b)
+      there g =
+          let w = pattern-within b H k .0 (g .1) in
+          record {
+            number = record { fit = ofBits-fits f b; fini = w .0 };
+            least = rw (magnitude-is b (finite-below b (w .0)), ← u) (pattern-le .0 (g .0));
+            most = rw (← v) (w .1);
+          }
+
+      back : Between f l h (ofBits f b) → (L ≤ b % top f) × (b % top f ≤ H)
+      back B = (
+        pattern-le .1 (rw (u, ← (magnitude-is b (finite-below b (B .number .fini)))) (B .least)),
+        pattern-within b H k .1 (B .number .fini, rw v (B .most)),
+      )
 
   pub pattern-number : (b : ℕ) → b % top f < ones f * hid f → Number f (ofBits f b)
   pattern-number b h = record { fit = ofBits-fits f b; fini = rw (pattern-finite b) (lt→ltb (b % top f) (ones f * hid f) h) }

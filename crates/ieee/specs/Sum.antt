@@ -21,7 +21,7 @@ use Rattle.ieee.specs.Units.{Number, negative, magnitude, signed, signed
 use Rattle.ieee.specs.Fractions.{ltb-scale, over-units}
 
 -- ---- the two ways of writing a float's units
-signed-int : (s : Bool) (n : ℕ) → signed s n ≡ int (signedWhole s n)
+pub signed-int : (s : Bool) (n : ℕ) → signed s n ≡ int (signedWhole s n)
 signed-int false n = sym (int-difference (pos n))
 signed-int true n = sym (int-neg (signedWhole false n) ∙ ap negℤ (int-difference (pos n)))
 
@@ -88,7 +88,8 @@ sum-scale f s t a b c k C K = rw (
     reduced s n w e = round-same f s n (c * k) w c (mul-pos C K) C (omega (arith, ap (λ (x : ℕ). x * c) e))
 
 -- the float nearest to ±n units, where a zero has the sign z
-nearest-at : (f : Format) (z : Bool) (w : Whole) (s : Bool) (n : ℕ) → w ≈ signedWhole s n → (n ≡ 0 → s ≡ z) → round f s n (2 ^ low f) ≡ nearestFloat f z (int w)
+pub nearest-at : (f : Format) (z : Bool) (w : Whole) (s : Bool) (n : ℕ) → w ≈ signedWhole s n → (n ≡ 0 → s ≡ z)
+    → round f s n (2 ^ low f) ≡ nearestFloat f z (int w)
 unfolding nearestFloat
 nearest-at f z w s n e h = go s n h ∙ ap (nearestFloat f z) (signed-int s n ∙ sym (int-same w (signedWhole s n) e))
   where

@@ -2,7 +2,7 @@
 -- Rule L1 for every format: a unit is 2 ^ -low, its smallest positive value: 2 ^ -1074 at binary64, 2 ^ -149 at binary32.
 use mathlib.Core.Path.{_≡_}
 use mathlib.Core.Bool.{Bool, true, false, cond}
-use Prim.Native.Nat.{ℕ, zero, suc, _+_, _-_, _*_, _/_, _%_, _^_}
+use Prim.Native.Nat.{ℕ, zero, suc, _+_, _-_, _*_, _/_, _%_, _^_, _≤_}
 use lib.IntN.{ℤ, pos, negsuc, negℤ, natAbs}
 use lib.Dec.{T}
 use lib.Ieee.{Float, nan, inf, fin, Format, prec, emax, low, up, down, round, hid, top, fits}
@@ -65,6 +65,12 @@ limit f = overflow f - 2 ^ (low f + emax f - prec f)
 -- x is ±n units
 abbrev pub Is : Format → Float → Bool → ℕ → Type 0
 Is f x s n = HasValue x s n (2 ^ low f)
+
+-- a number of magnitude 2 ^ l to 2 ^ h units
+pub record Between (f : Format) (l h : ℕ) (a : Float) : Type 0 where
+  pub number : Number f a
+  pub least : 2 ^ l ≤ magnitude f a
+  pub most : magnitude f a ≤ 2 ^ h
 
 -- x is a number of the format whose units are z rounded; a zero has the sign s
 pub record RoundedTo (f : Format) (s : Bool) (z : Whole) (x : Float) : Type 0 where

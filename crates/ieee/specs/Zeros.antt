@@ -5,7 +5,7 @@ use mathlib.Core.Logic.{_↔_}
 use mathlib.Core.Bool.{Bool, true, false, cond, not, _&&_, and-eq-true-iff}
 use Prim.Native.Nat.{ℕ, _*_, _<_}
 use native.Mathlib.Omega.{arith}
-use lib.IntN.{ℤ, pos, natAbs, _+ℤ_}
+use lib.IntN.{ℤ, pos, natAbs, _+ℤ_, +ℤ-idr}
 use lib.Dec.{T, ltb→lt}
 use lib.Ieee.{Float, nan, inf, fin, Format, binary32, binary64, prec, top, fits, isNan, ofBits, toBits, add}
 use lib.Ieee.Bits.{ofBits-fits, ofBits-toBits, toBits-ofBits}
@@ -18,7 +18,8 @@ use Rattle.ieee.specs.Units.{Number, negative, magnitude, signed, value,
 use Rattle.ieee.specs.Finite.{finite-no-nan, is-units, same-float}
 use Rattle.ieee.specs.Rounded.{prec-pos}
 use Rattle.ieee.specs.Sum.{value-int, value-mag, add-nearest}
-use Rattle.ieee.specs.Overflow.{nearest-finite, nearest-is}
+use Rattle.ieee.specs.Overflow.{power-below, nearest-finite, nearest-is, nearest-negative}
+use Rattle.ieee.specs.Nearest.{nearest-number}
 
 -- its pattern is the sign alone
 abbrev pub minusZero : Format → Float
@@ -174,3 +175,26 @@ add-cancels f x y X Y s h = by (negative x && negative y) refl
     by : (z : Bool) → (negative x && negative y) ≡ z → add f x y ≡ ofBits f 0
     by true e = absurd (h (add-minus f x y (X .fit) (Y .fit) .0 (is ∙ ap (λ (z : Bool). nearestFloat f z (pos 0)) e ∙ minus-nearest f)))
     by false e = is ∙ ap (λ (z : Bool). nearestFloat f z (pos 0)) e ∙ plus-nearest f
+
+-- +0 added to a number leaves it, but makes -0 to +0
+pub add-plus : {f : Format} {x : Float} → Number f x → add f x (ofBits f 0) ≡ nearestFloat f false (value f x)
+add-plus {f} {x} X = rw (← (plus-nearest f)) (add-nearest f x plus X number ∙ (λ i. nearestFloat f (sign i) (units i)))
+  where
+    plus : Float
+    plus = nearestFloat f false (pos 0)
+
+    small : 0 < limit f
+    small = omega (arith, power-below f {k = 0} (omega arith))
+
+    number : Number f plus
+    number = nearest-number f false (pos 0) small
+
+    none : (s : Bool) → (s && false) ≡ false
+    none true = refl
+    none false = refl
+
+    sign : (negative x && negative plus) ≡ false
+    sign = ap (λ (s : Bool). negative x && s) (nearest-negative f false (pos 0) small) ∙ none (negative x)
+
+    units : value f x +ℤ value f plus ≡ value f x
+    units = ap (λ (S : ℤ). value f x +ℤ S) (zero-value f false) ∙ +ℤ-idr (value f x)

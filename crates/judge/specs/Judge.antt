@@ -23,10 +23,14 @@ faultOf W p =
 abbrev pub faultFree : Width → ℕ → Bool
 faultFree W p = eqb (faultOf W p) 0
 
--- the lowest bad place with its own fault, places counted from k
+-- the lowest bad place with its own fault, places counted from k, where a member's fault is a refusal's number, or 0 for none
+unfoldable pub firstBad : {A : Type 0} → (A → ℕ) → List A → ℕ → Verdict
+firstBad faults [] k = Good
+firstBad faults (x ∷ xs) k = cond (eqb (faults x) 0) (firstBad faults xs (k + 1)) (Refused (faults x) k)
+
 unfoldable pub firstFault : Width → List ℕ → ℕ → Verdict
-firstFault W [] k = Good
-firstFault W (p ∷ ps) k = cond (eqb (faultOf W p) 0) (firstFault W ps (k + 1)) (Refused (faultOf W p) k)
+unfolding firstBad
+firstFault W ps k = firstBad (faultOf W) ps k
 
 -- rule O1, with rules R1, R4 and R5: area and parts say whether the lent areas have the right lengths
 unfoldable pub judged : Width → Bool → Bool → List ℕ → Verdict

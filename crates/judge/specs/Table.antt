@@ -23,7 +23,22 @@ sizeOf W p = magnitude (W .format) (floatOf W p)
 abbrev pub most : Width → ℕ
 most W = sizeOf W (W .magnitude)
 
--- the places below n have no fault; no place has one
+-- ---- of members of any kind that may have a fault; d stands for what is past the end
+-- the places below n have none
+pub record CleanBy {A : Type 0} (faults : A → ℕ) (d : A) (xs : List A) (n : ℕ) : Type 0 where
+  pub none : (j : ℕ) → j < n → faults (getD xs j d) ≡ 0
+
+-- i is the lowest bad place, and k its fault; there is such a place
+pub record FirstBy {A : Type 0} (faults : A → ℕ) (d : A) (xs : List A) (k i : ℕ) : Type 0 where
+  pub inside : i < length xs
+  pub fault : faults (getD xs i d) ≡ k
+  pub bad : k ≡ 0 → ⊥
+  pub before : CleanBy faults d xs i
+
+abbrev pub FaultyBy : {A : Type 0} → (A → ℕ) → A → List A → Type 0
+FaultyBy faults d xs = (k : ℕ) × (i : ℕ) × FirstBy faults d xs k i
+
+-- ---- of patterns: the places below n have no fault; no place has one
 pub record Clean (W : Width) (ps : List ℕ) (n : ℕ) : Type 0 where
   pub none : (j : ℕ) → j < n → faultOf W (getD ps j 0) ≡ 0
 

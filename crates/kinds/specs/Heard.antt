@@ -36,16 +36,16 @@ pub data Heard : Type 0 where
   -- of a rescue: the bytes written, the entries taken, the entries missing, the bytes lying over
   rescued : ℕ → ℕ → ℕ → ℕ → Heard
 
--- rule A5: 2, 3, 14 and 19 tell a place
+-- rule A5: 2, 3, 14, 19 and 23 tell a place
 abbrev pub tells : ℕ → Bool
-tells k = ((eqb k 2 || eqb k 3) || eqb k 14) || eqb k 19
+tells k = (((eqb k 2 || eqb k 3) || eqb k 14) || eqb k 19) || eqb k 23
 
 -- a number that tells none is given with place 0; a place beside such a number would be heard, so that none can hide
 abbrev pub placeOf : ℕ → ℕ → Place
 placeOf k zero = cond (tells k) (at 0) nowhere
 placeOf k (suc p) = at (suc p)
 
--- the table's column "Tells": the place for 2, 3, 14 and 19, and nothing more for any other number
+-- the table's column "Tells": the place for 2, 3, 14, 19 and 23, and nothing more for any other number
 abbrev pub told : ℕ → ℕ → Place
 told k i = cond (tells k) (at i) nowhere
 

@@ -133,13 +133,13 @@ impl State {
     }
 }
 
-// ---- answers. A refusal holds its number (rules R1 to R21) and the place, 0 where none is told.
+// ---- answers. A refusal holds its number (rules R1 to R23) and the place, 0 where none is told.
 
-// Rule A5: whether a refusal with this number tells a place: 2, 3, 14 and 19 do.
+// Rule A5: whether a refusal with this number tells a place: 2, 3, 14, 19 and 23 do.
 pub fn tells(number: u32) -> bool
     ensures { λ r. ⌜ r ≡ tells number ⌝ }
 {
-    (number == 2) | (number == 3) | (number == 14) | (number == 19)
+    (number == 2) | (number == 3) | (number == 14) | (number == 19) | (number == 23)
 }
 
 // of a list: whether it is allowed

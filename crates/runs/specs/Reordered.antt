@@ -87,8 +87,8 @@ module _ {W : Width} (F : Fitting W) {ps : List ℕ} {x : Float} {k : ℕ} {xs :
     same : P .sum ≡ x
     same = let m : Done (P .sum) (P .rounds) ≡ Done x k = sym (P .answer) ∙ ap answerOf (U .is) in cc
 
-    faithful : FaithfulTo (W .format) (sumOf (W .format) ps) x
-    faithful = rw same at (P .faithful)
+    pub summed-faithful : FaithfulTo (W .format) (sumOf (W .format) ps) x
+    summed-faithful = rw same at (P .faithful)
 
     sign : value (W .format) x ≡ pos 0 → negative x ≡ zeroSign W ps
     sign z = rw (← same) (P .zero (sym (value-mag (W .format) (P .sum)) ∙ ap (λ (y : Float). natAbs (value (W .format) y)) same ∙ ap natAbs z))
@@ -101,20 +101,20 @@ module _ {W : Width} (F : Fitting W) {ps : List ℕ} {x : Float} {k : ℕ} {xs :
 module _ {W : Width} (F : Fitting W) {ps qs : List ℕ} (π : Perm ps qs) {x y : Float} {j k : ℕ} {xs ys : List Float}
     (s : Summed W ps x j xs) (t : Summed W qs y k ys) where
   faithful-y : FaithfulTo (W .format) (sumOf (W .format) ps) y
-  faithful-y = rw (sum-of-reordered π W) (faithful F t)
+  faithful-y = rw (sum-of-reordered π W) (summed-faithful F t)
 
   signs : value (W .format) x ≡ pos 0 → value (W .format) y ≡ pos 0 → negative x ≡ negative y
   signs a b = sign F s a ∙ zero-sign-reordered π W ∙ sym (sign F t b)
 
   pub summed-reordered : EqualOrNeighbouring (W .format) x y
-  summed-reordered = two-faithful (faithful F s) faithful-y signs
+  summed-reordered = two-faithful (summed-faithful F s) faithful-y signs
 
   -- where S is a number of the format, zero say, they are one float
   pub summed-exact : (z : Float) → Number (W .format) z → value (W .format) z ≡ sumOf (W .format) ps → x ≡ y
   summed-exact z Z e =
-      let a = faithful F s .exact z Z e in
+      let a = summed-faithful F s .exact z Z e in
       let b = faithful-y .exact z Z e in
-      same-float (faithful F s .number) (faithful-y .number) (a ∙ sym b) (λ o. signs o (b ∙ sym a ∙ o))
+      same-float (summed-faithful F s .number) (faithful-y .number) (a ∙ sym b) (λ o. signs o (b ∙ sym a ∙ o))
 
   -- as many rounds, and the same remainders in their order
   pub summed-rounds : (j ≡ k) × Perm xs ys

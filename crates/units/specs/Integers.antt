@@ -38,10 +38,10 @@ plus (pos m) (negsuc n) = omega (arith, int-is (record { up = m; dn = suc n }))
 plus (negsuc m) (pos n) = omega (arith, int-is (record { up = n; dn = suc m }))
 plus (negsuc m) (negsuc n) = omega arith
 
-opposite : (S : ℤ) → difference (negℤ S) ≈ neg (difference S)
-opposite (pos zero) = omega arith
-opposite (pos (suc n)) = omega arith
-opposite (negsuc n) = omega arith
+pub neg-difference : (S : ℤ) → difference (negℤ S) ≈ neg (difference S)
+neg-difference (pos zero) = omega arith
+neg-difference (pos (suc n)) = omega arith
+neg-difference (negsuc n) = omega arith
 
 pub mag-difference : (S : ℤ) → mag (difference S) ≡ natAbs S
 mag-difference (pos n) = omega arith
@@ -61,7 +61,7 @@ lt (negsuc m) (negsuc n) = (λ h. record { lt = lt→ltb n m (omega arith) }, λ
 
 -- ---- and the other way
 pub int-neg : (a : Whole) → int (neg a) ≡ negℤ (int a)
-int-neg a = int-only (neg a) (negℤ (int a)) (omega (arith, int-is a, opposite (int a)))
+int-neg a = int-only (neg a) (negℤ (int a)) (omega (arith, int-is a, neg-difference (int a)))
 
 pub int-mag : (a : Whole) → natAbs (int a) ≡ mag a
 int-mag a = omega (arith, mag-difference (int a), int-is a)
@@ -77,7 +77,7 @@ module _ (a b : Whole) where
   int-plus = int-only (a ⊕ b) (int a +ℤ int b) (omega (arith, int-is a, int-is b, plus (int a) (int b)))
 
   pub int-minus : int (a ⊖ b) ≡ int a -ℤ int b
-  int-minus = int-only (a ⊖ b) (int a -ℤ int b) (omega (arith, int-is a, int-is b, opposite (int b), plus (int a) (negℤ (int b))))
+  int-minus = int-only (a ⊖ b) (int a -ℤ int b) (omega (arith, int-is a, int-is b, neg-difference (int b), plus (int a) (negℤ (int b))))
 
   pub int-le : a ≼ b ↔ int a ≤ℤ int b
   int-le = (λ h. le (int a) (int b) .0 (omega (arith, int-is a, int-is b)), λ h. omega (arith, int-is a, int-is b, le (int a) (int b) .1 h))

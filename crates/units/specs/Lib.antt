@@ -23,3 +23,7 @@ pub mod WalkLaws
 pub mod Integers
 pub mod ExactSum
 pub mod AnyOrder
+pub mod Products
+pub mod ScaledSums
+pub mod Split
+pub mod TwoProduct

@@ -27,6 +27,11 @@ infixl 70 _⊗_
 abbrev pub _⊗_ : ℕ → Whole → Whole
 c ⊗ a = record { up = c * a .up; dn = c * a .dn }
 
+-- the product of two of them, (a - b)(c - d) = (a c + b d) - (a d + b c)
+infixl 70 _⊙_
+unfoldable pub _⊙_ : Whole → Whole → Whole
+a ⊙ b = record { up = a .up * b .up + a .dn * b .dn; dn = a .up * b .dn + a .dn * b .up }
+
 -- the same number; at most; less
 infix 50 _≈_ _≼_ _≺_
 abbrev pub _≈_ : Whole → Whole → Type 0

@@ -1,4 +1,4 @@
--- `calls::refusal` meets its contract: 2, 3, 14 and 19 tell a place, and no other number does. Assumes nothing.
+-- `calls::refusal` meets its contract: 2, 3, 14, 19 and 23 tell a place, and no other number does. Assumes nothing.
 use native.Mathlib.Nat.{add-zero}
 use mathlib.Core.Path.{sym, ap, _∙_}
 use Prim.Native.Nat.{ℕ, _+_}
