@@ -24,7 +24,7 @@ upperHalf f a = sub f (mul f (splitter f) a) (sub f (mul f (splitter f) a) a)
 unfoldable pub lowerHalf : Format → Float → Float
 lowerHalf f a = sub f a (upperHalf f a)
 
--- ---- Algorithm 1.1, TwoProduct: x = a * b, and y = a2 * b2 - (((x - a1 * b1) - a2 * b1) - a1 * b2)
+-- ---- Algorithm 1.1, TwoProduct: the error of a rounded product, as its second line has it: the lower halves' product less what the other three leave of x
 unfoldable pub productError : Format → Float → Float → Float
 productError f a b =
     let a₁ = upperHalf f a in

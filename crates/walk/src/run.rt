@@ -19,7 +19,8 @@ pub fn run(first: State, work: &mut [f64]) -> Step
     requires { ⌜ Running doubles doubles-fit (first .n) first (now work) ⌝ }
     ensures { λ r. ⌜
         outcome r (now (work .exit))
-        ≡ roundsFrom doubles (blocksOf doubles (first .n)) (suc (doubles .rounds) - first .rounds) (outcome (More first (plusZero binary64)) (now (work .entry)))
+        ≡ roundsFrom doubles (blocksOf doubles (first .n)) (suc (doubles .rounds) - first .rounds)
+        (outcome (More first (plusZero binary64)) (now (work .entry)))
         ⌝ }
 {
     let mut s = first;
