@@ -4,6 +4,7 @@ pub mod Limits
 pub mod Settle
 pub mod Table
 pub mod SettleTable
+pub mod Runs
 pub mod SumLaws
 pub mod SettleLaws
 pub mod RoomLaws
@@ -13,3 +14,10 @@ pub mod Three
 pub mod LayLaws
 pub mod SettledLaws
 pub mod LanesLaws
+pub mod ChangeLaws
+pub mod Neighbours
+pub mod LaneFarewell
+pub mod SettlingLaws
+pub mod RunLaws
+pub mod FirstForm
+pub mod Promise
