@@ -74,7 +74,7 @@ def lane_digits(chance):
             count = chance.randrange(CALLS)
             lanes = [chance.randint(-room(count), room(count)) for _ in range(LANES)]
             yield lanes_entered(ENTER[chance.choice([1, -1])], lanes_packed(lanes), count, pattern, chance.randbytes(SIZE))
-    for pattern, (_, call) in itertools.product((0, SIGN, UNIT, SIGN | UNIT), ENTER.items()):
+    for pattern, call in itertools.product((0, SIGN, UNIT, SIGN | UNIT), ENTER.values()):
         yield lanes_entered(call, bytes(SIZE * LANES), 0, pattern, chance.randbytes(SIZE))
 
 

@@ -49,16 +49,16 @@ rowRefused (withdraw zs n p) k = row (withdraw zs n p) (is (refused k nowhere) z
 rowRefused (settle zs n ws) k = row (settle zs n ws) (is (refused k nowhere) zs ws)
 
 -- ---- numbers, counts and lanes
-abbrev one : ℕ
+abbrev pub one : ℕ
 one = 0x3FF0000000000000
 
-abbrev nan : ℕ
+abbrev pub nan : ℕ
 nan = 0x7FF8000000000000
 
 abbrev aboveLimit : ℕ
 aboveLimit = 0x7E70000000000001
 
-abbrev full : ℕ
+abbrev pub full : ℕ
 full = 2 ^ 30
 
 -- what a lane holds at most after n calls
@@ -66,11 +66,11 @@ abbrev bound : ℕ → ℕ
 bound n = (n + 1) * 2 ^ 32
 
 -- 33 zeros, a lane, and 32 zeros: where 1 goes
-abbrev middle : ℤ → List ℤ
+abbrev pub middle : ℤ → List ℤ
 middle z = replicate 33 (pos 0) ++ z ∷ replicate 32 (pos 0)
 
 -- only the top lane, and a lowest one below it
-abbrev top : ℤ → ℤ → List ℤ
+abbrev pub top : ℤ → ℤ → List ℤ
 top low z = (low ∷ replicate 64 (pos 0)) ++ z ∷ []
 
 abbrev words : List ℕ
@@ -115,6 +115,10 @@ laneRows =
     ∷ rowRefused (settle (top (pos 0) (pos (2 ^ 31))) (full + 1) (replicate 34 7)) 4
     ∷ rowRefused (settle (top (pos 0) (pos (2 ^ 31))) (full + 1) words) 25
     ∷ rowRefused (settle (top (pos 0) (pos (2 ^ 31))) 0 words) 9
+    -- rule N10: the largest number, withdrawn, brings the sum back into range
+    ∷ row (withdraw (top (pos 0) (pos (2 ^ 31))) 0 0x7E70000000000000) (is (count 1) (replicate 64 (pos 0) ++ negℤ (pos (2 ^ 26)) ∷ pos (2 ^ 31) ∷ []) [])
+    ∷ row (settle (replicate 64 (pos 0) ++ negℤ (pos (2 ^ 26)) ∷ pos (2 ^ 31) ∷ []) 1 words)
+    (is (count 0) (replicate 64 (pos 0) ++ pos (2 ^ 32 - 2 ^ 26) ∷ pos (2 ^ 31 - 1) ∷ []) (replicate 32 0 ++ (2 ^ 63 - 2 ^ 26) ∷ []))
     -- ---- rule N5: carries of both signs, of which one goes through all lanes, and the top lane at both ends and beyond
     ∷ row (settle (pos (2 ^ 32) ∷ negsuc 0 ∷ pos (3 * 2 ^ 32 + 1) ∷ negsuc (2 ^ 32 - 1) ∷ replicate 62 (pos 0)) 5 words)
     (is (count 0) (pos 0 ∷ pos 0 ∷ pos 1 ∷ pos 3 ∷ replicate 61 (pos 0xFFFFFFFF) ++ negsuc 0 ∷ [])

@@ -11,43 +11,28 @@ use Rattle.ieee.specs.Units.{value, magnitude}
 use Rattle.judge.specs.Judge.{faultOf}
 use Rattle.lanes.specs.Lanes.{laneSum, digitsOf, plusLanes, roomy, lay, settled, noLanes}
 use Rattle.arrays.specs.Arrays.{returned}
+use Rattle.cases.specs.Lanes.{one, nan, full, middle, top}
 use Rattle.lane_calls.specs.LaneArrays.{laidReturned, addLanes, withdrawLanes, settleReturned, settleLanes}
 
-abbrev one : ℕ
-one = 0x3FF0000000000000
-
-abbrev nan : ℕ
-nan = 0x7FF8000000000000
-
--- the greatest count with which a number is taken, and the next
-abbrev nearlyFull : ℕ
-nearlyFull = 0x3FFFFFFF
-
-abbrev full : ℕ
-full = 0x40000000
-
--- lanes with one number among zeros
-abbrev alone : ℕ → ℤ → ℕ → List ℤ
-alone below z above = replicate below (pos 0) ++ z ∷ replicate above (pos 0)
-
 -- ---- 1 is 2^1074 units, so 2^18 in lane 33
-pub adds : addLanes noLanes 0 one (7 ∷ []) ≡ returned 0 (alone 33 (pos 0x40000) 32) (1 ∷ [])
+pub adds : addLanes noLanes 0 one (7 ∷ []) ≡ returned 0 (middle (pos 0x40000)) (1 ∷ [])
 unfolding laidReturned lay roomy every digitsOf plusLanes digits value faultOf ofBits
 adds = refl
 
 -- the last call that lanes take: below zero the digit is too
-pub withdraws : withdrawLanes noLanes nearlyFull one (7 ∷ []) ≡ returned 0 (alone 33 (negsuc 0x3FFFF) 32) (full ∷ [])
+pub withdraws : withdrawLanes noLanes 0x3FFFFFFF one (7 ∷ []) ≡ returned 0 (middle (negsuc 0x3FFFF)) (full ∷ [])
 unfolding laidReturned lay roomy every digitsOf plusLanes digits value faultOf ofBits
 withdraws = refl
 
 -- ---- settling: of -1 unit every lane but the top one is 2^32 - 1, and every word 2^64 - 1
-pub settles-below : settleLanes (alone 0 (negsuc 0) 65) 1 (replicate 33 7) (7 ∷ [])
+pub settles-below : settleLanes (top (negsuc 0) (pos 0)) 1 (replicate 33 7) (7 ∷ [])
     ≡ settleReturned 0 (replicate 65 (pos 0xFFFFFFFF) ++ negsuc 0 ∷ []) (replicate 33 0xFFFFFFFFFFFFFFFF) (0 ∷ [])
 unfolding settleLanes settled roomy every laneSum digits signed residue
 settles-below = refl
 
+-- one unit below the least
 abbrev belowLeast : List ℤ
-belowLeast = negsuc 0 ∷ replicate 64 (pos 0) ++ negsuc 0x7FFFFFFF ∷ []
+belowLeast = top (negsuc 0) (negsuc 0x7FFFFFFF)
 
 pub out-of-range : settleLanes belowLeast full (replicate 33 7) (7 ∷ []) ≡ settleReturned 9 belowLeast (replicate 33 7) (7 ∷ [])
 unfolding settleLanes settled roomy every laneSum

@@ -4,7 +4,7 @@ use mathlib.Core.Path.{_≡_, refl, sym, ap, _∙_}
 use mathlib.Core.List.{List, [], _∷_, _++_, map}
 use Prim.Native.Nat.{ℕ, _+_, _≤_, _<_}
 use native.Mathlib.Omega.{arith}
-use lib.IntN.{ℤ, negℤ, _+ℤ_, +ℤ-assoc, +ℤ-comm}
+use lib.IntN.{ℤ, negℤ, _+ℤ_, negℤ-negℤ, +ℤ-assoc, +ℤ-comm}
 use lib.ListN.{length, length-append}
 use Rattle.lists.specs.Each.{Each, each-join}
 use Rattle.kinds.specs.Heard.{count}
@@ -55,16 +55,20 @@ unfolding plusAll
 all-join zs [] ys = refl
 all-join zs (x ∷ xs) ys = all-join (plusLanes zs (digitsOf (changeOf x))) xs ys
 
--- ---- p joins after xs, leaves after ys, and ws follow
-gone : (zs : List ℤ) (xs ys ws : List Change) (p : ℕ) → plusAll zs (history xs ys ws p) ≡ plusAll zs (stayed xs ys ws)
+-- ---- a comes after xs, its opposite b after ys, and ws follow
+abbrev pub around : List Change → List Change → List Change → Change → Change → List Change
+around xs ys ws a b = xs ++ (a ∷ (ys ++ (b ∷ ws)))
+
+gone : (zs : List ℤ) (xs ys ws : List Change) (a b : Change) → negℤ (changeOf a) ≡ changeOf b
+    → plusAll zs (around xs ys ws a b) ≡ plusAll zs (stayed xs ys ws)
 unfolding plusAll
-gone zs xs ys ws p =
-    let u = unitsOf doubles p in
+gone zs xs ys ws a b o =
+    let u = changeOf a in
     let low = plusAll zs xs in
-    all-join zs xs (add p ∷ (ys ++ (withdraw p ∷ ws)))
-    ∙ all-join (plusLanes low (digitsOf u)) ys (withdraw p ∷ ws)
-    ∙ ap (λ (vs : List ℤ). plusAll (plusLanes vs (digitsOf (negℤ u))) ws) (all-swap low (digitsOf u) ys)
-    ∙ ap (λ (vs : List ℤ). plusAll vs ws) (plus-opposite (plusAll low ys) u)
+    all-join zs xs (a ∷ (ys ++ (b ∷ ws)))
+    ∙ all-join (plusLanes low (digitsOf u)) ys (b ∷ ws)
+    ∙ ap (λ (vs : List ℤ). plusAll (plusLanes vs (digitsOf (changeOf b))) ws) (all-swap low (digitsOf u) ys)
+    ∙ ap (λ (vs : List ℤ). plusAll vs ws) (rw (← o) (plus-opposite (plusAll low ys) u))
     ∙ sym (all-join low ys ws)
     ∙ sym (all-join zs xs (ys ++ ws))
 
@@ -113,16 +117,26 @@ each-parts : (xs ys : List Change) → Each Free (xs ++ ys) → Each Free xs × 
 each-parts [] ys E = (tt, E)
 each-parts (x ∷ xs) ys E = let p = each-parts xs ys (E .1) in ((E .0, p .0), p .1)
 
-stayed-counted : (r : LaneRegister) (xs ys ws : List Change) (p : ℕ) → AllCounted r (history xs ys ws p) → AllCounted r (stayed xs ys ws)
-stayed-counted r xs ys ws p A =
-    let E = each-parts xs (add p ∷ (ys ++ (withdraw p ∷ ws))) (all-free r (history xs ys ws p) A) in
-    let F = each-parts ys (withdraw p ∷ ws) (E .1 .1) in
-    let with-p : length (history xs ys ws p) ≡ length xs + (length ys + (length ws + 1) + 1) =
-    omega (arith, length-append xs (add p ∷ (ys ++ (withdraw p ∷ ws))), length-append ys (withdraw p ∷ ws)) in
-    let without-p : length (stayed xs ys ws) ≡ length xs + (length ys + length ws) = omega (arith, length-append xs (ys ++ ws), length-append ys ws) in
-    fewer-counted r (history xs ys ws p) (stayed xs ys ws) A (omega arith) (each-join Free xs (ys ++ ws) (E .0) (each-join Free ys ws (F .0) (F .1 .1)))
+stayed-counted : (r : LaneRegister) (xs ys ws : List Change) (a b : Change) → AllCounted r (around xs ys ws a b) → AllCounted r (stayed xs ys ws)
+stayed-counted r xs ys ws a b A =
+    let E = each-parts xs (a ∷ (ys ++ (b ∷ ws))) (all-free r (around xs ys ws a b) A) in
+    let F = each-parts ys (b ∷ ws) (E .1 .1) in
+    let with-both : length (around xs ys ws a b) ≡ length xs + (length ys + (length ws + 1) + 1) =
+    omega (arith, length-append xs (a ∷ (ys ++ (b ∷ ws))), length-append ys (b ∷ ws)) in
+    let without : length (stayed xs ys ws) ≡ length xs + (length ys + length ws) = omega (arith, length-append xs (ys ++ ws), length-append ys ws) in
+    fewer-counted r (around xs ys ws a b) (stayed xs ys ws) A (omega arith) (each-join Free xs (ys ++ ws) (E .0) (each-join Free ys ws (F .0) (F .1 .1)))
 
+leaves-nothing : (r : LaneRegister) (xs ys ws : List Change) (a b : Change) → negℤ (changeOf a) ≡ changeOf b → AllCounted r (around xs ys ws a b)
+    → laneRun r (map change (around xs ys ws a b)) .lanes ≡ laneRun r (map change (stayed xs ys ws)) .lanes
+leaves-nothing r xs ys ws a b o A =
+    run-lanes r (around xs ys ws a b) A ∙ gone (r .lanes) xs ys ws a b o ∙ sym (run-lanes r (stayed xs ys ws) (stayed-counted r xs ys ws a b A))
+
+-- p joins after xs and leaves after ys
 pub lane-farewell : (r : LaneRegister) (xs ys ws : List Change) (p : ℕ) → AllCounted r (history xs ys ws p)
     → laneRun r (map change (history xs ys ws p)) .lanes ≡ laneRun r (map change (stayed xs ys ws)) .lanes
-lane-farewell r xs ys ws p A =
-    run-lanes r (history xs ys ws p) A ∙ gone (r .lanes) xs ys ws p ∙ sym (run-lanes r (stayed xs ys ws) (stayed-counted r xs ys ws p A))
+lane-farewell r xs ys ws p = leaves-nothing r xs ys ws (add p) (withdraw p) refl
+
+-- or leaves first and comes back
+pub lane-return : (r : LaneRegister) (xs ys ws : List Change) (p : ℕ) → AllCounted r (around xs ys ws (withdraw p) (add p))
+    → laneRun r (map change (around xs ys ws (withdraw p) (add p))) .lanes ≡ laneRun r (map change (stayed xs ys ws)) .lanes
+lane-return r xs ys ws p = leaves-nothing r xs ys ws (withdraw p) (add p) (negℤ-negℤ (unitsOf doubles p))
