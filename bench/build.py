@@ -1,4 +1,4 @@
-"""Builds what bench/run times: the library's code for this machine, the walk in C by two compilers, and the driver.
+"""Builds what bench/run times: the library's code for this machine, the crate `timed`, the walk in C by two compilers, and the driver.
 
 On x86-64 the library is the archive that `rt staticlib` makes. The kit compiles for x86-64 only; on another machine tests/archive.py has its LLVM modules
 compiled by another back end, and the table says so."""
@@ -10,6 +10,7 @@ import sys
 HERE = os.path.dirname(os.path.abspath(__file__))
 ROOT = os.path.dirname(HERE)
 sys.path.insert(0, os.path.join(ROOT, "tests"))
+import archive  # noqa: E402
 import built  # noqa: E402
 import command  # noqa: E402
 import kit  # noqa: E402
@@ -18,6 +19,9 @@ PLACE = os.path.join(ROOT, "target", "bench")
 DRIVER = os.path.join(PLACE, "driver")
 C = ["-std=gnu11", "-O3", "-ffp-contract=off", "-Wall", "-Wextra", "-Werror"]
 PACKAGES = ["gcc", "libc6-dev", "libmpfr-dev"]
+TIMED = ["timed"]  # the crate of what no call hands out
+OWN = built.Made("target/bench/libtimed.a", lambda: TIMED, "staticlib timed", lambda path: archive.kits(path, TIMED))
+NATIVE = built.Made("target/bench/native/libtimed.a", lambda: TIMED, "staticlib timed", lambda path: archive.natives(path, TIMED), OWN)
 
 
 def run(words, **more):
@@ -52,10 +56,10 @@ def packages():
 
 
 # ---- the library
-def library():
-    """The archive for this machine, which is proved and built where it isn't of the sources."""
+def libraries():
+    """The archives for this machine, which are proved and built where they aren't of the sources."""
     try:
-        return built.need(built.ARCHIVE if kit.machine() == "x86_64" else built.NATIVE)
+        return [built.need(made) for made in ((built.ARCHIVE, OWN) if kit.machine() == "x86_64" else (built.NATIVE, NATIVE))]
     except command.Trouble as trouble:
         sys.exit(f"bench: {trouble}")
 
@@ -73,7 +77,7 @@ def driver():
     own = ["-isystem", os.path.join(ROOT, "tests", "host"), f"--target={kit.machine()}-unknown-linux-gnu", "-fPIC"]
     objects = [c_object("gcc", "main"), c_object("gcc", "sums"), c_object("gcc", "walk", "-DCOMPILER=gcc")]
     objects += [c_object(kit.clang(), "walk", "-DCOMPILER=clang", *own)]
-    run(["gcc", *objects, library(), "-lmpfr", "-lgmp", "-o", DRIVER])
+    run(["gcc", *objects, *libraries(), "-lmpfr", "-lgmp", "-o", DRIVER])
 
 
 def versions():

@@ -121,6 +121,22 @@ static const char *walk_differs(walk_in_c *walk, const struct list *l)
     return memcmp(library.work, work, sizeof work) ? "a walk's remainder" : NULL;
 }
 
+/* Lanes by the public addition and by the inner one, lane by lane, and the words of both against the register in bytes. */
+static const char *lanes_differ(const struct list *l)
+{
+    int64_t called[LANES];
+    if (lane_additions(l) != 0.0)
+        return "an addition to lanes";
+    memcpy(called, lanes, sizeof lanes);
+    memset(words, 0xA5, sizeof words);
+    if (settling(l) != 0.0 || memcmp(words, bytes, sizeof bytes))
+        return "a settling";
+    if (inner_additions(l) != 0.0 || memcmp(lanes, called, sizeof lanes))
+        return "an inner addition to lanes";
+    memset(words, 0xA5, sizeof words);
+    return settling(l) != 0.0 || memcmp(words, bytes, sizeof bytes) ? "a settling after inner additions" : NULL;
+}
+
 static const char *differs(const struct list *l)
 {
     walk_in_c *walks[] = {gcc_plain, clang_plain, gcc_merged, clang_merged};
@@ -146,7 +162,7 @@ static const char *differs(const struct list *l)
         return "a nearest sum";
     if (additions(l) != 0.0 || additions_call(l) != 0.0 || memcmp(words, bytes, sizeof bytes))
         return "a register";
-    return NULL;
+    return lanes_differ(l);
 }
 
 static void check(const struct list *lists, size_t count)

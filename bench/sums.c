@@ -4,6 +4,8 @@
 double work[LENGTH];
 uint64_t values[STATE], words[WORDS];
 uint8_t bytes[8 * WORDS];
+int64_t lanes[LANES];
+uint64_t taken;
 uint32_t told[3];
 mpfr_t result;
 
@@ -92,6 +94,32 @@ double additions_call(const struct list *l)
     return said;
 }
 
+/* n additions to empty lanes */
+double lane_additions(const struct list *l)
+{
+    uint32_t said = 0;
+    taken = 0;
+    memset(lanes, 0, sizeof lanes);
+    for (size_t i = 0; i < l->n; i++)
+        said |= kewohiata_lanes_add(lanes, LANES, taken, l->patterns[i], &taken, 1);
+    return said;
+}
+
+/* the same by the inner addition, of the crate `timed`: one public addition, of 0, comes before */
+double inner_additions(const struct list *l)
+{
+    taken = l->n + 1;
+    memset(lanes, 0, sizeof lanes);
+    return timed_lanes(l->patterns, l->n, lanes, LANES);
+}
+
+/* of the lanes that the last call left: what they hold makes no difference to the time */
+double settling(const struct list *l)
+{
+    (void)l;
+    return kewohiata_lanes_settle(lanes, LANES, taken, words, WORDS, &taken, 1);
+}
+
 /* of numbers that were converted before */
 double mpfr(const struct list *l)
 {
@@ -107,6 +135,6 @@ double mpfr_converted(const struct list *l)
 }
 
 double (*const sums[SUMS])(const struct list *) = {
-    naive,         walk_gcc, walk_clang,   merged_gcc, merged_clang,   undivided, opening, by_blocks,
-    faithful_call, nearest,  nearest_call, additions,  additions_call, mpfr,      mpfr_converted,
+    naive,        walk_gcc,  walk_clang,     merged_gcc,     merged_clang,    undivided, opening, by_blocks,      faithful_call, nearest,
+    nearest_call, additions, additions_call, lane_additions, inner_additions, settling,  mpfr,    mpfr_converted,
 };

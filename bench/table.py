@@ -23,6 +23,9 @@ SUMS = (
     ("bytes, nearest", "`kewohiata_nearest`, with the same copy and its clearing"),
     ("register", "n calls of `kewohiata_words_add` on 33 words"),
     ("bytes, register", "n calls of `kewohiata_register_add` on 264 bytes"),
+    ("lanes", "n calls of `kewohiata_lanes_add` on 66 lanes, each of which looks at all of them"),
+    ("lanes, inner", "n calls of `lanes::inner::add`, which looks at three lanes alone; the judgement of the list and one public addition are in its time"),
+    ("settling", "one call of `kewohiata_lanes_settle`, whatever n is"),
     ("mpfr_sum", "MPFR's exact sum rounded to 53 bits, of numbers of 53 bits that were converted before"),
     ("mpfr_sum, converting", "the same with the conversion of the doubles"),
     ("math.fsum", "Python's, of a list of floats, in a process of its own"),
@@ -38,6 +41,9 @@ PAIRS = (
     ("nearest", "mpfr_sum, converting"),
     ("bytes, nearest", "mpfr_sum"),
     ("bytes, nearest", "mpfr_sum, converting"),
+    ("lanes", "register"),
+    ("lanes, inner", "register"),
+    ("settling", "register"),
 )
 
 

@@ -14,12 +14,12 @@
  * nearest, to keep subnormal results (no flush-to-zero) and to read subnormal operands as they are (no denormals-as-zero), and to trap no floating-point
  * exception; else they may return 0 with a wrong sum or product. A program that was linked with -Ofast or -ffast-math may start with both switched on: ask
  * kewohiata_environment once per thread, before the first of these calls. All other calls work on whole numbers, make doubles by their bits, and answer the
- * same in every environment: nearest, parts, grades, registers, weights, sheets.
+ * same in every environment: nearest, parts, grades, registers, lanes, weights, sheets.
  *
  * Outside the contract (rule C8), and nothing is promised of such a call: a null pointer (also with length 0), a length that isn't the array's, an array
- * that is not readable or not writable as its type says, an array of uint64_t or double that isn't aligned as its type is, two arrays of a call that
- * overlap (but for the two of a merge, and of a call on pairs, that are only read, which may be one), an array that something else writes to during the call,
- * and a call of the walk or on pairs in another floating-point environment than the one above.
+ * that is not readable or not writable as its type says, an array of uint64_t, int64_t or double that isn't aligned as its type is, two arrays of a call
+ * that overlap (but for the two of a merge, and of a call on pairs, that are only read, which may be one), an array that something else writes to during the
+ * call, and a call of the walk or on pairs in another floating-point environment than the one above.
  *
  * The calls keep no state between each other, allocate nothing and may run at the same time on different arrays. A call takes a time that grows as n, the
  * list's length, where nothing else stands beside it. */
@@ -35,10 +35,10 @@ extern "C" {
 #endif
 
 /* Below 1.0.0 calls may be added, and their forms and answers may still change; the second number tells it. */
-#define KEWOHIATA_VERSION "0.11.0"
-enum { KEWOHIATA_VERSION_MAJOR = 0, KEWOHIATA_VERSION_MINOR = 11, KEWOHIATA_VERSION_PATCH = 0 };
+#define KEWOHIATA_VERSION "0.12.0"
+enum { KEWOHIATA_VERSION_MAJOR = 0, KEWOHIATA_VERSION_MINOR = 12, KEWOHIATA_VERSION_PATCH = 0 };
 
-/* The refusals, rules R1 to R23. A code has room for numbers up to 31; those above 23 are kept for later ones. */
+/* The refusals, rules R1 to R25. A code has room for numbers up to 31; those above 25 are kept for later ones. */
 enum kewohiata_refusals {
     KEWOHIATA_ACCEPTED = 0,
     KEWOHIATA_TOO_MANY = 1,          /* more than 4,094 numbers, or more than 2,047 of pairs */
@@ -63,7 +63,9 @@ enum kewohiata_refusals {
     KEWOHIATA_CLAIM_NOT_FINITE = 20, /* the claim is a NaN or infinity */
     KEWOHIATA_OTHER_ENSEMBLE = 21,   /* the state is of another ensemble than the step names */
     KEWOHIATA_LENGTHS_DIFFER = 22,   /* two lists that should make pairs have different lengths */
-    KEWOHIATA_FACTOR_OUTSIDE = 23    /* a number of a pair that isn't zero, and of magnitude below 2^-400 or above 2^400; the pair's place is told */
+    KEWOHIATA_FACTOR_OUTSIDE = 23,   /* a number of a pair that isn't zero, and of magnitude below 2^-400 or above 2^400; the pair's place is told */
+    KEWOHIATA_TOO_MANY_CALLS = 24,   /* the lanes have taken 2^30 additions and withdrawals: they have to be settled first */
+    KEWOHIATA_NO_ROOM = 25           /* the count is above 2^30, or a lane holds more than so many calls could have left in it */
 };
 
 /* The lengths. */
@@ -74,11 +76,13 @@ enum kewohiata_lengths {
     KEWOHIATA_BLOCK = 64,               /* numbers of a block; a list's last may have fewer */
     KEWOHIATA_STATE = 10,               /* numbers of a state */
     KEWOHIATA_FAITHFUL = 2,             /* numbers that kewohiata_walk_faithful writes: pattern, rounds */
-    KEWOHIATA_VALUE = 1,                /* numbers of `out` where a call tells one: nearest, parts, grade, round, pairs_nearest, sheet_read, sheet_write */
+    KEWOHIATA_VALUE = 1,                /* numbers of `out` where a call tells one: nearest, parts, grade, round, lanes, pairs_nearest, sheet_read, sheet_write */
     KEWOHIATA_REPORT = 4,               /* numbers that kewohiata_sheet_rescue reports */
     KEWOHIATA_SUM_BYTES = 16,           /* bytes of a sum of the calls on bytes */
     KEWOHIATA_WORDS = 33,               /* words of a register */
     KEWOHIATA_REGISTER_BYTES = 264,     /* the same in bytes */
+    KEWOHIATA_LANES = 66,               /* lanes of a register that carries later */
+    KEWOHIATA_CALLS_MOST = 1073741824,  /* additions and withdrawals that lanes take before they are settled, at most: 2^30 */
     KEWOHIATA_PARTS_MOST = 8,           /* parts of a sum, at most */
     KEWOHIATA_ROUNDS_MOST = 51,         /* rounds of a walk, at most */
     KEWOHIATA_SHEET_HEADER = 5,         /* bytes of a sheet before its numbers, of 8 bytes each */
@@ -235,6 +239,24 @@ uint32_t kewohiata_words_merge(const uint64_t *a, size_t a_length, const uint64_
 
 /* The double nearest to a register (rule G4), at a tie the one with the even significand; zero gives +0. out: 1 number, its pattern. Refusals: 4; 10. */
 uint32_t kewohiata_words_round(const uint64_t *words, size_t words_length, uint64_t *out, size_t out_length);
+
+/* ---- a register that carries later (rules N1 to N5): 66 lanes, the lowest first, each a signed number that stands for 32 bits of the same whole number of
+ * units; 66 zeros are the empty one. The carries stay in the lanes until they are settled. The caller keeps how many additions and withdrawals the lanes have
+ * taken since then, and hands that count to each call: 0 to 2^30. lanes: 66 numbers. out: 1 number, the count for the next call. */
+
+/* Adds one number to lanes, or takes it out (rules N3 and N6): at most three lanes change, and nothing ripples. But every lane is looked at first, whether it
+ * has room: the time is that of 66 lanes, and an addition to words is usually the quicker call. Lanes that calls have left, handed in with the count that the
+ * last one told, have room.
+ * out: count + 1. Refusals: 4; 25; 2 or 3 with place 0; 24. */
+uint32_t kewohiata_lanes_add(int64_t *lanes, size_t lanes_length, uint64_t count, uint64_t pattern, uint64_t *out, size_t out_length);
+uint32_t kewohiata_lanes_withdraw(int64_t *lanes, size_t lanes_length, uint64_t count, uint64_t pattern, uint64_t *out, size_t out_length);
+
+/* Settles lanes (rules N5 and N7 to N9): `words` becomes the register of the lanes' whole number, and each lane is from 0 to 2^32 - 1, the top one from -2^31
+ * to 2^31 - 1. The whole number stays as it is. After at most 2^30 additions and withdrawals of allowed numbers from zeros, `words` is what
+ * kewohiata_words_add and kewohiata_words_withdraw make of a register of zeros. Time: that of 66 lanes, four times.
+ * words: 33 words, all of which are written. out: 0, since the count starts afresh. Refusals: 4 for any of the three; 25; 9, after which the lanes still hold
+ * their number: withdrawals may bring it back into range, as long as the count is below 2^30; with the count 2^30 nothing does (rule N10). */
+uint32_t kewohiata_lanes_settle(int64_t *lanes, size_t lanes_length, uint64_t count, uint64_t *words, size_t words_length, uint64_t *out, size_t out_length);
 
 /* ---- weights: patterns of numbers from 0 to 1, each a whole multiple of 2^-30 and not -0, whose exact sum is 1 (rules V1 and V2) */
 

@@ -46,7 +46,7 @@ ENVIRONMENTS = {
     "both, upward": USUAL | UP | FLUSH | ZEROED,
 }
 GOOD = {"as usual", "with flags raised"}
-ENVIRONMENT, NEAREST, ADD, WITHDRAW, FAITHFUL, LIST_NEAREST, WORDS_ROUND, PARTS, WALK, READ, HAND_ON, WRITE, MERGE, GRADE, STEP, RESCUE, PAIRED = range(17)
+ENVIRONMENT, NEAREST, ADD, WITHDRAW, FAITHFUL, LIST_NEAREST, WORDS_ROUND, PARTS, WALK, READ, HAND_ON, WRITE, MERGE, GRADE, STEP, RESCUE, PAIRED, LANED = range(18)
 
 TINY = [exact.ONE, 0x36EB6, exact.ONE | exact.SIGN]
 LISTS = 150
@@ -57,11 +57,12 @@ NAMES = {
     "TOO_MANY": 1, "NOT_FINITE": 2, "TOO_LARGE": 3, "WRONG_LENGTH": 4, "WRONG_PARTS": 5, "NO_SUCH_BLOCK": 6, "BLOCK_NOT_PENDING": 7, "UNSOUND_NUMBERS": 8,
     "REGISTER_FULL": 9, "NO_FINITE_DOUBLE": 10, "SHEET_TOO_SHORT": 11, "OTHER_VERSION": 12, "SHEET_TOO_LONG": 13, "NOT_A_WEIGHT": 14,
     "WRONG_TOTAL": 15, "NO_SUCH_CLOCK": 16, "NO_OTHER_WEIGHT": 17, "UNSOUND_SET": 18, "UNSOUND_WORK": 19, "CLAIM_NOT_FINITE": 20,
-    "OTHER_ENSEMBLE": 21, "LENGTHS_DIFFER": 22, "FACTOR_OUTSIDE": 23, "GRADE_EXACT": 0, "GRADE_NEAREST": 1, "GRADE_FAITHFUL": 2, "GRADE_WRONG": 3, "LIST_MOST": 4094,
-    "LIST_BYTES_MOST": 32752, "PAIRS_MOST": 2047, "BLOCK": 64, "STATE": 10, "FAITHFUL": 2, "VALUE": 1, "SUM_BYTES": 16, "WORDS": 33, "REGISTER_BYTES": 264, "PARTS_MOST": 8,
+    "OTHER_ENSEMBLE": 21, "LENGTHS_DIFFER": 22, "FACTOR_OUTSIDE": 23, "TOO_MANY_CALLS": 24, "NO_ROOM": 25, "LANES": 66, "CALLS_MOST": 2**30,
+    "GRADE_EXACT": 0, "GRADE_NEAREST": 1, "GRADE_FAITHFUL": 2, "GRADE_WRONG": 3, "LIST_MOST": 4094, "LIST_BYTES_MOST": 32752, "PAIRS_MOST": 2047,
+    "BLOCK": 64, "STATE": 10, "FAITHFUL": 2, "VALUE": 1, "SUM_BYTES": 16, "WORDS": 33, "REGISTER_BYTES": 264, "PARTS_MOST": 8,
     "ROUNDS_MOST": 51, "SHEET_HEADER": 5, "SHEET_BYTES_MOST": 32757, "ACCEPTED": 0, "MORE": 1, "DONE": 2, "STATE_KIND": 0, "STATE_SIGMA": 1, "STATE_T": 2,
     "STATE_TAU": 3, "STATE_N": 4, "STATE_PENDING": 5, "STATE_ROUNDS": 6, "STATE_ENSEMBLE": 7, "STATE_LARGEST": 8, "STATE_TOLD": 9, "DONE_SUM": 1,
-    "DONE_ROUNDS": 2, "VERSION_MAJOR": 0, "VERSION_MINOR": 11, "VERSION_PATCH": 0, "REPORT": 4, "REPORT_WRITTEN": 0, "REPORT_TAKEN": 1, "REPORT_MISSING": 2,
+    "DONE_ROUNDS": 2, "VERSION_MAJOR": 0, "VERSION_MINOR": 12, "VERSION_PATCH": 0, "REPORT": 4, "REPORT_WRITTEN": 0, "REPORT_TAKEN": 1, "REPORT_MISSING": 2,
     "REPORT_OVER": 3, "MARK_KEPT": 0, "MARK_NOT_FINITE": 1, "MARK_TOO_LARGE": 2,
 }  # fmt: skip
 
@@ -175,6 +176,11 @@ def wanted(call, numbers):
         return farewell.hand_on(WEIGHTS, len(numbers) % 5, 5)
     if call == GRADE:
         return [exact.nearest_sum(numbers), grades.grade(numbers, exact.nearest_sum(numbers))]
+    if call == LANED:
+        register = whole(numbers[::2], 1)
+        for pattern in numbers[1::2]:
+            register.enter(pattern, -1)
+        return register.words
     if call == READ:
         return (numbers + [0] * 32)[:32] + [len(numbers)]
     if call == WRITE:
@@ -190,7 +196,7 @@ def wanted(call, numbers):
 
 def check_calls(name, program, prefix, some):
     """The calls on whole numbers answer the same everywhere; the walk's are counted where they are wrong."""
-    calls = [NEAREST, ADD, WITHDRAW] + [LIST_NEAREST, WORDS_ROUND, PARTS, READ, HAND_ON, WRITE, MERGE, GRADE, RESCUE]
+    calls = [NEAREST, ADD, WITHDRAW] + [LIST_NEAREST, WORDS_ROUND, PARTS, READ, HAND_ON, WRITE, MERGE, GRADE, RESCUE, LANED]
     right = {(call, k): wanted(call, numbers) for call in calls for k, numbers in enumerate(some)}
     for what, control in ENVIRONMENTS.items():
         asked = [(call, k) for call in calls for k in range(len(some))]

@@ -1,4 +1,5 @@
-"""The nearest sum, the parts and the register in exact integers, written from the scope alone: they know nothing of the library's code.
+"""The nearest sum, the parts and the register, also the one that carries later, in exact integers, written from the scope alone: they know nothing of the
+library's code.
 
 Calls take and give patterns. Inside, a number is its whole units of 2^-1074. A refusal is raised.
 """
@@ -6,6 +7,7 @@ LENGTH, MAGNITUDE, PARTS, WORDS = 4094, 0x7E70000000000000, 8, 33
 SIGN, INFINITY, ONE, UNIT = 1 << 63, 0x7FF << 52, 0x3FF << 52, 1
 NAN = 0x7FF8000000000000  # what each NaN is shown as
 BITS, ONES = 64 * WORDS, 2**64 - 1
+LANES, CALLS = 66, 2**30
 
 
 class Refused(Exception):
@@ -110,3 +112,43 @@ class Register:
         if abs(self.whole()) >= 2**2098 - 2**2044:
             raise Refused(10, 0)
         return nearest(self.whole())
+
+
+class Lanes:
+    """Lanes of 32 bits each, least significant first, and how many additions and withdrawals they have taken since they were settled."""
+
+    def __init__(self, lanes, count):
+        self.lanes, self.count = list(lanes), count
+
+    def whole(self):
+        return sum(lane << 32 * i for i, lane in enumerate(self.lanes))
+
+    def look(self):
+        if len(self.lanes) != LANES:
+            raise Refused(4, 0)
+        if self.count > CALLS or any(abs(lane) > (self.count + 1) << 32 for lane in self.lanes):
+            raise Refused(25, 0)
+
+    def enter(self, pattern, sign):
+        """Addition (sign 1) and withdrawal (sign -1)."""
+        self.look()
+        if fault(pattern):
+            raise Refused(fault(pattern), 0)
+        if self.count == CALLS:
+            raise Refused(24, 0)
+        number = sign * units(pattern)
+        one, rest = (1 if number > 0 else -1), abs(number)
+        for i in range(LANES):
+            self.lanes[i] += one * (rest >> 32 * i & 2**32 - 1)
+        self.count += 1
+
+    def settle(self, words):
+        """The words, and the lanes in two's complement with a sign in the top one."""
+        if len(words) != WORDS:
+            raise Refused(4, 0)
+        self.look()
+        register = Register(words)
+        register.become(self.whole())
+        digits = [word >> shift & 2**32 - 1 for word in register.words for shift in (0, 32)]
+        self.lanes, self.count = digits[:-1] + [digits[-1] - (digits[-1] >> 31 << 32)], 0
+        return register.words

@@ -36,15 +36,17 @@ import ensembles  # noqa: E402
 import farewells  # noqa: E402
 import fixed  # noqa: E402
 import kit  # noqa: E402
+import lanes  # noqa: E402
 import merges  # noqa: E402
 import products  # noqa: E402
 import remainders  # noqa: E402
 import rescues  # noqa: E402
+import settlings  # noqa: E402
 import shuffles  # noqa: E402
 import writings  # noqa: E402
 
 PLACE = os.path.join(ROOT, "target", "host")
-OTHERS = claims, ensembles, farewells, merges, products, remainders, rescues, shuffles, writings
+OTHERS = claims, ensembles, farewells, lanes, merges, products, remainders, rescues, settlings, shuffles, writings
 FIXED = fixed.GROUPS + [group for other in OTHERS for group in other.FIXED]
 DRAWN = drawn.GROUPS + [group for other in OTHERS for group in other.DRAWN]
 LISTS = 20000
@@ -75,6 +77,9 @@ REFUSALS = {
     "kewohiata_sheet_rescue": {0, 1, 4, 11, 12},
     "kewohiata_pairs_products": {0, 1, 2, 4, 22, 23},
     "kewohiata_pairs_nearest": {0, 1, 2, 4, 22, 23},
+    "kewohiata_lanes_add": {0, 2, 3, 4, 24, 25},
+    "kewohiata_lanes_withdraw": {0, 2, 3, 4, 24, 25},
+    "kewohiata_lanes_settle": {0, 4, 9, 25},
 }
 
 

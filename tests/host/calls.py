@@ -16,7 +16,7 @@ import walk
 import weighted
 from exact import INFINITY, NAN, SIGN, Refused
 
-# the calls in the order of the driver's numbers, and of what their arrays are, in struct's letters: bytes, numbers of 64 bits, doubles
+# the calls in the order of the driver's numbers, and of what their arrays are, in struct's letters: bytes, numbers of 64 bits, the same with a sign, doubles
 CALLS = {
     "kewohiata_faithful": "BB",
     "kewohiata_nearest": "BB",
@@ -38,6 +38,9 @@ CALLS = {
     "kewohiata_sheet_rescue": "BBBQ",
     "kewohiata_pairs_products": "QQQ",
     "kewohiata_pairs_nearest": "QQQ",
+    "kewohiata_lanes_add": "qQ",
+    "kewohiata_lanes_withdraw": "qQ",
+    "kewohiata_lanes_settle": "qQQ",
 }
 NUMBERS = {call: number for number, call in enumerate(CALLS)}
 SIZE, SUM, REGISTER = 8, 16, 8 * exact.WORDS  # bytes of a number, of a sum in bytes, and of a register
@@ -47,11 +50,11 @@ REPORT = 4  # numbers of a rescue's report
 VALUES = {"kewohiata_walk_open": TEN, "kewohiata_walk_faithful": 2}  # numbers that a walk's call writes
 
 # Before and behind each array, where no call may write. Those of bytes begin at no multiple of 8.
-BESIDE = {"B": b"\xA5" * 9, "Q": b"\xA5" * 4 * SIZE, "d": b"\xA5" * 4 * SIZE}
+BESIDE = {"B": b"\xA5" * 9, "Q": b"\xA5" * 4 * SIZE, "q": b"\xA5" * 4 * SIZE, "d": b"\xA5" * 4 * SIZE}
 
 # What is asked (arrays and number), what must come back (code and arrays), and of a faithful sum where it stands (array, place in bytes) and the exact sum; of
-# an opening or a step the ensemble that it names.
-Request = collections.namedtuple("Request", "call arrays number code after sum ensemble", defaults=[0])
+# an opening or a step the ensemble that it names, and of a call on lanes the count that it is given.
+Request = collections.namedtuple("Request", "call arrays number code after sum ensemble count", defaults=[0, 0])
 
 
 # ---- numbers in bytes
@@ -61,6 +64,14 @@ def packed(numbers):
 
 def unpacked(data):
     return list(struct.unpack(f"<{len(data) // SIZE}Q", data))
+
+
+def lanes_packed(lanes):
+    return struct.pack(f"<{len(lanes)}q", *lanes)
+
+
+def lanes_unpacked(data):
+    return list(struct.unpack(f"<{len(data) // SIZE}q", data))
 
 
 def heard(number, place):
@@ -83,7 +94,8 @@ def wire(request):
     sizes, whole = [struct.calcsize(of) for of in CALLS[request.call]], laid(request.call, request.arrays)
     at = [len(BESIDE[of]) // size for of, size in zip(CALLS[request.call], sizes)]
     lengths = [len(array) // size for array, size in zip(request.arrays, sizes)]
-    head = [NUMBERS[request.call], request.number, request.ensemble, *padded(at), *padded(lengths), *padded(map(len, whole))]
+    numbers = [NUMBERS[request.call], request.number, request.ensemble, request.count]
+    head = [*numbers, *padded(at), *padded(lengths), *padded(map(len, whole))]
     return packed(head) + b"".join(whole)
 
 
@@ -153,7 +165,7 @@ def difference(request, answer):
 
 def shown(request):
     """The inputs, in full."""
-    lines = [f"  {request.call} number {request.number:016X}, ensemble {request.ensemble:08X}"]
+    lines = [f"  {request.call} number {request.number:016X}, ensemble {request.ensemble:08X}, count {request.count}"]
     return "\n".join(lines + [f"  array {k}, {len(array)} bytes: {array.hex().upper()}" for k, array in enumerate(request.arrays)])
 
 
@@ -306,6 +318,33 @@ def merged(one, other, out, twice=False):
         return [one, other, packed(register.words)], None
 
     return asked("kewohiata_words_merge", [one, other, out], model, int(twice))
+
+
+# ---- lanes
+def lanes_entered(call, data, count, pattern, out):
+    """An addition to lanes or a withdrawal: 4, 25, 2 or 3, 24."""
+    lanes = exact.Lanes(lanes_unpacked(data), count)
+
+    def model():
+        if len(out) != SIZE:
+            raise Refused(4, 0)
+        lanes.enter(pattern, 1 if call == "kewohiata_lanes_add" else -1)
+        return [lanes_packed(lanes.lanes), packed([lanes.count])], None
+
+    return asked(call, [data, out], model, pattern)._replace(count=count)
+
+
+def lanes_settled(data, count, words, out):
+    """4, 25, 9."""
+    lanes = exact.Lanes(lanes_unpacked(data), count)
+
+    def model():
+        if len(out) != SIZE:
+            raise Refused(4, 0)
+        after = lanes.settle(unpacked(words))
+        return [lanes_packed(lanes.lanes), packed(after), packed([lanes.count])], None
+
+    return asked("kewohiata_lanes_settle", [data, words, out], model)._replace(count=count)
 
 
 # ---- grades

@@ -1,22 +1,23 @@
 /* Takes calls on standard input and writes their answers, for tests/host.py.
 
-   A request is fifteen 64-bit numbers (which call, its number where it has one, the ensemble where it names one, and of up to four arrays at which element it
-   begins, how many elements are lent, and how many bytes follow for it) and then those bytes: each array with guards before and behind it. An answer is the
-   call's code in 64 bits and all of the bytes as they are afterwards: arrays that a call only reads, and the guards, too. There are no headers of a C library
-   here, and nothing but read and write is used of it. */
+   A request is sixteen 64-bit numbers (which call, its number where it has one, the ensemble where it names one, the count of calls that lanes have taken, and
+   of up to four arrays at which element it begins, how many elements are lent, and how many bytes follow for it) and then those bytes: each array with guards
+   before and behind it. An answer is the call's code in 64 bits and all of the bytes as they are afterwards: arrays that a call only reads, and the guards,
+   too. There are no headers of a C library here, and nothing but read and write is used of it. */
 #include "kewohiata.h"
 #include "pipe.h"
 
 enum { ARRAYS = 4, LIMIT = 1 << 18 };
 
 struct request {
-    uint64_t call, number, ensemble, at[ARRAYS], length[ARRAYS], size[ARRAYS];
+    uint64_t call, number, ensemble, count, at[ARRAYS], length[ARRAYS], size[ARRAYS];
 };
 
 /* An array is lent as what the call takes. */
 static union {
     uint8_t bytes[LIMIT];
     uint64_t numbers[LIMIT / sizeof(uint64_t)];
+    int64_t lanes[LIMIT / sizeof(int64_t)];
     double doubles[LIMIT / sizeof(double)];
 } arrays[ARRAYS];
 
@@ -45,6 +46,9 @@ static uint64_t call(const struct request *r)
     case 17: return kewohiata_sheet_rescue(LENT(0, bytes), LENT(1, bytes), LENT(2, bytes), LENT(3, numbers));
     case 18: return kewohiata_pairs_products(LENT(0, numbers), LENT(r->number ? 0 : 1, numbers), LENT(2, numbers)); /* or squares */
     case 19: return kewohiata_pairs_nearest(LENT(0, numbers), LENT(r->number ? 0 : 1, numbers), LENT(2, numbers));
+    case 20: return kewohiata_lanes_add(LENT(0, lanes), r->count, r->number, LENT(1, numbers));
+    case 21: return kewohiata_lanes_withdraw(LENT(0, lanes), r->count, r->number, LENT(1, numbers));
+    case 22: return kewohiata_lanes_settle(LENT(0, lanes), r->count, LENT(1, numbers), LENT(2, numbers));
     default: return UINT64_MAX;
     }
 }

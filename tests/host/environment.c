@@ -52,6 +52,17 @@ static uint32_t merged(size_t n)
     return code ? code : kewohiata_words_merge(rooms[0], KEWOHIATA_WORDS, rooms[1], KEWOHIATA_WORDS, values, KEWOHIATA_WORDS);
 }
 
+/* lanes that take the first number, give out the second, and so on, settled to 33 words */
+static uint32_t laned(size_t n)
+{
+    int64_t lanes[KEWOHIATA_LANES] = {0};
+    uint64_t count = 0;
+    uint32_t code = 0;
+    for (size_t i = 0; i < n && code == 0; i++)
+        code = (i % 2 ? kewohiata_lanes_withdraw : kewohiata_lanes_add)(lanes, KEWOHIATA_LANES, count, list[i], &count, KEWOHIATA_VALUE);
+    return code ? code : kewohiata_lanes_settle(lanes, KEWOHIATA_LANES, count, values, KEWOHIATA_WORDS, &count, KEWOHIATA_VALUE);
+}
+
 /* eight parts, and whether they add up */
 static uint32_t parted(size_t n)
 {
@@ -163,6 +174,7 @@ static uint32_t call(uint64_t which, size_t n)
     case 14: return stepped();
     case 15: return sheet_rescued(n);
     case 16: return paired(n);
+    case 17: return laned(n);
     default: return UINT32_MAX;
     }
 }

@@ -4,7 +4,7 @@ use kinds::SIGN;
 use words::ripple::add_at;
 use words::ripple::sub_at;
 
-mod place;
+pub mod place;
 
 ghost use mathlib.Core.Path.{_≡_};
 ghost use lib.Dec.{T};

@@ -1,4 +1,4 @@
-// Where a finite number lies in the register: its significand, shifted, is two adjacent words.
+// A finite number by its significand and its shift; and where it lies in the register: shifted, the significand is two adjacent words.
 ghost use mathlib.Core.Path.{_≡_};
 ghost use Prim.Native.Nat.{_+_, _*_, _^_, _<_};
 ghost use lib.Dec.{T};
@@ -7,9 +7,34 @@ ghost use lib.Ieee.Scale.{finite};
 ghost use Rattle.kinds.specs.Limits.{doubles};
 ghost use Rattle.lists.specs.Carry.{two};
 ghost use Rattle.words.specs.Words.{wordBits, wordCount};
-ghost use Rattle.addend.specs.Addend.{AtWord};
+ghost use Rattle.addend.specs.Addend.{AtWord, Scaled};
 use kinds::LEAST_NORMAL;
 use kinds::SIGN;
+
+pub struct Shift {
+    pub significand: u64,
+    pub by: u64,
+}
+
+// The magnitude of a finite number in units. A NaN or an infinity has none.
+pub fn scaled(p: u64) -> Shift
+    requires { ⌜ T (finite (ofBits (doubles .format) p)) ⌝ }
+    ensures { λ r. ⌜ Scaled (doubles .format) p (r .significand) (r .by) ⌝ }
+{
+    let magnitude = p % SIGN;
+    let field = magnitude / LEAST_NORMAL;
+    let digits = magnitude % LEAST_NORMAL;
+    if field == 0 {
+        return Shift {
+            significand: digits,
+            by: 0,
+        };
+    }
+    Shift {
+        significand: LEAST_NORMAL + digits,
+        by: field - 1,
+    }
+}
 
 pub struct Pair {
     pub word: usize,
@@ -30,16 +55,11 @@ pub fn shifted(m: u64, e: u64) -> Pair
     }
 }
 
-// The magnitude of a finite number in units. A NaN or an infinity has none.
+// The words of a finite number's magnitude. What is required is as above.
 pub fn place(p: u64) -> Pair
     requires { ⌜ T (finite (ofBits (doubles .format) p)) ⌝ }
     ensures { λ r. ⌜ AtWord p (r .word) (r .lo) (r .hi) ⌝ }
 {
-    let magnitude = p % SIGN;
-    let field = magnitude / LEAST_NORMAL;
-    let digits = magnitude % LEAST_NORMAL;
-    if field == 0 {
-        return shifted(digits, 0);
-    }
-    shifted(LEAST_NORMAL + digits, field - 1)
+    let number = scaled(p);
+    shifted(number.significand, number.by)
 }

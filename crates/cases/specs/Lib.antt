@@ -5,7 +5,9 @@ pub mod Bounds
 pub mod Faults
 pub mod PairRows
 pub mod Largest
+pub mod Lanes
 pub mod FromC
+pub mod LanesFromC
 pub mod BytesFromC
 pub mod Holds
 pub mod Example

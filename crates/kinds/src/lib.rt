@@ -133,7 +133,7 @@ impl State {
     }
 }
 
-// ---- answers. A refusal holds its number (rules R1 to R23) and the place, 0 where none is told.
+// ---- answers. A refusal holds its number (rules R1 to R25) and the place, 0 where none is told.
 
 // Rule A5: whether a refusal with this number tells a place: 2, 3, 14, 19 and 23 do.
 pub fn tells(number: u32) -> bool

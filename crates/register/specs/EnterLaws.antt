@@ -66,13 +66,12 @@ module _ (p : ℕ) (h : p < 2 ^ 64) where
   q : ℕ
   q = opposite (doubles .format) p
 
-  fault : faultOf doubles q ≡ faultOf doubles p
-  unfolding q
-  fault = fault-mod p q (opposite-mod (doubles .format) p h)
+  pub opposite-fault : faultOf doubles (opposite (doubles .format) p) ≡ faultOf doubles p
+  opposite-fault = fault-mod p (opposite (doubles .format) p) (opposite-mod (doubles .format) p h)
 
   pub withdrawn-added : (ws : List ℕ) → withdrawn ws p ≡ added ws (opposite (doubles .format) p)
   unfolding q
-  withdrawn-added ws = by-fault ws p q (wholeOf ws -ℤ unitsOf doubles p) fault ∙ elim (ℕ-discrete (faultOf doubles p) 0) [
+  withdrawn-added ws = by-fault ws p q (wholeOf ws -ℤ unitsOf doubles p) opposite-fault ∙ elim (ℕ-discrete (faultOf doubles p) 0) [
     | yes e ↦ ap (λ (u : ℤ). enter ws q (wholeOf ws +ℤ u)) (sym (opposite-units p h (fault-0 doubles p .0 e .0)))
-    | no e ↦ whatever ws q (wholeOf ws -ℤ unitsOf doubles p) (wholeOf ws +ℤ unitsOf doubles q) (λ k. e (sym fault ∙ k))
+    | no e ↦ whatever ws q (wholeOf ws -ℤ unitsOf doubles p) (wholeOf ws +ℤ unitsOf doubles q) (λ k. e (sym opposite-fault ∙ k))
   ]

@@ -6,10 +6,11 @@ use Prim.Native.Nat.{ℕ}
 use lib.IntN.{ℤ, negℤ, _+ℤ_}
 use lib.ListN.{length, replicate}
 use Rattle.lists.specs.Digits.{inside}
+use Rattle.lists.specs.Filter.{filter}
 use Rattle.kinds.specs.Limits.{doubles}
 use Rattle.kinds.specs.declared.Entry.{Entry}
 use Rattle.kinds.specs.declared.Entry.the-variants.{Entered, Refused}
-use Rattle.judge.specs.Judge.{faultOf}
+use Rattle.judge.specs.Judge.{faultOf, faultFree}
 use Rattle.words.specs.Words.{wordCount, registerBits, wholeOf, wordsOf}
 use Rattle.addend.specs.Addend.{unitsOf}
 use Rattle.register.specs.Register.{Changed, enter}
@@ -53,6 +54,15 @@ run ws (c ∷ cs) = run (changed ws c .area) cs
 unfoldable pub AllEntered : List ℕ → List Change → Type 0
 AllEntered ws [] = Unit {0}
 AllEntered ws (c ∷ cs) = (changed ws c .answer ≡ Entered) × AllEntered (changed ws c .area) cs
+
+-- none of the calls leaves the range
+unfoldable pub NeverOut : List ℕ → List Change → Type 0
+NeverOut ws [] = Unit {0}
+NeverOut ws (c ∷ cs) = (changed ws c .answer ≡ Refused 9 0 → ⊥) × NeverOut (changed ws c .area) cs
+
+-- how many of the calls are of allowed numbers: the others are refused whatever is held
+abbrev pub allowedIn : List Change → ℕ
+allowedIn cs = length (filter (λ (c : Change). faultFree doubles (patternOf c)) cs)
 
 abbrev pub zeros : List ℕ
 zeros = replicate wordCount 0

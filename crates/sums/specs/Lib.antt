@@ -13,3 +13,4 @@ pub mod AnswerNumbers
 pub mod Farewell
 pub mod Reordered
 pub mod Merged
+pub mod Settled

@@ -1,0 +1,4 @@
+-- A register that carries later, for C.
+pub mod LaneArrays
+pub mod LaneArraysLaws
+pub mod LaneCodes

@@ -1,0 +1,3 @@
+-- A list in lanes. Definitions first, then laws.
+pub mod Timed
+pub mod TimedLaws
