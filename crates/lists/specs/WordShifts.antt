@@ -9,6 +9,12 @@ use lib.Dec.{ltb}
 use lib.Arith.{digits-lt}
 use lib.Pow.{pow-add, pow-pos, shl-exact, shl-shr, shr-shr, shr-lt, mod-pow-add}
 
+-- what m shifted by s leaves above w digits, with no shift by more than w
+pub shifted-above : (w m s : ℕ) → s ≤ w → m / 2 ^ (w - s) ≡ m * 2 ^ s / 2 ^ w
+shifted-above w m s h =
+    let f : s + (w - s) ≡ w = omega arith in
+    sym (ap (λ (n : ℕ). n / 2 ^ (w - s)) (shl-shr m s)) ∙ shr-shr (m * 2 ^ s) s (w - s) ∙ ap (λ (n : ℕ). m * 2 ^ s / 2 ^ n) f
+
 -- y digits of the upper word a, and so many of the lower word b are cut off
 module _ {w y : ℕ} (h : y ≤ w) where
   whole : w - y + y ≡ w
