@@ -31,8 +31,8 @@ extern uint32_t told[3];
 extern mpfr_t result;
 
 /* Each answers its sum, but `opening`, and but `additions` and `additions_call`, which answer 0 where every addition was accepted. */
-double naive(const struct list *l), walk_gcc(const struct list *l), walk_clang(const struct list *l), merged_gcc(const struct list *l);
-double merged_clang(const struct list *l), undivided(const struct list *l), by_blocks(const struct list *l), faithful_call(const struct list *l);
+double naive(const struct list *l), walk_gcc(const struct list *l), walk_clang(const struct list *l), best_gcc(const struct list *l);
+double best_clang(const struct list *l), undivided(const struct list *l), by_blocks(const struct list *l), faithful_call(const struct list *l);
 double nearest(const struct list *l), nearest_call(const struct list *l), additions(const struct list *l), additions_call(const struct list *l);
 double opening(const struct list *l), mpfr(const struct list *l), mpfr_converted(const struct list *l);
 
