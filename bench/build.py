@@ -75,8 +75,9 @@ def driver():
     os.makedirs(PLACE, exist_ok=True)
     packages()
     own = ["-isystem", os.path.join(ROOT, "tests", "host"), f"--target={kit.machine()}-unknown-linux-gnu", "-fPIC"]
-    objects = [c_object("gcc", "main"), c_object("gcc", "sums"), c_object("gcc", "walk", "-DCOMPILER=gcc")]
-    objects += [c_object(kit.clang(), "walk", "-DCOMPILER=clang", *own)]
+    objects = [c_object("gcc", source) for source in ("main", "sums")]
+    for source in ("walk", "best"):
+        objects += [c_object("gcc", source, "-DCOMPILER=gcc"), c_object(kit.clang(), source, "-DCOMPILER=clang", *own)]
     run(["gcc", *objects, *libraries(), "-lmpfr", "-lgmp", "-o", DRIVER])
 
 

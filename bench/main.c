@@ -139,7 +139,7 @@ static const char *lanes_differ(const struct list *l)
 
 static const char *differs(const struct list *l)
 {
-    walk_in_c *walks[] = {gcc_plain, clang_plain, gcc_merged, clang_merged};
+    walk_in_c *walks[] = {gcc_plain, clang_plain, gcc_best, clang_best};
     ask_library(l);
     if (library.called_code != library.code || memcmp(library.called, library.values, sizeof library.called))
         return "the call on bytes";

@@ -27,8 +27,8 @@ static double handed(struct answer a)
 
 double walk_gcc(const struct list *l) { return handed(gcc_plain(l->patterns, l->n, work, l->n)); }
 double walk_clang(const struct list *l) { return handed(clang_plain(l->patterns, l->n, work, l->n)); }
-double merged_gcc(const struct list *l) { return handed(gcc_merged(l->patterns, l->n, work, l->n)); }
-double merged_clang(const struct list *l) { return handed(clang_merged(l->patterns, l->n, work, l->n)); }
+double best_gcc(const struct list *l) { return handed(gcc_best(l->patterns, l->n, work, l->n)); }
+double best_clang(const struct list *l) { return handed(clang_best(l->patterns, l->n, work, l->n)); }
 
 /* The sum of a call's values, where it was accepted. */
 static double sum_in_values(uint32_t code) { return kewohiata_double(code == 0 ? values[0] : UINT64_MAX); }
@@ -135,6 +135,6 @@ double mpfr_converted(const struct list *l)
 }
 
 double (*const sums[SUMS])(const struct list *) = {
-    naive,        walk_gcc,  walk_clang,     merged_gcc,     merged_clang,    undivided, opening, by_blocks,      faithful_call, nearest,
+    naive,        walk_gcc,  walk_clang,     best_gcc,     best_clang,    undivided, opening, by_blocks,      faithful_call, nearest,
     nearest_call, additions, additions_call, lane_additions, inner_additions, settling,  mpfr,    mpfr_converted,
 };

@@ -37,8 +37,8 @@ extern mpfr_t result;
 
 /* Each answers its sum, but `opening`, and but those of a register, `additions`, `additions_call`, `lane_additions`, `inner_additions` and `settling`, which
    answer 0 where every call was accepted. */
-double naive(const struct list *l), walk_gcc(const struct list *l), walk_clang(const struct list *l), merged_gcc(const struct list *l);
-double merged_clang(const struct list *l), undivided(const struct list *l), by_blocks(const struct list *l), faithful_call(const struct list *l);
+double naive(const struct list *l), walk_gcc(const struct list *l), walk_clang(const struct list *l), best_gcc(const struct list *l);
+double best_clang(const struct list *l), undivided(const struct list *l), by_blocks(const struct list *l), faithful_call(const struct list *l);
 double nearest(const struct list *l), nearest_call(const struct list *l), additions(const struct list *l), additions_call(const struct list *l);
 double opening(const struct list *l), lane_additions(const struct list *l), inner_additions(const struct list *l), settling(const struct list *l);
 double mpfr(const struct list *l), mpfr_converted(const struct list *l);

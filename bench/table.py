@@ -11,10 +11,10 @@ Written by `bench/run --record`; docs/PERFORMANCE.md says what is compared and w
 # the sums in the order of sums.c, and then fsum.py's: a name for the tables, and what it is
 SUMS = (
     ("naive", "the naive sum, a loop in C"),
-    ("walk in C, gcc", "the scope's walk in C, which judges the list, copies it and finds its largest magnitude in three passes, as the library does"),
+    ("walk in C, gcc", "the scope's walk in C, which judges the list, copies it and finds its largest magnitude in three passes; each round is a serial sum"),
     ("walk in C, clang", "the same source by the kit's clang"),
-    ("merged walk, gcc", "the walk in C with the judgement and the largest magnitude in one pass over the patterns"),
-    ("merged walk, clang", "the same source by the kit's clang"),
+    ("best walk, gcc", "the fastest walk in C that is known: one pass for the judgement and the largest magnitude, nothing copied, T in the first round, tau in eight"),
+    ("best walk, clang", "the same source by the kit's clang"),
     ("undivided", "`kewohiata_walk_faithful`, the undivided call, on arrays"),
     ("opening alone", "`kewohiata_walk_open`, with which the undivided call begins"),
     ("by blocks", "`kewohiata_walk_open` and `kewohiata_walk_step`, blocks in rising order"),

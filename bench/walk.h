@@ -11,14 +11,13 @@ struct answer {
     double sum;
 };
 
-/* Two openings; what follows is the same. `plain` goes through the list as the library's call does: one pass judges, one copies, one finds the largest
-   magnitude. `merged` finds the largest magnitude and the judgement in one pass over the patterns, and then copies. The compiler's name stands before them,
-   since walk.c is compiled by two. */
+/* Two of them. `plain` (walk.c) goes through the list in plain passes: one judges, one copies, one finds the largest magnitude, and each round is a serial sum.
+   `best` (best.c) is the fastest that is known. The compiler's name stands before them, since each is compiled by two. */
 #define WALK_JOIN(compiler, name) compiler##_##name
 #define WALK_NAME(compiler, name) WALK_JOIN(compiler, name)
 
 #define WALK_DECLARE(compiler)                                                                            \
     struct answer WALK_NAME(compiler, plain)(const uint64_t *list, size_t n, double *work, size_t room); \
-    struct answer WALK_NAME(compiler, merged)(const uint64_t *list, size_t n, double *work, size_t room);
+    struct answer WALK_NAME(compiler, best)(const uint64_t *list, size_t n, double *work, size_t room);
 
 #endif

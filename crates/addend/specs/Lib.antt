@@ -3,3 +3,5 @@ pub mod Addend
 pub mod PatternFields
 pub mod OppositePattern
 pub mod RegisterWords
+pub mod Sides
+pub mod SidesLaws

@@ -5,6 +5,7 @@ use words::ripple::add_at;
 use words::ripple::sub_at;
 
 pub mod place;
+pub mod sides;
 
 ghost use mathlib.Core.Path.{_≡_};
 ghost use lib.Dec.{T};

@@ -1,5 +1,9 @@
 // One area of the faithful walk: taking its numbers, with the largest of their remainders, and adding them up. Rules WB2 and F8: on f64, rounded once each.
 use kinds::SIGN;
+
+pub mod first;
+pub mod grouped;
+
 ghost use mathlib.Core.Path.{_≡_};
 ghost use mathlib.Core.Bool.{false};
 ghost use lib.Dec.{T};

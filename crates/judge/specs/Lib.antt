@@ -3,6 +3,7 @@ pub mod Judge
 pub mod Table
 pub mod FaultLaws
 pub mod FaultlessLaws
+pub mod GreatestLaws
 pub mod FirstBadLaws
 pub mod FirstFaultLaws
 pub mod AllowedLaws

@@ -3,11 +3,15 @@ use kinds::Doubles;
 use kinds::INFINITY;
 use kinds::SIGN;
 use kinds::Verdict;
+
+mod greatest;
+
 ghost use mathlib.Core.Path.{_≡_};
 ghost use Prim.Native.Nat.{_≤_};
 ghost use lib.ListN.{length};
 ghost use Rattle.kinds.specs.Limits.{doubles};
-ghost use Rattle.judge.specs.FaultlessLaws.{faultless};
+ghost use Rattle.kinds.specs.declared.Verdict.the-variants.{Good};
+ghost use Rattle.judge.specs.GreatestLaws.{greatest};
 ghost use Rattle.judge.specs.Judge.{faultOf, firstFault, judged, zeroSign};
 
 // The number of a pattern's fault, 0 for none: rules R2 and R3.
@@ -22,20 +26,6 @@ pub fn fault(p: u64) -> u32
         return 3;
     }
     0
-}
-
-// Whether no pattern has a fault. Either fault is a pattern above the limit's, the sign taken off: a NaN's and an infinity's are above every number's. The loop
-// isn't left early, so that several patterns are looked at together.
-fn faultless(list: &[u64]) -> bool
-    ensures { λ r. ⌜ r ≡ faultless doubles (now (list .entry)) ⌝ }
-{
-    let mut over = false;
-    let mut j = 0;
-    while j < list.len() {
-        over = over | (Doubles::MAGNITUDE < list[j] % SIGN);
-        j += 1;
-    }
-    !over
 }
 
 // The first bad place, with the fault that it has. The bound on the length, which `judge` tests, is there because a place is told in 32 bits.
@@ -54,23 +44,48 @@ fn first_fault(list: &[u64]) -> Verdict
     Verdict::Good
 }
 
-// Rule O1. A list is only read (rule A4).
+// What a list is refused for, beside its greatest pattern.
+pub struct Measured {
+    pub verdict: Verdict,
+    pub greatest: u64,
+}
+
+// A verdict beside the greatest pattern, which is told of a good list alone.
+fn beside(verdict: Verdict, greatest: u64) -> Measured
+    ensures { λ r. ⌜ (r .verdict ≡ verdict) × (r .greatest ≡ greatest) ⌝ }
+{
+    Measured { verdict, greatest }
+}
+
+// Rule O1, with the greatest pattern of a good list: its sign taken off, so that it stands for the largest magnitude. Either fault of a number is a pattern above
+// the limit's: a NaN's and an infinity's are above every number's. A list is only read (rule A4).
+pub fn measure(list: &[u64], area: bool, parts: bool) -> Measured
+    ensures { λ r. ⌜
+        (r .verdict ≡ judged doubles area parts (now (list .entry))) × (r .verdict ≡ Good → r .greatest ≡ greatest doubles (now (list .entry)))
+        ⌝ }
+{
+    if Doubles::LENGTH < list.len() {
+        return beside(Verdict::Refused(1, 0), 0);
+    }
+    if !area {
+        return beside(Verdict::Refused(4, 0), 0);
+    }
+    if !parts {
+        return beside(Verdict::Refused(5, 0), 0);
+    }
+    let most = greatest::greatest(list);
+    if most <= Doubles::MAGNITUDE {
+        return beside(Verdict::Good, most);
+    }
+    beside(first_fault(list), most)
+}
+
+// The verdict alone.
 pub fn judge(list: &[u64], area: bool, parts: bool) -> Verdict
     ensures { λ r. ⌜ r ≡ judged doubles area parts (now (list .entry)) ⌝ }
 {
-    if Doubles::LENGTH < list.len() {
-        return Verdict::Refused(1, 0);
-    }
-    if !area {
-        return Verdict::Refused(4, 0);
-    }
-    if !parts {
-        return Verdict::Refused(5, 0);
-    }
-    if faultless(list) {
-        return Verdict::Good;
-    }
-    first_fault(list)
+    let measured = measure(list, area, parts);
+    measured.verdict
 }
 
 // Rule S3: the sign of the zero that a list with exact sum zero answers, the same for the faithful sum, the nearest and the first part. The loop is left at

@@ -72,6 +72,16 @@ module _ {w : ℕ} {xs ys zs : List ℕ} {i c : ℕ} where
     small = s .small;
   }
 
+  -- and of a difference, which is written where xs was
+  pub taken-next : {d carry : ℕ} → i < length zs → length xs ≡ length zs → length ys ≡ length zs → Added w xs ys zs i c
+      → Carries w d (getD ys i 0) c (getD zs i 0) carry → Added w (set xs i d) ys zs (suc i) carry
+  taken-next {d} h k l A s = record {
+    total =
+        rw (number-next-set w xs {i = i} d (omega arith), number-next w zs h, number-next w ys {i = i} (omega arith), weight-next w i)
+        (omega (arith, A .total, ap (λ (n : ℕ). n * 2 ^ (w * i)) (s .total)));
+    small = s .small;
+  }
+
   pub added-all : i ≡ length xs → length ys ≡ length xs → length zs ≡ length xs → Added w xs ys zs i c → Carried w xs (number w ys) zs (length xs) c
   added-all e k l A = record {
     total =

@@ -1,2 +1,3 @@
 -- Laws that one proof needs.
 pub mod CutLaws
+pub mod ClosableLaws

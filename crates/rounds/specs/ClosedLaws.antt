@@ -1,17 +1,17 @@
 -- What a close answers: rules W1 and W2 are a fresh start, as at an opening; one law for each case. Assumes nothing.
-use mathlib.Core.Path.{_≡_, refl}
-use mathlib.Core.Bool.{Bool, true, false, cond, _||_}
+use mathlib.Core.Path.{_≡_, refl, sym}
+use mathlib.Core.Bool.{Bool, true, false, not, cond, _&&_, _||_}
 use mathlib.Core.List.{List}
 use Prim.Native.Nat.{ℕ, _+_, _*_}
 use lib.Dec.{eqb}
-use lib.Ieee.{Float, Format, add, le, eq}
+use lib.Ieee.{Float, Format, add, sub, le, eq}
 use Rattle.lists.specs.Apart.{apart}
-use Rattle.extract.specs.Extract.{plusZero, absolute}
+use Rattle.extract.specs.Extract.{plusZero, absolute, lastSum}
 use Rattle.kinds.specs.Limits.{Width, exponentOf}
 use Rattle.kinds.specs.declared.State.{State}
 use Rattle.kinds.specs.declared.Step.{Step}
 use Rattle.kinds.specs.declared.Step.the-variants.{More, Done}
-use Rattle.rounds.specs.Round.{roundOf, freshRound, fresh, scaled, leastNormal, finished, closedBy}
+use Rattle.rounds.specs.Round.{roundOf, freshRound, fresh, scaled, leastNormal, finished, closedBy, closed}
 
 -- a round from mu alone, or nothing to sum
 module _ (W : Width) (zero : Float) (n mu rounds ensemble : ℕ) (told : Float) where
@@ -32,6 +32,10 @@ enough f M sigma tau1 = le sigma (leastNormal f) || le (scaled f (2 * M + 1) sig
 
 abbrev pub finishes : Width → State → Bool
 finishes W s = enough (W .format) (exponentOf (s .n)) (s .sigma) (tau1Of W s)
+
+-- whether rule 3 ends the walk, behind rules 1 and 2
+abbrev pub endsOf : Width → State → Bool
+endsOf W s = not (eq (tau1Of W s) (plusZero (W .format))) && finishes W s
 
 abbrev pub furtherRound : Width → State → State
 furtherRound W s = roundOf W (s .n) (scaled (W .format) (exponentOf (s .n)) (s .sigma)) (tau1Of W s) (s .rounds + 1) (s .ensemble)
@@ -90,3 +94,28 @@ module _ (W : Width) (mu : ℕ) (s : State) (xs : List Float) where
   pub closed-further : eq (tau1Of W s) (plusZero (W .format)) ≡ false → finishes W s ≡ false → closedBy W mu s xs ≡ More (furtherRound W s) (s .largest)
   unfolding closedBy
   closed-further z r = rw (z, r)
+
+-- ---- an answer closes a state over every area, or over every area whose sum in rising order is T
+abbrev pub Closes : Width → State → Step → Type 0
+Closes W s q = (xs : List Float) → q ≡ closed W s xs
+
+abbrev pub ClosesWith : Width → State → Float → Step → Type 0
+ClosesWith W s T q = (xs : List Float) → lastSum (W .format) xs ≡ T → q ≡ closed W s xs
+
+module _ (W : Width) (s : State) where
+  pub ends-not : eq (tau1Of W s) (plusZero (W .format)) ≡ true → endsOf W s ≡ false
+  ends-not z = rw z
+
+  pub ends-further : eq (tau1Of W s) (plusZero (W .format)) ≡ false → endsOf W s ≡ finishes W s
+  ends-further z = rw z
+
+  -- rule 3's sum, of T
+  pub finish-closes : (T : Float) → endsOf W s ≡ true → let f = W .format in
+      ClosesWith W s T (Done (add f (tau1Of W s) (add f (sub f (s .tau) (sub f (tau1Of W s) (s .t))) T)) (s .rounds + 1))
+  unfolding finished
+  finish-closes T h xs e = let b = both (eq (tau1Of W s) (plusZero (W .format))) (finishes W s) h in
+      rw (← e) (sym (closed-finish W _ s xs (b .0) (b .1)))
+    where
+      both : (a b : Bool) → (not a && b) ≡ true → (a ≡ false) × (b ≡ true)
+      both false b e = (refl, e)
+      both true b e = apart (cc)

@@ -193,21 +193,23 @@ module _ {f : Format} {M e : ℕ} {sigma : Float} (σ : Scale f M e sigma) where
       → whole f (add f tau (highPart f sigma x)) ≡ fl (prec f) (whole f tau ⊕ units.high (prec f) (M + e) (whole f x))
   next-units {tau = tau} T X l = next-sum T X l .units ∙ ap (λ (q : Whole). fl (prec f) (whole f tau ⊕ q)) (high-is X .units)
 
-  next-tau : {c : ℕ} {tau x : Float} → Tau c tau → Small f (2 ^ e) x → c < 2 ^ M → Tau (suc c) (add f tau (highPart f sigma x))
+  pub next-tau : {c : ℕ} {tau x : Float} → Tau c tau → Small f (2 ^ e) x → c < 2 ^ M → Tau (suc c) (add f tau (highPart f sigma x))
   next-tau {tau = tau} {x} T X l = record {
     number = next-sum T X l .number;
     units = rw (next-units T X l) (turn-tau (prec f) (prec-pos f) M e (σ .some) (σ .few) (T .units) (ready X) l);
     plus = sum-plus tau (highPart f sigma x) (T .plus) (next-sum T X l);
   }
 
+  pub next-exact : {c : ℕ} {tau x : Float} → Tau c tau → Small f (2 ^ e) x → c < 2 ^ M
+      → whole f (add f tau (highPart f sigma x)) ≈ whole f tau ⊕ whole f (highPart f sigma x)
+  next-exact T X l = rw (next-units T X l, high-is X .units) (turn-exact (prec f) (prec-pos f) M e (σ .some) (σ .few) (T .units) (ready X) l)
+
   -- rule WE1, for tau
   tau-exact : {c : ℕ} {tau x : Float} → Tau c tau → Small f (2 ^ e) x → c < 2 ^ M
       → value f (add f tau (highPart f sigma x)) ≡ value f tau +ℤ value f (highPart f sigma x)
   tau-exact {tau = tau} {x} T X l =
       let q = highPart f sigma x in
-      let h : whole f (add f tau q) ≈ whole f tau ⊕ whole f q =
-      rw (next-units T X l, high-is X .units) (turn-exact (prec f) (prec-pos f) M e (σ .some) (σ .few) (T .units) (ready X) l) in
-      value-int f (add f tau q) ∙ int-same (whole f (add f tau q)) (whole f tau ⊕ whole f q) h ∙ int-plus (whole f tau) (whole f q)
+      value-int f (add f tau q) ∙ int-same (whole f (add f tau q)) (whole f tau ⊕ whole f q) (next-exact T X l) ∙ int-plus (whole f tau) (whole f q)
       ∙ (λ i. sym (value-int f tau) i +ℤ sym (value-int f q) i)
 
   pub gathers-exact : (xs : List Float) {c : ℕ} {tau : Float} → Tau c tau → Each (Small f (2 ^ e)) xs → c + length xs ≤ 2 ^ M → ExactSums f sigma tau xs

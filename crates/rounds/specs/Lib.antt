@@ -4,6 +4,7 @@ pub mod Exactness
 pub mod Closable
 pub mod Fitting
 pub mod InUnits
+pub mod GroupedSums
 pub mod Begun
 pub mod FreshRound
 pub mod Blocks

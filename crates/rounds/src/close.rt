@@ -8,12 +8,13 @@ use kinds::LEAST_NORMAL;
 use kinds::State;
 use kinds::Step;
 ghost use mathlib.Core.Path.{_≡_};
+ghost use mathlib.Core.Bool.{true, false};
 ghost use Prim.Native.Nat.{_≤_};
 ghost use lib.Ieee.{prec};
 ghost use Rattle.kinds.specs.Limits.{doubles};
-ghost use Rattle.rounds.specs.Round.{scaled, finished, closed};
+ghost use Rattle.rounds.specs.Round.{scaled, closed};
 ghost use Rattle.rounds.specs.Closable.{PowerFrom, Closable};
-ghost use Rattle.rounds.specs.ClosedLaws.{enough};
+ghost use Rattle.rounds.specs.ClosedLaws.{enough, endsOf, Closes, ClosesWith};
 
 // 2^j eps sigma (rule F4). A sigma above the least normal number is a field over no digit, and the product of two powers of two is exact there: the field goes
 // down by 53 - j, or one digit is left where there is no field.
@@ -41,18 +42,33 @@ fn enough(m: u32, sigma: f64, tau1: f64) -> bool
     scaled(2 * m + 1, sigma) <= extract::absolute(tau1)
 }
 
-// The sum of rule W3.
-fn finish(tau1: f64, t: f64, tau: f64, work: &[f64]) -> f64
-    ensures { λ r. ⌜ r ≡ finished (doubles .format) tau1 t tau (now (work .entry)) ⌝ }
+// Whether rule W3 ends the walk, after rules W1 and W2.
+fn ends(s: State) -> bool
+    requires { ⌜ Closable doubles s ⌝ }
+    ensures { λ r. ⌜ r ≡ endsOf doubles s ⌝ }
 {
-    let tau2 = tau - (tau1 - t);
-    tau1 + (tau2 + extract::last_sum(work))
+    let n = s.n;
+    let tau1 = s.t + s.tau;
+    if tau1 == 0.0 {
+        return false;
+    }
+    enough(Doubles::of(n).exponent(), s.sigma, tau1)
 }
 
-// Rule WC1, for a state whose pending set is empty.
-pub fn close(s: State, work: &[f64]) -> Step
-    requires { ⌜ Closable doubles s ⌝ }
-    ensures { λ r. ⌜ r ≡ closed doubles s (now (work .entry)) ⌝ }
+// The sum of rule W3, where T is handed in.
+fn finish(s: State, sum: f64) -> Step
+    requires { ⌜ Closable doubles s × (endsOf doubles s ≡ true) ⌝ }
+    ensures { λ r. ⌜ ClosesWith doubles s sum r ⌝ }
+{
+    let tau1 = s.t + s.tau;
+    let tau2 = s.tau - (tau1 - s.t);
+    Step::Done(tau1 + (tau2 + sum), s.rounds + 1)
+}
+
+// A round that rule W3 doesn't end: rules W1, W2 and W4.
+fn onward(s: State) -> Step
+    requires { ⌜ Closable doubles s × (endsOf doubles s ≡ false) ⌝ }
+    ensures { λ r. ⌜ Closes doubles s r ⌝ }
 {
     let n = s.n;
     let sigma = s.sigma;
@@ -63,13 +79,31 @@ pub fn close(s: State, work: &[f64]) -> Step
         return from_mu(0.0, n, s.largest, rounds, s.ensemble, s.largest);
     }
     let m = Doubles::of(n).exponent();
-    // rule W3
-    if enough(m, sigma, tau1) {
-        return Step::Done(finish(tau1, s.t, s.tau, work), rounds);
-    }
     // rule W4
     Step::More(
         round::begin(n, scaled(m, sigma), tau1, rounds, s.ensemble),
         s.largest,
     )
+}
+
+// Rule WC1, for a state whose pending set is empty. T is added up only where rule W3 asks for it.
+pub fn close(s: State, work: &[f64]) -> Step
+    requires { ⌜ Closable doubles s ⌝ }
+    ensures { λ r. ⌜ r ≡ closed doubles s (now (work .entry)) ⌝ }
+{
+    if ends(s) {
+        return finish(s, extract::last_sum(work));
+    }
+    onward(s)
+}
+
+// The same where T of the area has been added up.
+pub fn close_with(s: State, sum: f64) -> Step
+    requires { ⌜ Closable doubles s ⌝ }
+    ensures { λ r. ⌜ ClosesWith doubles s sum r ⌝ }
+{
+    if ends(s) {
+        return finish(s, sum);
+    }
+    onward(s)
 }

@@ -3,15 +3,20 @@ use kinds::Doubles;
 use kinds::State;
 ghost use mathlib.Core.Path.{_≡_};
 ghost use mathlib.Core.Bool.{false};
-ghost use Prim.Native.Nat.{_+_, _≤_, _<_, min};
+ghost use Prim.Native.Nat.{ℕ, _+_, _≤_, _<_, min};
 ghost use lib.ListN.{length};
 ghost use Rattle.units.specs.Rounding.{ceil};
 ghost use Rattle.ieee.specs.Units.{negative, magnitude};
 ghost use Rattle.exponent.specs.Power.{powerOf};
+ghost use Rattle.judge.specs.Judge.{floats, firstFault};
 ghost use Rattle.judge.specs.Table.{sizeOf};
 ghost use Rattle.kinds.specs.Limits.{doubles, exponentOf, blocksOf};
+ghost use Rattle.kinds.specs.declared.Verdict.the-variants.{Good};
+ghost use Rattle.extract.specs.Extract.{lastSum};
 ghost use Rattle.rounds.specs.InUnits.{Small};
 ghost use Rattle.rounds.specs.Closable.{Takable};
+ghost use Rattle.rounds.specs.Begun.{Begun};
+ghost use Rattle.rounds.specs.Instances.{doubles-fit};
 ghost use Rattle.rounds.specs.Round.{turned, inRound, takenState, allTaken, allLeft, roundOf};
 
 // Rule WC2.
@@ -70,13 +75,39 @@ pub fn take(s: State, work: &mut [f64], block: usize) -> State
     in_round(s, taken.tau, taken.largest, pending)
 }
 
-// Every block of a round in rising order: that is the whole area in one extraction.
+// Every block of a round in rising order: that is the whole area in one extraction. Of a round of a run, as tau is in eight sums: there all of them are exact, so
+// that any grouping gives the same tau.
 pub fn take_all(s: State, work: &mut [f64]) -> State
-    requires { ⌜ Takable doubles s (now work) ⌝ }
+    requires { ⌜ ((e : ℕ) × Begun doubles doubles-fit e s (now work)) ⌝ }
     ensures { λ r. ⌜
         (r ≡ allTaken doubles s (now (work .entry))) × (now (work .exit) ≡ allLeft doubles s (now (work .entry)))
         ⌝ }
 {
-    let taken = extract::extract(work, s.sigma, s.tau, s.largest);
+    let taken = extract::grouped::extract_grouped(work, s.sigma, s.largest);
     in_round(s, taken.tau, taken.largest, 0)
+}
+
+// What `take_all` answers, and T of rule W3.
+pub struct Listed {
+    pub state: State,
+    pub sum: f64,
+}
+
+// The same for the first round of a list that was judged good: its numbers are read there, and their remainders written to the area.
+pub fn take_list(s: State, list: &[u64], work: &mut [f64]) -> Listed
+    requires { ⌜
+        (length (now work) ≡ length (now list)) × (firstFault doubles (now list) 0 ≡ Good) × Takable doubles s (floats doubles (now list))
+        ⌝ }
+    ensures { λ r. ⌜
+        (r .state ≡ allTaken doubles s (floats doubles (now (list .entry))))
+        × (r .sum ≡ lastSum (doubles .format) (allLeft doubles s (floats doubles (now (list .entry)))))
+        × (now (work .exit) ≡ allLeft doubles s (floats doubles (now (list .entry))))
+        ⌝ }
+{
+    let taken = extract::first::from_list(list, work, s.sigma, s.tau, s.largest);
+    let state = in_round(s, taken.tau, taken.largest, 0);
+    Listed {
+        state,
+        sum: taken.sum,
+    }
 }

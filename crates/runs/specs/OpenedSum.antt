@@ -24,7 +24,6 @@ use Rattle.kinds.specs.Limits.{Width, exponentOf}
 use Rattle.kinds.specs.Outcome.{outcome}
 use Rattle.kinds.specs.declared.Step.{Step}
 use Rattle.kinds.specs.declared.Step.the-variants.{More, Done}
-use Rattle.kinds.specs.declared.Verdict.{Verdict}
 use Rattle.kinds.specs.declared.Verdict.the-variants.{Good}
 use Rattle.judge.specs.Judge.{floats, zeroSign}
 use Rattle.judge.specs.Table.{ListWhen, MinusZeros}
@@ -36,8 +35,8 @@ use Rattle.rounds.specs.ClosedLaws.{fresh-zero, fresh-round}
 use Rattle.rounds.specs.Fitting.{Fitting}
 use Rattle.rounds.specs.InUnits.{wholes, all-ready}
 use Rattle.rounds.specs.Begun.{Begun}
-use Rattle.walk.specs.Walk.{openedAfter, opened}
-use Rattle.walk.specs.OpeningLaws.{opened-good}
+use Rattle.walk.specs.Walk.{opened}
+use Rattle.walk.specs.OpeningLaws.{opened-judged}
 use Rattle.walk.specs.Opening.{opens}
 use Rattle.runs.specs.CloseUnits.{zero-whole}
 use Rattle.runs.specs.Summing.{Summing, all-zero}
@@ -69,9 +68,7 @@ zeroOf W ps = nearestFloat (W .format) (zeroSign W ps) (pos 0)
 
 module _ {W : Width} (F : Fitting W) (k : ℕ) (ps : List ℕ) (work : List Float) (G : ListWhen W (eqb (length work) (length ps)) true ps Good) where
   opened-is : opened W k ps work ≡ outcome (fresh W (zeroOf W ps) (length ps) (largest (W .format) (floats W ps)) 0 k (plusZero (W .format))) (floats W ps)
-  opened-is =
-      ap (λ (v : Verdict). openedAfter W k v ps work) (list-when W (eqb (length work) (length ps)) true ps Good .1 G)
-      ∙ sym (opened-good W k ps work (floats W ps) (zeroOf W ps) _ refl refl refl)
+  opened-is = sym (opened-judged W k ps work (list-when W (eqb (length work) (length ps)) true ps Good .1 G) refl refl)
 
   -- ---- every number is zero
   pub opened-zero : allZero (W .format) (floats W ps) ≡ true → opened W k ps work ≡ outcome (Done (zeroOf W ps) 0) (floats W ps)

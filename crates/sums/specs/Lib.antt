@@ -1,10 +1,15 @@
 -- The sums of a list. Definitions first, then laws.
 pub mod Sums
+pub mod ListSides
+pub mod SignLanes
 pub mod Reordering
 pub mod NonOverlapping
 pub mod FirstPlace
 pub mod PartsLaws
 pub mod SumLaws
+pub mod SideSums
+pub mod SignLanesLaws
+pub mod SettleLaws
 pub mod AnswerLaws
 pub mod PartsMeaning
 pub mod Promised

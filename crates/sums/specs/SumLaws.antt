@@ -49,16 +49,13 @@ total-goes-on {ws} z ps i h e =
     s = sumOf (doubles .format) (take i ps)
 
 -- ---- how large the sum of an allowed list is
-pub sum-at-most : (W : Width) (ps : List ℕ) → Allowed W ps → natAbs (sumOf (W .format) ps) ≤ length ps * most W
-sum-at-most W ps C = rw (length-map ps g) at (sum-bound (most W) (map g ps) each)
-  where
-    g : ℕ → ℤ
-    g p = value (W .format) (ofBits (W .format) p)
+pub each-most : (W : Width) (ps : List ℕ) → Allowed W ps → (j : ℕ) → j < length (map (unitsOf W) ps) → natAbs (getD (map (unitsOf W) ps) j (pos 0)) ≤ most W
+each-most W ps C j h =
+    let l : j < length ps = rw (length-map ps (unitsOf W)) at h in
+    rw (map-at (unitsOf W) ps j 0 (pos 0) l, value-mag (W .format) (ofBits (W .format) (getD ps j 0))) (fault-0 W (getD ps j 0) .0 (C .none j l) .1)
 
-    each : (j : ℕ) → j < length (map g ps) → natAbs (getD (map g ps) j (pos 0)) ≤ most W
-    each j h =
-        let l : j < length ps = rw (length-map ps g) at h in
-        rw (map-at g ps j 0 (pos 0) l, value-mag (W .format) (ofBits (W .format) (getD ps j 0))) (fault-0 W (getD ps j 0) .0 (C .none j l) .1)
+pub sum-at-most : (W : Width) (ps : List ℕ) → Allowed W ps → natAbs (sumOf (W .format) ps) ≤ length ps * most W
+sum-at-most W ps C = rw (length-map ps (unitsOf W)) at (sum-bound (most W) (map (unitsOf W) ps) (each-most W ps C))
 
 module _ {ps : List ℕ} (few : length ps ≤ doubles .length) (C : Allowed doubles ps) where
   -- 4,094 times 2 ^ 2074 units
@@ -76,7 +73,19 @@ whole-words z l = whole-cut wordBits wordCount (lit< tt) z (is-true (inside regi
     fits (pos n) h = lt→ltb n (2 ^ (registerBits - 1)) h
     fits (negsuc n) h = lt→ltb n (2 ^ (registerBits - 1)) (le-of-suc-le h)
 
--- the words of zeros and a list's sum stand for that sum
+-- the words of a sum stand for it
+pub sum-whole : {ws : List ℕ} (S : ℤ) → natAbs S < limit (doubles .format) → ws ≡ wordsOf S → wholeOf ws ≡ S
+sum-whole S l e = ap wholeOf e ∙ whole-words S l
+
+-- the words of zeros and a sum stand for that sum
 pub total-whole : {ws : List ℕ} (S : ℤ) → natAbs S < limit (doubles .format) → ws ≡ wordsOf (wholeOf (replicate wordCount 0) +ℤ S) → wholeOf ws ≡ S
 unfolding number signed
 total-whole S l e = ap wholeOf (e ∙ ap wordsOf (+ℤ-idl S)) ∙ whole-words S l
+
+-- words that are zero, and a sum
+pub from-nothing : {ws : List ℕ} (S : ℤ) → ws ≡ replicate wordCount 0 → wordsOf (wholeOf ws +ℤ S) ≡ wordsOf S
+unfolding number signed
+from-nothing S e = ap (λ (l : List ℕ). wordsOf (wholeOf l +ℤ S)) e ∙ ap wordsOf (+ℤ-idl S)
+
+pub nothing-long : {ws : List ℕ} → ws ≡ replicate wordCount 0 → length ws ≡ wordCount
+nothing-long e = ap length e

@@ -1,23 +1,34 @@
 // The exact sum of a list, in a register's words.
+use crate::few;
+use crate::long;
+use crate::short;
 ghost use mathlib.Core.Path.{_≡_};
+ghost use Prim.Native.Nat.{_≤_};
 ghost use lib.Dec.{eqb};
-ghost use lib.IntN.{_+ℤ_};
-ghost use lib.ListN.{length};
+ghost use lib.ListN.{length, replicate};
 ghost use Rattle.kinds.specs.Limits.{doubles};
 ghost use Rattle.judge.specs.Table.{Allowed};
-ghost use Rattle.words.specs.Words.{wordBits, wordCount, wholeOf, wordsOf};
+ghost use Rattle.words.specs.Words.{wordBits, wordCount, wordsOf};
 ghost use Rattle.lists.specs.Digits.{number};
 ghost use Rattle.sums.specs.Sums.{sumOf};
 
-// Adds a list's numbers to the words. Of an allowed list only: a NaN or an infinity has no units.
+// Below so many numbers one register is faster than one for each sign.
+const FEW: usize = 32;
+
+// From so many numbers on lanes are faster than words, whatever the numbers are: settling lanes takes as long as some hundred additions to words take more.
+const LONG: usize = 128;
+
+// The words of a list's sum, in words that are zero. Of an allowed list only: a NaN or an infinity has no units.
 pub fn total(list: &[u64], words: &mut [u64])
-    requires { ⌜ (length (now words) ≡ wordCount) × Allowed doubles (now list) ⌝ }
-    ensures { λ _. ⌜ now (words .exit) ≡ wordsOf (wholeOf (now (words .entry)) +ℤ sumOf (doubles .format) (now (list .entry))) ⌝ }
+    requires { ⌜ (now words ≡ replicate wordCount 0) × Allowed doubles (now list) × (length (now list) ≤ doubles .length) ⌝ }
+    ensures { λ _. ⌜ now (words .exit) ≡ wordsOf (sumOf (doubles .format) (now (list .entry))) ⌝ }
 {
-    let mut i = 0;
-    while i < list.len() {
-        addend::add(words, list[i]);
-        i += 1;
+    if list.len() < FEW {
+        few::total(list, words);
+    } else if list.len() < LONG {
+        short::total(list, words);
+    } else {
+        long::total(list, words);
     }
 }
 

@@ -6,6 +6,11 @@ use kinds::Verdict;
 use words::WORDS;
 
 pub mod exact;
+mod few;
+mod lane;
+mod long;
+mod settle;
+mod short;
 mod split;
 
 ghost use mathlib.Core.Path.{_≡_};

@@ -163,6 +163,16 @@ module _ {W : Width} {F : Fitting W} {n : ℕ} {s : State} {xs : List Float} (R 
       pub walk-running : Running W F n s' ys
       walk-running = rw Y (later .0)
 
+      -- what is run from there, over its own count of numbers
+      pub walk-own : Running W F (s' .n) s' ys
+      walk-own = subst (λ (n : ℕ). Running W F n s' ys) (sym (walk-running .count)) walk-running
+
+      pub walk-on : (told told' : Float) {w : Walked}
+          → w ≡ roundsFrom W (blocksOf W (s' .n)) (suc (W .rounds) - s' .rounds) (outcome (More s' told') ys)
+          → w ≡ roundsFrom W (blocksOf W n) (suc (W .rounds) - s .rounds) (outcome (More s told) xs)
+      walk-on told told' h =
+          h ∙ (λ i. roundsFrom W (blocksOf W (walk-running .count i)) (suc (W .rounds) - s' .rounds) (outcome (More s' told') ys)) ∙ sym (walk-goes told told')
+
       pub walk-lower : suc (W .rounds) - s' .rounds < suc (W .rounds) - s .rounds
       walk-lower = omega (arith, later .1, remaining)
 

@@ -6,6 +6,7 @@ use kinds::Verdict;
 mod accepted;
 mod opening;
 mod run;
+mod undivided;
 
 ghost use mathlib.Core.Path.{_≡_};
 ghost use Rattle.kinds.specs.Limits.{doubles};
@@ -17,9 +18,11 @@ pub fn open(list: &[u64], work: &mut [f64], ensemble: u32) -> Step
     ensures { λ r. ⌜ outcome r (now (work .exit)) ≡ opened doubles ensemble (now (list .entry)) (now (work .entry)) ⌝ }
 {
     let fits = work.len() == list.len();
-    match judge::judge(list, fits, true) {
+    let measured = judge::measure(list, fits, true);
+    let verdict = measured.verdict;
+    match verdict {
         Verdict::Refused(k, place) => Step::Refused(k, place),
-        Verdict::Good => opening::start(list, work, ensemble),
+        Verdict::Good => opening::start(list, work, ensemble, measured.greatest),
     }
 }
 
@@ -33,14 +36,14 @@ pub fn step(s: State, work: &mut [f64], block: usize, ensemble: u32) -> Step
     }
 }
 
-// Rule WR1. No state leaves this call, so that any number will do.
+// Rule WR1; rule O1 has its refusals, and a refused list is written nowhere.
 pub fn faithful(list: &[u64], work: &mut [f64]) -> Step
     ensures { λ r. ⌜ outcome r (now (work .exit)) ≡ faithfulOf doubles (now (list .entry)) (now (work .entry)) ⌝ }
 {
-    let first = open(list, work, 0);
-    match first {
-        Step::More(state, _) => run::run(state, work),
-        Step::Done(_, _) => first,
-        Step::Refused(_, _) => first,
+    let measured = judge::measure(list, work.len() == list.len(), true);
+    let verdict = measured.verdict;
+    match verdict {
+        Verdict::Refused(number, place) => Step::Refused(number, place),
+        Verdict::Good => undivided::undivided(list, work, measured.greatest),
     }
 }

@@ -1,7 +1,7 @@
 // The register's words, and their sums word by word.
 pub mod columns;
 pub mod ripple;
-mod word;
+pub mod word;
 
 // Rule L11.
 pub const WORDS: usize = 33;

@@ -10,15 +10,16 @@ use lib.Dec.{T}
 use lib.Ieee.{Float, nan, binary64, top, toBits, add}
 use lib.Ieee.Fits.{sub-fits}
 use lib.Ieee.Scale.{finite}
-use lib.ListN.{length, take, drop, getD, set}
-use lib.Seq.{length-take-le, take-all}
+use lib.ListN.{length, take, drop, getD}
+use lib.Seq.{take-all}
 use Rattle.lists.specs.Each.{each-at}
-use Rattle.lists.specs.Front.{read-front, store-map, end-map, take-next}
+use Rattle.lists.specs.Front.{end-map, take-next}
 use Rattle.ieee.specs.Units.{Number, magnitude}
 use Rattle.ieee.specs.Finite.{finite-no-nan}
 use Rattle.ieee.specs.Pattern.{pattern-no-nan}
 use Rattle.extract.specs.Extract.{highPart, remainderOf, remainders, gathered, largest}
-use Rattle.extract.specs.ExtractLaws.{remainders-length, remainders-next, gathered-next, largest-none, largest-next}
+use Rattle.extract.specs.ExtractLaws.{remainders-next, gathered-next, largest-none, largest-next}
+use Rattle.extract.specs.TurnLaws.{turn-read, turn-stored}
 use Rattle.extract.specs.LargestLaws.{Positive, Stands, number-stands, larger, kept}
 use Rattle.extract.specs.LargestWithLaws.{positive-stands, remainders-numbers, stands-with}
 use Rattle.extract.proofs.extract.Statement.{statement}
@@ -34,15 +35,11 @@ Inv-loop block₀ sigma tau largest₀ sum₀ most₀ i₀ block sum most i =
 abbrev μ-loop : tie.MeasureT-loop
 μ-loop block₀ sigma tau largest₀ sum₀ most₀ i₀ block sum most i = length block₀ - i
 
--- one turn: what is read at i, what the block is after the store, and what the sum and the largest magnitude are
+-- one turn: what is read at i, and what the sum and the largest magnitude are
 module _ (sigma tau : Float) (l block : List Float) (i : ℕ) (sum : Float)
     (b : block ≡ remainders binary64 sigma (take i l) ++ drop i l) (s : sum ≡ gathered binary64 sigma tau (take i l)) (h : i < length l) where
   read : getD block i nan ≡ getD l i nan
-  read = rw b (read-front nan (remainders binary64 sigma (take i l)) l i (remainders-length binary64 sigma (take i l) ∙ length-take-le i l (omega arith)) h)
-
-  stored : set block i (remainderOf binary64 sigma (getD block i nan)) ≡ remainders binary64 sigma (take (i + 1) l) ++ drop (i + 1) l
-  unfolding remainders
-  stored = rw (read, b) (store-map (remainderOf binary64 sigma) l l i nan nan h h)
+  read = turn-read binary64 sigma l i h b
 
   summed : add binary64 sum (highPart binary64 sigma (getD block i nan)) ≡ gathered binary64 sigma tau (take (i + 1) l)
   summed = rw (read, s, take-next nan l i, gathered-next)
@@ -108,7 +105,7 @@ loop-again c =
     let r = remainderOf binary64 (a .sigma) (getD (l .loop .block) (l .loop .i) nan) in
     let Q : Stands binary64 (toBits binary64 r % top binary64) (magnitude binary64 r) = number-stands binary64 (remainder (c .before)) in (
       search needs,
-      stored (a .sigma) (a .tau) (a .block .now) (l .loop .block) (l .loop .i) (l .loop .sum) (v .1) (v .2) h,
+      turn-stored binary64 (a .sigma) (a .block .now) (l .loop .i) h (v .1),
       summed (a .sigma) (a .tau) (a .block .now) (l .loop .block) (l .loop .i) (l .loop .sum) (v .1) (v .2) h,
       rw (most-next (a .sigma) (a .tau) (a .block .now) (l .loop .block) (l .loop .i) (l .loop .sum) (v .1) (v .2) h (magnitude binary64 (a .largest)))
           (elim (c .if1 .came) [

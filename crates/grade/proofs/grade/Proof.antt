@@ -1,6 +1,6 @@
 -- `grade::grade` meets its contract: the words hold the sum of an allowed list, and a refusal is the judge's or the claim's. Assumes nothing.
 use borrow.Author.Needs.{needs}
-use mathlib.Core.Path.{_≡_, sym, ap, _∙_}
+use mathlib.Core.Path.{_≡_, refl, sym, ap, _∙_}
 use mathlib.Core.Bool.{true, false}
 use Prim.Native.Nat.{ℕ, _%_, _^_, _≤_, _<_}
 use borrow.Author.Tests.{lt-ltb, le-ltb}
@@ -12,7 +12,7 @@ use Rattle.kinds.specs.Limits.{doubles}
 use Rattle.kinds.specs.declared.Verdict.the-variants.{Good}
 use Rattle.judge.specs.JudgeLaws.{list-when, list-passed, list-allowed}
 use Rattle.sums.specs.Sums.{sumOf}
-use Rattle.sums.specs.SumLaws.{sum-below-limit, total-whole}
+use Rattle.sums.specs.SumLaws.{sum-below-limit, sum-whole}
 use Rattle.grade.specs.Grade.{gradeAt}
 use Rattle.grade.specs.AnswerLaws.{list-refused, claim-refused, claim-graded}
 use Rattle.grade.proofs.grade.Statement.{statement}
@@ -38,7 +38,8 @@ total-requires c κs =
     let told = c .before .before in
     let judged = told .before .before in
     let list = judged .before .before .args .list .now in
-    (search needs, list-allowed (list-when doubles true true list Good .0 (sym (judged .judge .ensures) ∙ told .enum-told .given .1)))
+    let v = list-when doubles true true list Good .0 (sym (judged .judge .ensures) ∙ told .enum-told .given .1) in
+    (refl, list-allowed v, list-passed v .few)
 
 grade-words-requires : tie.Need-grade-words-requires
 grade-words-requires c κs =
@@ -50,7 +51,8 @@ grade-words-requires c κs =
     let list = start .args .list .now in
     let v = list-when doubles true true list Good .0 (sym (judged .judge .ensures) ∙ told .enum-told .given .1) in
     let l = sum-below-limit (list-passed v .few) (list-allowed v) in
-    (search needs, rw (total-whole (sumOf (doubles .format) list) l (summed .total .ensures)) l, rw (is-finite (start .args .claim) (finite .if1 .left)) tt)
+    let w = sum-whole (sumOf (doubles .format) list) l (summed .total .ensures) in
+    (search needs, rw w l, rw (is-finite (start .args .claim) (finite .if1 .left)) tt)
 
 returns-2 : tie.Need-returns-2
 returns-2 c =
@@ -69,7 +71,8 @@ returns-3 c =
     let list = start .args .list .now in
     let e = sym (judged .judge .ensures) ∙ told .enum-told .given .1 in
     let v = list-when doubles true true list Good .0 e in
-    let w = total-whole (sumOf (doubles .format) list) (sum-below-limit (list-passed v .few) (list-allowed v)) (summed .total .ensures) in
+    let l = sum-below-limit (list-passed v .few) (list-allowed v) in
+    let w = sum-whole (sumOf (doubles .format) list) l (summed .total .ensures) in
     graded .grade-words .ensures
     ∙ ap (λ (S : ℤ). gradeAt binary64 S (ofBits binary64 (start .args .claim))) w
     ∙ sym (claim-graded doubles list (start .args .claim) e (is-finite (start .args .claim) (finite .if1 .left)))

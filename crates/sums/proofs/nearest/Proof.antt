@@ -1,6 +1,6 @@
 -- `sums::nearest` meets its contract: the words hold the sum of an allowed list, and are rounded; a refusal is the judge's. Assumes nothing.
 use borrow.Author.Needs.{needs}
-use mathlib.Core.Path.{sym, ap, _∙_}
+use mathlib.Core.Path.{refl, sym, ap, _∙_}
 use mathlib.Core.Bool.{true}
 use Rattle.ieee.specs.Units.{nearestFloat}
 use Rattle.kinds.specs.Limits.{doubles}
@@ -8,7 +8,7 @@ use Rattle.kinds.specs.declared.Nearest.the-variants.{Sum}
 use Rattle.judge.specs.JudgeLaws.{list-when, list-passed, list-allowed}
 use Rattle.kinds.specs.declared.Verdict.the-variants.{Good}
 use Rattle.sums.specs.Sums.{sumOf}
-use Rattle.sums.specs.SumLaws.{sum-below-limit, total-whole}
+use Rattle.sums.specs.SumLaws.{sum-below-limit, sum-whole}
 use Rattle.sums.specs.AnswerLaws.{nearest-good, nearest-refused}
 use Rattle.sums.proofs.nearest.Statement.{statement}
 use Rattle.sums.proofs.nearest.Tie as tie
@@ -29,7 +29,8 @@ total-requires : tie.Need-total-requires
 total-requires c κs =
     let j = c .before .before .before in
     let ps = j .before .before .args .list .now in
-    (search needs, list-allowed (list-when doubles true true ps Good .0 (sym (j .judge .ensures) ∙ c .before .enum-told .given .1)))
+    let v = list-when doubles true true ps Good .0 (sym (j .judge .ensures) ∙ c .before .enum-told .given .1) in
+    (refl, list-allowed v, list-passed v .few)
 
 zero-sign-requires : tie.Need-zero-sign-requires
 zero-sign-requires c κs = search needs
@@ -44,7 +45,7 @@ nearest-double-requires c κs =
     let ps = j .before .before .args .list .now in
     let v = list-when doubles true true ps Good .0 (sym (j .judge .ensures) ∙ t .before .before .enum-told .given .1) in
     let l = sum-below-limit (list-passed v .few) (list-allowed v) in
-    (search needs, rw (total-whole (sumOf (doubles .format) ps) l (t .total .ensures)) l)
+    (search needs, rw (sum-whole (sumOf (doubles .format) ps) l (t .total .ensures)) l)
 
 returns : tie.Need-returns
 returns c =
@@ -60,7 +61,8 @@ returns-2 c =
     let ps = j .before .before .args .list .now in
     let e = sym (j .judge .ensures) ∙ t .before .before .enum-told .given .1 in
     let v = list-when doubles true true ps Good .0 e in
-    let w = total-whole (sumOf (doubles .format) ps) (sum-below-limit (list-passed v .few) (list-allowed v)) (t .total .ensures) in
+    let l = sum-below-limit (list-passed v .few) (list-allowed v) in
+    let w = sum-whole (sumOf (doubles .format) ps) l (t .total .ensures) in
     ap Sum (c .nearest-double .ensures ∙ (λ i. nearestFloat (doubles .format) (z .zero-sign .ensures i) (w i))) ∙ sym (nearest-good doubles ps e)
 
 pub nearest-spec : {M : Type 1} → statement M

@@ -1,6 +1,6 @@
 -- `sums::parts` meets its contract: the words hold the sum of an allowed list and are split into the area; a refusal is the judge's. Assumes nothing.
 use borrow.Author.Needs.{needs}
-use mathlib.Core.Path.{sym, ap, _∙_}
+use mathlib.Core.Path.{refl, sym, ap, _∙_}
 use mathlib.Core.Bool.{true}
 use lib.ListN.{length}
 use lib.IntN.{ℤ}
@@ -9,7 +9,7 @@ use Rattle.kinds.specs.declared.Verdict.the-variants.{Good}
 use Rattle.judge.specs.JudgeLaws.{list-when, list-passed, list-allowed}
 use Rattle.sums.specs.Sums.{sumOf, parts}
 use Rattle.sums.specs.PartsLaws.{remaining}
-use Rattle.sums.specs.SumLaws.{sum-below-limit, total-whole}
+use Rattle.sums.specs.SumLaws.{sum-below-limit, sum-whole}
 use Rattle.sums.specs.AnswerLaws.{parts-refused, parts-answer}
 use Rattle.sums.proofs.parts.Statement.{statement}
 use Rattle.sums.proofs.parts.Tie as tie
@@ -30,7 +30,8 @@ total-requires : tie.Need-total-requires
 total-requires c κs =
     let j = c .before .before .before in
     let ps = j .before .before .before .args .list .now in
-    (search needs, list-allowed (list-when doubles true _ ps Good .0 (sym (j .judge .ensures) ∙ c .before .enum-told .given .1)))
+    let v = list-when doubles true _ ps Good .0 (sym (j .judge .ensures) ∙ c .before .enum-told .given .1) in
+    (refl, list-allowed v, list-passed v .few)
 
 zero-sign-requires : tie.Need-zero-sign-requires
 zero-sign-requires c κs = search needs
@@ -45,7 +46,7 @@ split-requires c κs =
     let ps = j .before .before .before .args .list .now in
     let v = list-when doubles true _ ps Good .0 (sym (j .judge .ensures) ∙ t .before .before .enum-told .given .1) in
     let l = sum-below-limit (list-passed v .few) (list-allowed v) in
-    (search needs, rw (total-whole (sumOf (doubles .format) ps) l (t .total .ensures)) l)
+    (search needs, rw (sum-whole (sumOf (doubles .format) ps) l (t .total .ensures)) l)
 
 slice-aggregate-is-zero : tie.Need-slice-aggregate-is-zero
 slice-aggregate-is-zero c = search needs
@@ -73,7 +74,8 @@ returns-2 c =
     let area = g .args .area .now in
     let e = sym (j .judge .ensures) ∙ t .before .before .enum-told .given .1 in
     let v = list-when doubles true _ ps Good .0 e in
-    let w = total-whole (sumOf (doubles .format) ps) (sum-below-limit (list-passed v .few) (list-allowed v)) (t .total .ensures) in
+    let l = sum-below-limit (list-passed v .few) (list-allowed v) in
+    let w = sum-whole (sumOf (doubles .format) ps) l (t .total .ensures) in
     let zero = z .zero-sign .result in
     parts-answer doubles ps (s .split .last .0) area (s .split .last .1 .0) zero (c .is-zero .result) e (z .zero-sign .ensures)
     (s .split .ensures .0 ∙ ap (λ (y : ℤ). parts (doubles .format) (length area) zero y) w)

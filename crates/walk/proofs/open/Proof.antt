@@ -13,11 +13,11 @@ use Rattle.walk.specs.OpeningLaws.{opened-refused}
 use Rattle.walk.proofs.open.Statement.{statement}
 use Rattle.walk.proofs.open.Tie as tie
 
-judge-requires : tie.Need-judge-requires
-judge-requires c κs = search needs
+measure-requires : tie.Need-measure-requires
+measure-requires c κs = search needs
 
-enum-known-k : tie.Need-enum-known-k
-enum-known-k c = search needs
+enum-known-verdict : tie.Need-enum-known-verdict
+enum-known-verdict c = search needs
 
 enum-told : tie.Need-enum-told
 enum-told c = search needs
@@ -26,14 +26,16 @@ start-requires : tie.Need-start-requires
 start-requires c κs =
     let j = c .before .before .before in
     let ps = j .before .before .before .args .list .now in
-    let v = list-when doubles _ true ps Good .0 (sym (j .judge .ensures) ∙ c .before .enum-told .given .1) in
-    (eqb→eq _ _ (list-passed v .right-area), list-passed v .few, first-good doubles ps .1 (list-allowed v))
+    let good = c .before .enum-told .given .1 in
+    let v = list-when doubles _ true ps Good .0 (sym (j .measure .ensures .0) ∙ good) in
+    (eqb→eq _ _ (list-passed v .right-area), list-passed v .few, first-good doubles ps .1 (list-allowed v), j .measure .ensures .1 good)
 
 returns : tie.Need-returns
 returns c =
     let j = c .before .before .before in
     let g = j .before .before .before in
-    opened-refused doubles (g .args .ensemble) _ _ _ (g .args .list .now) (g .args .work .now) (sym (j .judge .ensures) ∙ c .before .k .given .1)
+    opened-refused doubles (g .args .ensemble) _ _ _ (g .args .list .now) (g .args .work .now)
+    (sym (j .measure .ensures .0) ∙ c .before .verdict .given .1)
 
 same-length : tie.Need-same-length
 same-length c = search needs
@@ -43,8 +45,17 @@ returns-2 c =
     let s = c .before .before in
     let j = s .before .before .before .before in
     let g = j .before .before .before in
-    let e = sym (j .judge .ensures) ∙ s .before .before .enum-told .given .1 in
+    let e = sym (j .measure .ensures .0) ∙ s .before .before .enum-told .given .1 in
     s .start .ensures ∙ ap (λ (v : Verdict). openedAfter doubles (g .args .ensemble) v (g .args .list .now) (g .args .work .now)) (sym e)
 
 pub open-spec : {M : Type 1} → statement M
-open-spec = tie.close (tie.spec judge-requires enum-known-k enum-told start-requires returns same-length returns-2)
+open-spec =
+    tie.close
+    (tie.spec
+    measure-requires
+    enum-known-verdict
+    enum-told
+    start-requires
+    returns
+    same-length
+    returns-2)

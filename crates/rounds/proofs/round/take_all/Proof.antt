@@ -1,12 +1,21 @@
--- `rounds::round::take_all` meets its contract: the extraction is that of the whole area. Assumes nothing.
-use mathlib.Core.Path.{_∙_}
+-- `rounds::round::take_all` meets its contract: the extraction is that of the whole area, and tau in eight sums is tau in one. Assumes nothing.
+use mathlib.Core.Path.{_≡_, sym, ap, _∙_}
+use Prim.Native.Nat.{_+_, _^_, _≤_}
+use native.Mathlib.Omega.{arith}
 use borrow.Author.Needs.{needs}
+use lib.ListN.{length}
+use lib.Ieee.{Float, binary64}
+use Rattle.units.specs.Ceiling.{ceil-ge}
+use Rattle.kinds.specs.Limits.{exponentOf}
+use Rattle.extract.specs.Extract.{gathered}
 use Rattle.rounds.specs.Round.{inRound}
+use Rattle.rounds.specs.Begun.{begun-takable}
+use Rattle.rounds.specs.GroupedSums.{grouped-same}
 use Rattle.rounds.proofs.round.take_all.Statement.{statement}
 use Rattle.rounds.proofs.round.take_all.Tie as tie
 
-extract-requires : tie.Need-extract-requires
-extract-requires c κs = let p = c .before .before .pre in (p .fini, p .positive, p .remainders)
+extract-grouped-requires : tie.Need-extract-grouped-requires
+extract-grouped-requires c κs = let p = begun-takable (c .before .before .pre .1) in (p .fini, p .positive, p .remainders)
 
 in-round-requires : tie.Need-in-round-requires
 in-round-requires c κs = search needs
@@ -16,9 +25,14 @@ same-length c = search needs
 
 returns : tie.Need-returns
 returns c =
-    let s = c .before .before .before .before .before .before .args .s in
-    let e = c .before .before .before .extract .ensures in
-    (c .in-round .ensures ∙ (λ i. inRound s (e .0 i) (e .1 i) 0), e .2)
+    let g = c .before .before .before .before .before .before in
+    let s = g .args .s in
+    let xs = g .args .work .now in
+    let B = g .pre .1 in
+    let e = c .before .before .before .extract-grouped .ensures in
+    let l : length xs ≤ 2 ^ exponentOf (s .n) = omega (arith, B .count, ceil-ge (s .n + 2)) in
+    let t = e .0 ∙ grouped-same (B .scale) xs (B .work) l ∙ ap (λ (t : Float). gathered binary64 (s .sigma) t xs) (sym (B .tau)) in
+    (c .in-round .ensures ∙ (λ i. inRound s (t i) (e .1 i) 0), e .2)
 
 pub take-all-spec : {M : Type 1} → statement M
-take-all-spec = tie.close (tie.spec extract-requires in-round-requires same-length returns)
+take-all-spec = tie.close (tie.spec extract-grouped-requires in-round-requires same-length returns)

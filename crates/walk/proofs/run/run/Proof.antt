@@ -11,7 +11,6 @@ use Rattle.kinds.specs.declared.Step.the-variants.{More}
 use Rattle.extract.specs.Extract.{plusZero}
 use Rattle.extract.specs.ExtractLaws.{remainders-length}
 use Rattle.rounds.specs.Instances.{doubles-fit}
-use Rattle.rounds.specs.Begun.{begun-takable}
 use Rattle.walk.specs.Walk.{roundsFrom}
 use Rattle.walk.specs.Run.{Running, walk-closable, walk-ends, walk-accepted, walk-goes, walk-running, walk-lower}
 use Rattle.walk.proofs.run.run.Statement.{statement}
@@ -30,7 +29,7 @@ loop-holds : tie.Need-loop-holds Inv-loop μ-loop
 loop-holds c = (refl, c .before .pre, refl)
 
 take-all-requires : tie.Need-take-all-requires Inv-loop μ-loop
-take-all-requires c κs = begun-takable (c .before .loop .inv .1 .begun)
+take-all-requires c κs = let R = c .before .loop .inv .1 in (R .e, R .begun)
 
 close-requires : tie.Need-close-requires Inv-loop μ-loop
 close-requires c κs =
