@@ -1,4 +1,4 @@
-// The undivided walk of a list that was judged good. No state leaves it, so that any number will do.
+// The undivided walk of a list that was judged good. No state leaves it, so that any ensemble's number will do.
 use crate::opening;
 use crate::run;
 use kinds::State;
