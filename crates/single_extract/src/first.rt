@@ -19,8 +19,8 @@ pub struct First {
     pub sum: f32,
 }
 
-// Rules WB1 and WS13 for a whole list, as `extract` has them for a block; the list is only read, and its remainders are written. T is added up beside tau, in the
-// same order as `last_sum` does: two chains of additions take no longer than one.
+// Rules WB1 and WS13 for a whole list, as `extract` has them for a block; the list is only read, and its remainders are written. T is added up beside tau, in
+// the same order as `last_sum` does: two chains of additions take no longer than one.
 pub fn from_list(list: &[u32], work: &mut [f32], sigma: f32, tau: f32, largest: f32) -> First
     requires { ⌜
         (length (now work) ≡ length (now list)) × T (finite largest) × (negative largest ≡ false) × Each (λ p. T (not (nanBits binary32 p))) (now list)

@@ -55,7 +55,8 @@ fn turns(work: &mut [f32], sigma: f32, largest: f32) -> Sums
     ensures { λ r. ⌜
         (r .taus ≡ spreads binary32 sigma (now (work .entry)) (length (now (work .entry)) / 8))
         × (now (work .exit)
-        ≡ remainders binary32 sigma (take (8 * (length (now (work .entry)) / 8)) (now (work .entry))) ++ drop (8 * (length (now (work .entry)) / 8)) (now (work .entry)))
+        ≡ remainders binary32 sigma (take (8 * (length (now (work .entry)) / 8)) (now (work .entry)))
+        ++ drop (8 * (length (now (work .entry)) / 8)) (now (work .entry)))
         × Raised binary32 (toBits binary32 largest) (remainders binary32 sigma (take (8 * (length (now (work .entry)) / 8)) (now (work .entry)))) (r .most)
         ⌝ }
 {

@@ -36,7 +36,8 @@ pub fn copy(list: &[u32], work: &mut [f32])
     }
 }
 
-// Rules WO2 and WO3, of an allowed list: its greatest pattern is mu's, as patterns without their sign are in the order of their magnitudes; +0 of an empty list.
+// Rules WO2 and WO3, of an allowed list: its greatest pattern is mu's, as patterns without their sign are in the order of their magnitudes; +0 of an empty
+// list.
 pub fn first(list: &[u32], pattern: u32, ensemble: u32) -> Step
     requires { ⌜ (length (now list) ≤ singles .length) × (firstFault singles (now list) 0 ≡ Good) × (pattern ≡ greatest singles (now list)) ⌝ }
     ensures { λ r. ⌜ wideStep r ≡ firstOf singles ensemble (now (list .entry)) ⌝ }
