@@ -75,10 +75,19 @@ def driver():
     os.makedirs(PLACE, exist_ok=True)
     packages()
     own = ["-isystem", os.path.join(ROOT, "tests", "host"), f"--target={kit.machine()}-unknown-linux-gnu", "-fPIC"]
-    objects = [c_object("gcc", source) for source in ("main", "sums")]
+    objects = [c_object("gcc", source) for source in ("main", "requests", "sums")]
     for source in ("walk", "best"):
         objects += [c_object("gcc", source, "-DCOMPILER=gcc"), c_object(kit.clang(), source, "-DCOMPILER=clang", *own)]
     run(["gcc", *objects, *libraries(), "-lmpfr", "-lgmp", "-o", DRIVER])
+
+
+def singles():
+    """The driver of bench/singles, its path."""
+    os.makedirs(PLACE, exist_ok=True)
+    packages()
+    made = os.path.join(PLACE, "singles")
+    run(["gcc", *(c_object("gcc", source) for source in ("singles", "requests")), libraries()[0], "-lmpfr", "-lgmp", "-o", made])
+    return made
 
 
 def versions():

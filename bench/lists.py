@@ -1,11 +1,12 @@
-"""Seeded lists of doubles whose condition number, the sum of the magnitudes over the magnitude of the exact sum, is known.
+"""Seeded lists of doubles, and of singles, whose condition number, the sum of the magnitudes over the magnitude of the exact sum, is known.
 
     1                 numbers from 1 to 2, all positive: the condition is 1
-    1e8 .. 1e100      half of the numbers have exponents spread evenly from 0 to b and random signs; each of the other half is a random number less the exact
-                      sum so far, rounded to a double, where that number's exponent falls from b to 0. What is left is about 1. The condition of the list is
-                      computed from exact integers, and b is moved until it lies within a factor of 10 of the wanted one. Then the list is shuffled
-    range             exponents spread evenly over the whole range that a list may have, 2^-1074 to 2^1000, random signs: little cancels
-    range, cancelled  as 1e8 .. 1e100 with exponents from -1000 to 985: about 1e600 where the list is long enough
+    1e4 .. 1e100      half of the numbers have exponents spread evenly from 0 (of singles -40) to b and random signs; each of the other half is a random
+                      number less the exact sum so far, rounded to the format, where that number's exponent falls from b to 0. What is left is about 1. The
+                      condition of the list is computed from exact integers, and b is moved until it lies within a factor of 10 of the wanted one. Then the
+                      list is shuffled
+    range             exponents spread evenly over the whole range that a list may have, of doubles 2^-1074 to 2^1000, random signs: little cancels
+    range, cancelled  as 1e4 .. 1e100 with exponents from -1000 to 985, of singles from -100 to 85: about 1e600 and 1e55 where the list is long enough
     restarts          five times pairs of opposite numbers with 20 digits, each time 60 places below the last, and 60 below those numbers that don't cancel. A
                       round takes the largest pairs whole, and its sum is zero; what is below them it leaves as it was: the first five rounds restart
 
@@ -15,12 +16,40 @@ import math
 import random
 import struct
 
-LENGTHS = (16, 64, 1000, 4094)
-CONDITIONS = ("1", "1e8", "1e16", "1e32", "1e64", "1e100", "range", "range, cancelled", "restarts")
 RESTARTS, DEPTH = 5, 60
-LISTS = {16: 64, 64: 32, 1000: 4, 4094: 2}  # how many lists a case has: a branch predictor knows one short list by heart
-REPETITIONS = {16: 60, 64: 30, 1000: 15, 4094: 6}  # of a case in one sweep
 UNIT = 2**1074
+
+
+def double(whole):
+    """The double nearest to so many units; Python divides integers correctly rounded."""
+    return whole / UNIT
+
+
+def single(whole):
+    """A single next to so many units. It is the nearest but where the double nearest to them lies between two singles."""
+    return struct.unpack("f", struct.pack("f", double(whole)))[0]
+
+
+class Width:
+    """What lists of a format are made of: its letter for Python's struct, the digits behind a significand's first one, its rounding, the least exponent of
+    a list with a wanted condition, the exponents of the two cases of the whole range, and the lengths and conditions that are timed, with how many lists a case has (a branch predictor knows one short list by heart) and
+    how many repetitions in one sweep."""
+
+    def __init__(self, letter, digits, rounded, least, whole, wide, conditions, lengths):
+        self.letter, self.digits, self.rounded, self.least, self.whole, self.wide, self.conditions = letter, digits, rounded, least, whole, wide, conditions
+        self.lists = {n: lists for n, (lists, _) in lengths.items()}
+        self.repetitions = {n: times for n, (_, times) in lengths.items()}
+
+
+DOUBLES = Width(
+    "d", 52, double, 0, (-1074, 999), (-1000, 985), ("1", "1e8", "1e16", "1e32", "1e64", "1e100", "range", "range, cancelled", "restarts"),
+    {16: (64, 60), 64: (32, 30), 1000: (4, 15), 4094: (2, 6)},
+)
+SINGLES = Width(
+    "f", 23, single, -40, (-149, 99), (-100, 85), ("1", "1e4", "1e8", "1e16", "1e32", "range", "range, cancelled"),
+    {16: (64, 60), 64: (32, 30), 1000: (4, 15), 2046: (2, 12)},
+)
+LENGTHS, CONDITIONS, LISTS, REPETITIONS = tuple(DOUBLES.lists), DOUBLES.conditions, DOUBLES.lists, DOUBLES.repetitions
 
 
 def units(x):
@@ -29,22 +58,17 @@ def units(x):
     return over * (UNIT // under)
 
 
-def double(whole):
-    """The double nearest to so many units; Python divides integers correctly rounded."""
-    return whole / UNIT
-
-
-def number(rng, exponent):
+def number(rng, exponent, width):
     """A random sign and significand."""
-    return rng.choice((-1, 1)) * math.ldexp(rng.randrange(2**52, 2**53), exponent - 52)
+    return rng.choice((-1, 1)) * math.ldexp(rng.randrange(2**width.digits, 2 ** (width.digits + 1)), exponent - width.digits)
 
 
-def cancelled(rng, n, low, high):
-    numbers = [number(rng, e) for e in [high, low] + [rng.randint(low, high) for _ in range(n // 2 - 2)]]
+def cancelled(rng, n, low, high, width):
+    numbers = [number(rng, e, width) for e in [high, low] + [rng.randint(low, high) for _ in range(n // 2 - 2)]]
     total = sum(map(units, numbers))
     steps = n - len(numbers)
     for k in range(steps):
-        x = double(units(number(rng, high - (high - low) * k // max(steps - 1, 1))) - total)
+        x = width.rounded(units(number(rng, high - (high - low) * k // max(steps - 1, 1), width)) - total)
         numbers.append(x)
         total += units(x)
     rng.shuffle(numbers)
@@ -54,7 +78,7 @@ def cancelled(rng, n, low, high):
 def restarting(rng, n):
     pairs = n // (RESTARTS + 1) // 2
     halves = [math.ldexp(rng.randrange(2**19, 2**20), DEPTH * (RESTARTS - k)) for k in range(RESTARTS) for _ in range(pairs)]
-    numbers = halves + [-x for x in halves] + [number(rng, 0) for _ in range(n - 2 * len(halves))]
+    numbers = halves + [-x for x in halves] + [number(rng, 0, DOUBLES) for _ in range(n - 2 * len(halves))]
     rng.shuffle(numbers)
     return numbers
 
@@ -65,11 +89,11 @@ def condition(numbers):
     return math.log10(sum(map(abs, whole))) - math.log10(abs(sum(whole)))
 
 
-def conditioned(rng, n, wanted):
+def conditioned(rng, n, wanted, width):
     """A list with a condition number within a factor of 10 of 10^wanted."""
     bits = wanted / math.log10(2)
     for _ in range(200):
-        numbers = cancelled(rng, n, 0, max(round(bits), 1))
+        numbers = cancelled(rng, n, width.least, width.least + max(round(bits), 1), width)
         off = condition(numbers) - wanted
         if abs(off) < 1:
             return numbers
@@ -77,35 +101,35 @@ def conditioned(rng, n, wanted):
     raise SystemExit(f"bench: no list of {n} numbers with condition 1e{wanted} was found")
 
 
-def one(rng, n, name):
+def one(rng, n, name, width):
     if name == "1":
-        return [rng.uniform(1, 2) for _ in range(n)]
+        return [width.rounded(units(rng.uniform(1, 2))) for _ in range(n)]
     if name == "range":
-        return [number(rng, rng.randint(-1074, 999)) for _ in range(n)]
+        return [width.rounded(units(number(rng, rng.randint(*width.whole), width))) for _ in range(n)]
     if name == "range, cancelled":
-        return cancelled(rng, n, -1000, 985)
+        return cancelled(rng, n, *width.wide, width)
     if name == "restarts":
         return restarting(rng, n)
-    return conditioned(rng, n, int(name[2:]))
+    return conditioned(rng, n, int(name[2:]), width)
 
 
-def cases(seed):
+def cases(seed, width=DOUBLES):
     """Every case: n, the name of its condition, its lists, and the least and the greatest decimal exponent of their conditions."""
-    for n in LENGTHS:
-        for name in CONDITIONS:
+    for n, count in width.lists.items():
+        for name in width.conditions:
             rng = random.Random(f"{seed} {n} {name}")
-            lists = [one(rng, n, name) for _ in range(LISTS[n])]
+            lists = [one(rng, n, name, width) for _ in range(count)]
             reached = [condition(numbers) for numbers in lists]
             yield n, name, lists, (min(reached), max(reached))
 
 
-def write(path, made):
-    """The file that main.c and fsum.py read: n, how many lists, and their patterns."""
+def write(path, made, width=DOUBLES):
+    """The file that main.c, singles.c and fsum.py read: n, how many lists, and their patterns."""
     with open(path, "wb") as f:
         for n, _, lists, _ in made:
             f.write(struct.pack("=QQ", n, len(lists)))
             for numbers in lists:
-                f.write(struct.pack(f"={n}d", *numbers))
+                f.write(struct.pack(f"={n}{width.letter}", *numbers))
 
 
 def read(path):

@@ -1,34 +1,19 @@
-/* Times the sums on lists from a file, for bench/run.
-
-   The file holds cases: n, how many lists, and their patterns, all in 64-bit numbers of this machine. Each line of standard input is a request, and one line
-   answers it:
-
-       time K R     R repetitions of every sum on case K, one after the other in each repetition: the least time of each, in ns for one list
-       once K S     the sum S on every list of case K, once, for a program that counts instructions; no sum where S is below 0
-       check K 0    compares all answers on case K, and prints 'ok' and the nearest sums, or what differs
-
-   A repetition goes once through all lists of a case. Work areas are not cleared before a call. */
+/* Times the sums of doubles on lists from a file, for bench/run. requests.h has the form of the file and of the requests; a check prints the nearest sums behind
+   its 'ok'. Work areas are not cleared before a call. */
 #include <inttypes.h>
 #include <stdio.h>
 #include <stdlib.h>
-#include <time.h>
 
+#include "requests.h"
 #include "sums.h"
 
-/* One case. */
-struct suite {
-    size_t n, count;
-    uint64_t *patterns;
-};
-
-/* ---- lists */
 static struct list *lists_of(const struct suite *s)
 {
     struct list *lists = calloc(s->count, sizeof *lists);
     for (size_t k = 0; k < s->count; k++) {
         struct list *l = &lists[k];
         l->n = s->n;
-        l->patterns = s->patterns + k * s->n;
+        l->patterns = (const uint64_t *)s->patterns + k * s->n;
         l->numbers = calloc(s->n, sizeof *l->numbers);
         l->pointers = calloc(s->n, sizeof *l->pointers);
         for (size_t i = 0; i < s->n; i++) {
@@ -51,39 +36,7 @@ static void release(struct list *lists, size_t count)
     free(lists);
 }
 
-/* ---- the requests */
 static volatile double sink;
-
-static uint64_t now(void)
-{
-    struct timespec t;
-    clock_gettime(CLOCK_MONOTONIC, &t);
-    return (uint64_t)t.tv_sec * 1000000000u + (uint64_t)t.tv_nsec;
-}
-
-static void time_all(struct list *lists, size_t count, long repetitions)
-{
-    uint64_t least[SUMS];
-    memset(least, 0xFF, sizeof least);
-    for (long r = 0; r < repetitions; r++)
-        for (int s = 0; s < SUMS; s++) {
-            uint64_t began = now(), took;
-            for (size_t k = 0; k < count; k++)
-                sink = sums[s](&lists[k]);
-            took = now() - began;
-            if (took < least[s])
-                least[s] = took;
-        }
-    for (int s = 0; s < SUMS; s++)
-        printf("%.3f%c", (double)least[s] / (double)count, s + 1 < SUMS ? ' ' : '\n');
-}
-
-static void once(struct list *lists, size_t count, long s)
-{
-    for (size_t k = 0; k < count && s >= 0 && s < SUMS; k++)
-        sink = sums[s](&lists[k]);
-    printf("ok\n");
-}
 
 typedef struct answer walk_in_c(const uint64_t *, size_t, double *, size_t);
 
@@ -165,54 +118,38 @@ static const char *differs(const struct list *l)
     return lanes_differ(l);
 }
 
-static void check(const struct list *lists, size_t count)
+/* ---- the requests */
+static struct list *lists;
+
+static void begin(const struct suite *s)
 {
-    for (size_t k = 0; k < count; k++) {
-        const char *what = differs(&lists[k]);
-        if (what) {
-            printf("list %zu: %s differs\n", k, what);
-            return;
-        }
-    }
-    printf("ok");
-    for (size_t k = 0; k < count; k++)
-        printf(" %016" PRIX64, kewohiata_pattern(nearest(&lists[k])));
-    printf("\n");
+    lists = lists_of(s);
 }
 
-static struct suite *load(const char *name, size_t *count)
+static void end(const struct suite *s)
 {
-    struct suite *suites = NULL;
-    uint64_t head[2];
-    FILE *f = fopen(name, "rb");
-    *count = 0;
-    while (f && fread(head, sizeof head, 1, f) == 1) {
-        struct suite s = {head[0], head[1], malloc(8 * head[0] * head[1])};
-        if (s.n > LENGTH || !s.patterns || fread(s.patterns, 8 * s.n, s.count, f) != s.count)
-            exit(2);
-        suites = realloc(suites, (*count + 1) * sizeof *suites);
-        suites[(*count)++] = s;
-    }
-    return suites;
+    release(lists, s->count);
+}
+
+static void call(size_t sum, size_t k)
+{
+    sink = sums[sum](&lists[k]);
+}
+
+static const char *compare(size_t k)
+{
+    return differs(&lists[k]);
+}
+
+static uint64_t told_sum(size_t k)
+{
+    return kewohiata_pattern(nearest(&lists[k]));
 }
 
 int main(int argc, char **argv)
 {
-    char verb[16];
-    size_t count, k;
-    long repetitions;
-    struct suite *suites = load(argc > 1 ? argv[1] : "", &count);
+    static const struct driver driver = {sizeof(uint64_t), LENGTH, SUMS, begin, end, call, compare, told_sum};
     mpfr_init2(result, 53);
-    setvbuf(stdout, NULL, _IOLBF, 0);
-    while (scanf("%15s %zu %ld", verb, &k, &repetitions) == 3 && k < count) {
-        struct list *lists = lists_of(&suites[k]);
-        if (strcmp(verb, "time") == 0)
-            time_all(lists, suites[k].count, repetitions);
-        else if (strcmp(verb, "once") == 0)
-            once(lists, suites[k].count, repetitions);
-        else
-            check(lists, suites[k].count);
-        release(lists, suites[k].count);
-    }
+    answer_requests(argc > 1 ? argv[1] : "", &driver);
     return 0;
 }

@@ -19,7 +19,7 @@ def patterns(seed):
     yield from samples.lists()
     chance = random.Random(seed)
     for _ in range(BATCHES):
-        for n in drawn.lengths(chance):
+        for n in drawn.lengths(chance, exact.LENGTH):
             yield chance.choice(drawn.SHAPES)(chance, n)
 
 

@@ -5,21 +5,25 @@
  * Numbers (rules L4 and L5). A number is given as its IEEE 754 binary64 pattern: kewohiata_pattern and kewohiata_double go between the two. A list has at
  * most 4,094 numbers, none beyond 2^1000 in magnitude; of pairs, whose products are taken, there are at most 2,047 (rules M1 and M2).
  *
+ * Singles (rules Y1 and Y2). The four calls kewohiata_single_.. take binary32 patterns, in 32-bit numbers, of at most 2,046 numbers, none beyond 2^100 in
+ * magnitude; what is said of doubles and of their limits is said of singles and theirs there.
+ *
  * Codes (rule C3). Each call returns 0, or the number of a refusal plus 32 * (place + 1) where a place is told: kewohiata_refusal and kewohiata_place take a
  * code apart. A refused call writes nothing. Beside a call stands the order in which its refusals are told where more than one holds; docs/REFUSALS.md has
  * all of it.
  *
  * Floating-point environment (rule C12). The calls of the walk add doubles: kewohiata_faithful, kewohiata_walk_open, kewohiata_walk_step and
- * kewohiata_walk_faithful. Those on pairs multiply and add them: kewohiata_pairs_products and kewohiata_pairs_nearest. They need the calling thread to round to
- * nearest, to keep subnormal results (no flush-to-zero) and to read subnormal operands as they are (no denormals-as-zero), and to trap no floating-point
- * exception; else they may return 0 with a wrong sum or product. A program that was linked with -Ofast or -ffast-math may start with both switched on: ask
- * kewohiata_environment once per thread, before the first of these calls. All other calls work on whole numbers, make doubles by their bits, and answer the
- * same in every environment: nearest, parts, grades, registers, lanes, weights, sheets.
+ * kewohiata_walk_faithful; or singles: kewohiata_single_open, kewohiata_single_step and kewohiata_single_faithful. Those on pairs multiply and add doubles:
+ * kewohiata_pairs_products and kewohiata_pairs_nearest. They need the calling thread to round to nearest, to keep subnormal results (no flush-to-zero) and
+ * to read subnormal operands as they are (no denormals-as-zero), and to trap no floating-point exception; else they may return 0 with a wrong sum or
+ * product. A program that was linked with -Ofast or -ffast-math may start with both switched on: ask kewohiata_environment once per thread, before the first
+ * of these calls. All other calls work on whole numbers, make doubles and singles by their bits, and answer the same in every environment: nearest, parts,
+ * grades, registers, lanes, weights, sheets.
  *
  * Outside the contract (rule C8), and nothing is promised of such a call: a null pointer (also with length 0), a length that isn't the array's, an array
- * that is not readable or not writable as its type says, an array of uint64_t, int64_t or double that isn't aligned as its type is, two arrays of a call
- * that overlap (but for the two of a merge, and of a call on pairs, that are only read, which may be one), an array that something else writes to during the
- * call, and a call of the walk or on pairs in another floating-point environment than the one above.
+ * that is not readable or not writable as its type says, an array of uint32_t, uint64_t, int64_t, float or double that isn't aligned as its type is, two
+ * arrays of a call that overlap (but for the two of a merge, and of a call on pairs, that are only read, which may be one), an array that something else
+ * writes to during the call, and a call of the walk or on pairs in another floating-point environment than the one above.
  *
  * The calls keep no state between each other, allocate nothing and may run at the same time on different arrays. A call takes a time that grows as n, the
  * list's length, where nothing else stands beside it. */
@@ -35,15 +39,15 @@ extern "C" {
 #endif
 
 /* Below 1.0.0 calls may be added, and their forms and answers may still change; the second number tells it. */
-#define KEWOHIATA_VERSION "0.12.0"
-enum { KEWOHIATA_VERSION_MAJOR = 0, KEWOHIATA_VERSION_MINOR = 12, KEWOHIATA_VERSION_PATCH = 0 };
+#define KEWOHIATA_VERSION "0.13.0"
+enum { KEWOHIATA_VERSION_MAJOR = 0, KEWOHIATA_VERSION_MINOR = 13, KEWOHIATA_VERSION_PATCH = 0 };
 
 /* The refusals, rules R1 to R25. A code has room for numbers up to 31; those above 25 are kept for later ones. */
 enum kewohiata_refusals {
     KEWOHIATA_ACCEPTED = 0,
-    KEWOHIATA_TOO_MANY = 1,          /* more than 4,094 numbers, or more than 2,047 of pairs */
+    KEWOHIATA_TOO_MANY = 1,          /* more than 4,094 numbers, or more than 2,047 of pairs, or more than 2,046 singles */
     KEWOHIATA_NOT_FINITE = 2,        /* a NaN or infinity; its place is told */
-    KEWOHIATA_TOO_LARGE = 3,         /* a finite number of magnitude above 2^1000 (pattern 7E70000000000000); its place is told */
+    KEWOHIATA_TOO_LARGE = 3,         /* a finite number above 2^1000 in magnitude (pattern 7E70000000000000), or a single above 2^100 (71800000); its place is told */
     KEWOHIATA_WRONG_LENGTH = 4,      /* an array, but for that of the parts, has not the length that the call asks for */
     KEWOHIATA_WRONG_PARTS = 5,       /* no part, or more than 8 */
     KEWOHIATA_NO_SUCH_BLOCK = 6,     /* the list has no block of that number */
@@ -75,7 +79,7 @@ enum kewohiata_lengths {
     KEWOHIATA_PAIRS_MOST = 2047,        /* pairs, at most: they make two numbers each */
     KEWOHIATA_BLOCK = 64,               /* numbers of a block; a list's last may have fewer */
     KEWOHIATA_STATE = 10,               /* numbers of a state */
-    KEWOHIATA_FAITHFUL = 2,             /* numbers that kewohiata_walk_faithful writes: pattern, rounds */
+    KEWOHIATA_FAITHFUL = 2,             /* numbers that kewohiata_walk_faithful and _single_faithful write: pattern, rounds */
     KEWOHIATA_VALUE = 1,                /* numbers of `out` where a call tells one: nearest, parts, grade, round, lanes, pairs_nearest, sheet_read, sheet_write */
     KEWOHIATA_REPORT = 4,               /* numbers that kewohiata_sheet_rescue reports */
     KEWOHIATA_SUM_BYTES = 16,           /* bytes of a sum of the calls on bytes */
@@ -85,6 +89,8 @@ enum kewohiata_lengths {
     KEWOHIATA_CALLS_MOST = 1073741824,  /* additions and withdrawals that lanes take before they are settled, at most: 2^30 */
     KEWOHIATA_PARTS_MOST = 8,           /* parts of a sum, at most */
     KEWOHIATA_ROUNDS_MOST = 51,         /* rounds of a walk, at most */
+    KEWOHIATA_SINGLES_MOST = 2046,      /* singles of a list, at most */
+    KEWOHIATA_SINGLE_ROUNDS_MOST = 20,  /* rounds of a walk on singles, at most */
     KEWOHIATA_SHEET_HEADER = 5,         /* bytes of a sheet before its numbers, of 8 bytes each */
     KEWOHIATA_SHEET_BYTES_MOST = 32757  /* bytes of a sheet, at most */
 };
@@ -137,6 +143,21 @@ static inline double kewohiata_double(uint64_t pattern)
     return x;
 }
 
+/* The same for a single. */
+static inline uint32_t kewohiata_single_pattern(float x)
+{
+    uint32_t pattern;
+    memcpy(&pattern, &x, sizeof pattern);
+    return pattern;
+}
+
+static inline float kewohiata_single(uint32_t pattern)
+{
+    float x;
+    memcpy(&x, &pattern, sizeof x);
+    return x;
+}
+
 /* A code's refusal, 0 for an accepted call; whether it tells a place; and that place, counted from 0, where it does. */
 static inline uint32_t kewohiata_refusal(uint32_t code)
 {
@@ -169,7 +190,7 @@ static inline int kewohiata_adds(uint64_t a, uint64_t b, uint64_t sum)
 }
 
 /* 1 where rounding and subnormal numbers are in the calling thread as the calls of the walk need them, else 0; exceptions that are trapped it can't tell. It may
- * raise the flags inexact and underflow. */
+ * raise the flags inexact and underflow. It adds doubles: what it asks about is one setting of the thread for both widths. */
 static inline int kewohiata_environment(void)
 {
     const uint64_t sign = (uint64_t)1 << 63, one = (uint64_t)0x3FF << 52, half = (uint64_t)0x3CA << 52, least_normal = (uint64_t)1 << 52;
@@ -223,6 +244,27 @@ uint32_t kewohiata_list_parts(const uint64_t *list, size_t list_length, double *
  * claim: its pattern, of any finite double, also beyond 2^1000; -0 counts as zero. out: 1 number, a grade.
  * Refusals: 1; 4; 2 or 3 of the lowest bad place; 20. */
 uint32_t kewohiata_list_grade(const uint64_t *list, size_t list_length, uint64_t claim, uint64_t *out, size_t out_length);
+
+/* ---- sums of singles (rules Y1 to Y6), on the caller's own arrays. list: binary32 patterns, at most 2,046. What a call answers, its refusals and their
+ * order are those of the call on doubles, with the limits of singles. */
+
+/* Opens a walk by blocks on singles, as kewohiata_walk_open. work: n floats. state: the same 10 numbers, with 32-bit patterns in them.
+ * Refusals: 1; 4; 2 or 3 of the lowest bad place. Needs the environment above. */
+uint32_t kewohiata_single_open(const uint32_t *list, size_t list_length, float *work, size_t work_length, uint64_t *state, size_t state_length,
+                               uint32_t ensemble);
+
+/* Takes one block, as kewohiata_walk_step. A pattern above 32 bits among the state's sigma, t, tau and largest remainder is 8 (rule Y6).
+ * Refusals: 4; 21; 8; 18; 19 of the lowest place at fault; 6; 7. Needs the environment above. Time: as there. */
+uint32_t kewohiata_single_step(uint64_t *state, size_t state_length, float *work, size_t work_length, size_t block, uint32_t ensemble);
+
+/* The faithful sum of singles (rule Y5): no single lies strictly between it and the exact sum, and where that is a single it is that one.
+ * work: n floats, which hold remainders afterwards. out: 2 numbers, the sum's pattern and the rounds, 0 to 20.
+ * Refusals: 1; 4; 2 or 3 of the lowest bad place. Needs the environment above. Time: n for each round. */
+uint32_t kewohiata_single_faithful(const uint32_t *list, size_t list_length, float *work, size_t work_length, uint64_t *out, size_t out_length);
+
+/* The nearest sum of singles (rule Y5): no single is nearer to the exact sum, at a tie the one with the even significand. out: 1 number, the sum's pattern.
+ * Refusals: 1; 4; 2 or 3 of the lowest bad place. */
+uint32_t kewohiata_single_nearest(const uint32_t *list, size_t list_length, uint64_t *out, size_t out_length);
 
 /* ---- a register: 33 words, the lowest first, a whole number of units of 2^-1074 in two's complement; 33 zeros are the empty one. Time: that of 33 words. */
 

@@ -6,7 +6,8 @@
 The header is compiled as C99 and C++11 by the kit's compiler, and by gcc and g++ where they are, with every warning an error; its names are held to numbers
 written here. Then tests/host/environment.c is built unoptimised, optimised and with fast mathematics, and asked in each environment: kewohiata_environment
 has to say yes to round to nearest with subnormals and no to every other, and the calls on whole numbers have to answer what exact integers do in all of them.
-That the sums of the walk, and the products of pairs, are wrong in some is shown too: it is why the question is there. Under gcc's -Ofast the program starts in such an environment.
+That the sums of the walk, at both widths, and the products of pairs, are wrong in some is shown too: it is why the question is there. Under gcc's -Ofast the
+program starts in such an environment.
 """
 import itertools
 import os
@@ -26,6 +27,7 @@ import grades  # noqa: E402
 import kit  # noqa: E402
 import samples  # noqa: E402
 import weighted  # noqa: E402
+import widths  # noqa: E402
 
 ROOT = built.ROOT
 PLACE = os.path.join(ROOT, "target", "environment")
@@ -47,9 +49,10 @@ ENVIRONMENTS = {
 }
 GOOD = {"as usual", "with flags raised"}
 ENVIRONMENT, NEAREST, ADD, WITHDRAW, FAITHFUL, LIST_NEAREST, WORDS_ROUND, PARTS, WALK, READ, HAND_ON, WRITE, MERGE, GRADE, STEP, RESCUE, PAIRED, LANED = range(18)
+SINGLE_NEAREST, SINGLE_FAITHFUL, SINGLE_WALK, SINGLE_STEP = range(18, 22)
 
-TINY = [exact.ONE, 0x36EB6, exact.ONE | exact.SIGN]
 LISTS = 150
+SUBNORMAL = 0x36EB6  # at both widths
 WEIGHTS = [0x3E28000000000000, 0, 0x3E10000000000000, 0x3E10000000000000, 0x3FEFFFFFFD800000]  # those of tests/host/environment.c
 
 # the header's names: a refusal's number, a length, a place in a walk's ten numbers, the version
@@ -60,14 +63,16 @@ NAMES = {
     "OTHER_ENSEMBLE": 21, "LENGTHS_DIFFER": 22, "FACTOR_OUTSIDE": 23, "TOO_MANY_CALLS": 24, "NO_ROOM": 25, "LANES": 66, "CALLS_MOST": 2**30,
     "GRADE_EXACT": 0, "GRADE_NEAREST": 1, "GRADE_FAITHFUL": 2, "GRADE_WRONG": 3, "LIST_MOST": 4094, "LIST_BYTES_MOST": 32752, "PAIRS_MOST": 2047,
     "BLOCK": 64, "STATE": 10, "FAITHFUL": 2, "VALUE": 1, "SUM_BYTES": 16, "WORDS": 33, "REGISTER_BYTES": 264, "PARTS_MOST": 8,
-    "ROUNDS_MOST": 51, "SHEET_HEADER": 5, "SHEET_BYTES_MOST": 32757, "ACCEPTED": 0, "MORE": 1, "DONE": 2, "STATE_KIND": 0, "STATE_SIGMA": 1, "STATE_T": 2,
+    "SINGLES_MOST": 2046, "SINGLE_ROUNDS_MOST": 20, "ROUNDS_MOST": 51, "SHEET_HEADER": 5, "SHEET_BYTES_MOST": 32757, "ACCEPTED": 0, "MORE": 1,
+    "DONE": 2, "STATE_KIND": 0, "STATE_SIGMA": 1, "STATE_T": 2,
     "STATE_TAU": 3, "STATE_N": 4, "STATE_PENDING": 5, "STATE_ROUNDS": 6, "STATE_ENSEMBLE": 7, "STATE_LARGEST": 8, "STATE_TOLD": 9, "DONE_SUM": 1,
-    "DONE_ROUNDS": 2, "VERSION_MAJOR": 0, "VERSION_MINOR": 12, "VERSION_PATCH": 0, "REPORT": 4, "REPORT_WRITTEN": 0, "REPORT_TAKEN": 1, "REPORT_MISSING": 2,
+    "DONE_ROUNDS": 2, "VERSION_MAJOR": 0, "VERSION_MINOR": 13, "VERSION_PATCH": 0, "REPORT": 4, "REPORT_WRITTEN": 0, "REPORT_TAKEN": 1, "REPORT_MISSING": 2,
     "REPORT_OVER": 3, "MARK_KEPT": 0, "MARK_NOT_FINITE": 1, "MARK_TOO_LARGE": 2,
 }  # fmt: skip
 
 DIFFERENCES = []
-COUNTS = {"compilations": 0, "answers": 0, "wrong sums of the walk": 0, "wrong products": 0}
+WRONG = {width: f"wrong {width.name} sums of the walk" for width in (widths.DOUBLES, widths.SINGLES)}
+COUNTS = {"compilations": 0, "answers": 0, **{wrong: 0 for wrong in WRONG.values()}, "wrong products": 0}
 
 
 def expect(name, held, *more):
@@ -87,6 +92,8 @@ def uses():
     for condition in (
         "kewohiata_pattern(-1.5) == 0xBFF8000000000000u",
         "kewohiata_pattern(kewohiata_double(0x36EB6)) == 0x36EB6",
+        "kewohiata_single_pattern(-1.5f) == 0xBFC00000u",
+        "kewohiata_single_pattern(kewohiata_single(0x36EB6)) == 0x36EB6",
         "kewohiata_refusal(0) == KEWOHIATA_ACCEPTED && !kewohiata_tells_place(0)",
         "kewohiata_refusal(4) == KEWOHIATA_WRONG_LENGTH && !kewohiata_tells_place(4)",
         "kewohiata_refusal(34) == KEWOHIATA_NOT_FINITE && kewohiata_tells_place(34) && kewohiata_place(34) == 0",
@@ -148,15 +155,17 @@ def answers(program, prefix, requests):
     return [(one[0], one[1], list(one[2:])) for one in numbers]
 
 
-def lists(chance):
+def lists(chance, of=samples.DOUBLES):
     """Lists of tiny numbers, of clock size and of every size, and some where a bit of a direction shows."""
-    yield TINY
+    w = of.width
+    one, sign, half = w.one, w.sign, w.two_to(-w.precision)
+    yield [one, SUBNORMAL, one | sign]
     yield [1, 1]
-    yield [exact.ONE, 0x3CA0000000000000, 1]
-    yield [exact.ONE | exact.SIGN, 0xBCA0000000000000, exact.SIGN | 1]
+    yield [one, half, 1]
+    yield [one | sign, sign | half, sign | 1]
     for k in range(LISTS):
-        yield [chance.getrandbits(50) | chance.getrandbits(1) << 63 for _ in range(chance.randrange(2, 9))]
-        yield samples.filled(chance.randrange(2, 70), 0, samples.seed(3, k))
+        yield [chance.getrandbits(w.precision - 3) | sign * chance.getrandbits(1) for _ in range(chance.randrange(2, 9))]
+        yield of.filled(chance.randrange(2, 70), 0, samples.seed(3, k))
 
 
 def whole(numbers, sign):
@@ -170,6 +179,8 @@ def wanted(call, numbers):
     """The values of a call on whole numbers, from the first on."""
     if call in (NEAREST, LIST_NEAREST):
         return [exact.nearest_sum(numbers)]
+    if call == SINGLE_NEAREST:
+        return [exact.SINGLES.nearest_sum(numbers)]
     if call == WORDS_ROUND:
         return [whole(numbers, 1).round()]
     if call == HAND_ON:
@@ -197,6 +208,10 @@ def wanted(call, numbers):
 def check_calls(name, program, prefix, some):
     """The calls on whole numbers answer the same everywhere; the walk's are counted where they are wrong."""
     calls = [NEAREST, ADD, WITHDRAW] + [LIST_NEAREST, WORDS_ROUND, PARTS, READ, HAND_ON, WRITE, MERGE, GRADE, RESCUE, LANED]
+    check_whole(name, program, prefix, some, calls)
+
+
+def check_whole(name, program, prefix, some, calls):
     right = {(call, k): wanted(call, numbers) for call in calls for k, numbers in enumerate(some)}
     for what, control in ENVIRONMENTS.items():
         asked = [(call, k) for call in calls for k in range(len(some))]
@@ -206,39 +221,42 @@ def check_calls(name, program, prefix, some):
             expect(f"{name}, {what}: call {call}", held, [f"{p:016X}" for p in some[k]], code, [f"{v:X}" for v in values[: len(expected)]])
 
 
-# sigma, t, and the sigma that rule W4 goes on with: 2^-51 times the first, below the least normal number
-SCALED = [(0x032 << 52, 1 << 52, 0x0004000000000000), (0x033 << 52, 2 << 52, 0x0008000000000000)]
+# sigma, t, and the sigma that rule W4 goes on with: 2^-51 times the first, below the least normal number; in binary32 2^-22 times
+SCALED = {
+    STEP: [(0x032 << 52, 1 << 52, 0x0004000000000000), (0x033 << 52, 2 << 52, 0x0008000000000000)],
+    SINGLE_STEP: [(0x15 << 23, 1 << 23, 0x00200000), (0x16 << 23, 2 << 23, 0x00400000)],
+}
 
 
-def check_scaled(name, program, prefix):
+def check_scaled(name, program, prefix, call):
     """Rule F4: a sigma is scaled without an operation on doubles, so that it is right where subnormal results are flushed too."""
     nearest = {what: control for what, control in ENVIRONMENTS.items() if not control & (DOWN | UP)}
-    asked = [(what, control, sigma, t, scaled) for what, control in nearest.items() for sigma, t, scaled in SCALED]
-    for (what, _, sigma, t, scaled), (_, code, values) in zip(asked, answers(program, prefix, [(one[1], STEP, [one[2], one[3]]) for one in asked])):
+    asked = [(what, control, sigma, t, scaled) for what, control in nearest.items() for sigma, t, scaled in SCALED[call]]
+    for (what, _, sigma, t, scaled), (_, code, values) in zip(asked, answers(program, prefix, [(one[1], call, [one[2], one[3]]) for one in asked])):
         expect(f"{name}, {what}: scaled", (code, values[:10]) == (0, [1, scaled, t, 0, 1, 1, 1, 0, 0, 0]), f"{sigma:016X}", code, [f"{v:X}" for v in values[:10]])
 
 
-def is_faithful(pattern, numbers):
-    """No double strictly between the sum and the exact sum, and the exact sum where that is one."""
-    total = sum(map(exact.units, numbers))
-    here, near = exact.units(pattern), exact.nearest(total)
-    if exact.units(near) == total:
+def is_faithful(pattern, numbers, sums=exact.DOUBLES):
+    """No number of the format strictly between the sum and the exact sum, and the exact sum where that is one."""
+    total = sum(map(sums.units, numbers))
+    here, near = sums.units(pattern), sums.nearest(total)
+    if sums.units(near) == total:
         return pattern == near
-    beside = [exact.units(near + step) for step in (-1, 0, 1)]  # the doubles around a sum that is none and isn't near zero
+    beside = [sums.units(near + step) for step in (-1, 0, 1)]  # the numbers around a sum that is none and isn't near zero
     return here in beside and not any(min(here, total) < other < max(here, total) for other in beside)
 
 
-def check_walk(name, program, prefix, some):
+def check_walk(name, program, prefix, some, calls=(FAITHFUL, WALK), sums=exact.DOUBLES):
     """In the usual environment every sum is faithful; with both switches on, the first list's is 0 in one round."""
-    for call, (what, control) in itertools.product([FAITHFUL, WALK], ENVIRONMENTS.items()):
+    for call, (what, control) in itertools.product(calls, ENVIRONMENTS.items()):
         told = answers(program, prefix, [(control, call, numbers) for numbers in some])
-        wrong = [k for k, (_, code, values) in enumerate(told) if code or not is_faithful(values[0], some[k])]
+        wrong = [k for k, (_, code, values) in enumerate(told) if code or not is_faithful(values[0], some[k], sums)]
         if what in GOOD:
-            expect(f"{name}, {what}: the walk", not wrong and told[0][2][:2] == [TINY[1], 2], wrong)
+            expect(f"{name}, {what}: the walk, call {call}", not wrong and told[0][2][:2] == [SUBNORMAL, 2], wrong)
         else:
-            COUNTS["wrong sums of the walk"] += len(wrong)
+            COUNTS[WRONG[sums.width]] += len(wrong)
         if what == "both":
-            expect(f"{name}, {what}: {{1, 36EB6, -1}} is 0 in 1 round", told[0][1] == 0 and told[0][2][:2] == [0, 1], told[0])
+            expect(f"{name}, {what}: {{1, 36EB6, -1}} is 0 in 1 round, call {call}", told[0][1] == 0 and told[0][2][:2] == [0, 1], told[0])
 
 
 def pairs_of(numbers):
@@ -281,16 +299,18 @@ def check_notices():
         (exact.ONE + 1, [exact.ONE, 0x3CA0000000000000, 1], True),
         (exact.ONE + 2, [exact.ONE, 0x3CA0000000000000, 1], False),
         (exact.ONE - 1, [exact.ONE, 0x3CA0000000000000, 1], False),
-        (0, TINY, False),
+        (0, [exact.ONE, SUBNORMAL, exact.SIGN | exact.ONE], False),
     ):
         expect("is_faithful", is_faithful(pattern, numbers) == held, f"{pattern:016X}", numbers)
+    for pattern, held in ((0x3F7FFFFF, False), (0x3F800000, True), (0x3F800001, True), (0x3F800002, False)):
+        expect("is_faithful", is_faithful(pattern, [0x3F800000, 0x33800000, 1], exact.SINGLES) == held, f"{pattern:08X}")
 
 
 def main():
     command.asked(__doc__)
     os.makedirs(PLACE, exist_ok=True)
     archive = built.need(built.ARCHIVE)
-    some = list(lists(random.Random(1)))
+    some, singles = list(lists(random.Random(1))), list(lists(random.Random(2), samples.SINGLES))
     check_header()
     check_notices()
     tried = 0
@@ -298,11 +318,15 @@ def main():
         tried += 1
         check_environment(name, program, prefix)
         check_calls(name, program, prefix, some)
-        check_scaled(name, program, prefix)
+        check_whole(name, program, prefix, singles, [SINGLE_NEAREST])
+        check_scaled(name, program, prefix, STEP)
+        check_scaled(name, program, prefix, SINGLE_STEP)
         check_walk(name, program, prefix, some)
+        check_walk(name, program, prefix, singles, (SINGLE_FAITHFUL, SINGLE_WALK), exact.SINGLES)
         check_pairs(name, program, prefix, some)
     expect("programs", tried >= 3, tried)
-    expect("the walk is wrong in some environment", COUNTS["wrong sums of the walk"] > tried * LISTS)
+    for wrong in WRONG.values():
+        expect("the walk is wrong in some environment", COUNTS[wrong] > tried * LISTS, wrong)
     expect("products are wrong in some environment", COUNTS["wrong products"] > tried * LISTS)
     for difference in DIFFERENCES[:9]:
         print("environment:", *(str(part)[:400] for part in difference))

@@ -1,11 +1,13 @@
-"""The nearest sum, the parts and the register, also the one that carries later, in exact integers, written from the scope alone: they know nothing of the
-library's code.
+"""The nearest sum, at both widths, and at binary64 the parts and the register, also the one that carries later, in exact integers, written from the scope
+alone: they know nothing of the library's code.
 
-Calls take and give patterns. Inside, a number is its whole units of 2^-1074. A refusal is raised.
+Calls take and give patterns. Inside, a number is its whole units. A refusal is raised.
 """
-LENGTH, MAGNITUDE, PARTS, WORDS = 4094, 0x7E70000000000000, 8, 33
-SIGN, INFINITY, ONE, UNIT = 1 << 63, 0x7FF << 52, 0x3FF << 52, 1
-NAN = 0x7FF8000000000000  # what each NaN is shown as
+import widths
+
+PARTS, WORDS = 8, 33
+NAN = widths.DOUBLES.nan  # what each NaN is shown as
+UNIT = 1
 BITS, ONES = 64 * WORDS, 2**64 - 1
 LANES, CALLS = 66, 2**30
 
@@ -14,52 +16,62 @@ class Refused(Exception):
     """A refusal's number and place, 0 where none is told."""
 
 
-def size(magnitude):
-    """The units of a pattern without its sign."""
-    exponent, fraction = divmod(magnitude, 1 << 52)
-    return fraction if exponent == 0 else (2**52 + fraction) << (exponent - 1)
+class Sums:
+    """Lists at a width, and their nearest sums."""
+
+    def __init__(self, width):
+        self.width = width
+
+    def size(self, magnitude):
+        """The units of a pattern without its sign."""
+        exponent, fraction = divmod(magnitude, 1 << self.width.digits)
+        return fraction if exponent == 0 else (2**self.width.digits + fraction) << (exponent - 1)
+
+    def units(self, pattern):
+        sign = self.width.sign
+        return -self.size(pattern % sign) if pattern >= sign else self.size(pattern)
+
+    def nearest(self, number):
+        """The pattern of the number nearest a whole number of units. Patterns are in the order of their magnitudes: of the two around the number's the nearer,
+        at a tie the even one."""
+        goal = abs(number)
+        low, high = 0, self.width.infinity
+        while high - low > 1:
+            middle = (low + high) // 2
+            low, high = (middle, high) if self.size(middle) <= goal else (low, middle)
+        below, above = goal - self.size(low), self.size(high) - goal
+        magnitude = high if above < below or (above == below and low % 2) else low
+        return magnitude + self.width.sign if number < 0 else magnitude
+
+    def fault(self, pattern):
+        magnitude = pattern % self.width.sign
+        return 2 if magnitude >= self.width.infinity else 3 if magnitude > self.width.limit else 0
+
+    def judge(self, patterns, parts=1):
+        if len(patterns) > self.width.length:
+            raise Refused(1, 0)
+        if not 1 <= parts <= PARTS:
+            raise Refused(5, 0)
+        for place, pattern in enumerate(patterns):
+            if self.fault(pattern):
+                raise Refused(self.fault(pattern), place)
+
+    def zero(self, patterns):
+        """Rule S3: what a list with the exact sum zero answers."""
+        return self.width.sign if patterns and all(pattern == self.width.sign for pattern in patterns) else 0
+
+    def nearest_sum(self, patterns):
+        self.judge(patterns)
+        return self.nearest(sum(map(self.units, patterns))) or self.zero(patterns)
 
 
-def units(pattern):
-    return -size(pattern % SIGN) if pattern >= SIGN else size(pattern)
+DOUBLES, SINGLES = Sums(widths.DOUBLES), Sums(widths.SINGLES)
 
-
-def nearest(number):
-    """The pattern of the double nearest a whole number of units. Patterns are in the order of their magnitudes: of the two around the number's the nearer, at a
-    tie the even one."""
-    goal = abs(number)
-    low, high = 0, INFINITY
-    while high - low > 1:
-        middle = (low + high) // 2
-        low, high = (middle, high) if size(middle) <= goal else (low, middle)
-    below, above = goal - size(low), size(high) - goal
-    magnitude = high if above < below or (above == below and low % 2) else low
-    return magnitude + SIGN if number < 0 else magnitude
-
-
-def fault(pattern):
-    magnitude = pattern % SIGN
-    return 2 if magnitude >= INFINITY else 3 if magnitude > MAGNITUDE else 0
-
-
-def judge(patterns, parts=1):
-    if len(patterns) > LENGTH:
-        raise Refused(1, 0)
-    if not 1 <= parts <= PARTS:
-        raise Refused(5, 0)
-    for place, pattern in enumerate(patterns):
-        if fault(pattern):
-            raise Refused(fault(pattern), place)
-
-
-def zero(patterns):
-    """Rule S3: what a list with the exact sum zero answers."""
-    return SIGN if patterns and all(pattern == SIGN for pattern in patterns) else 0
-
-
-def nearest_sum(patterns):
-    judge(patterns)
-    return nearest(sum(map(units, patterns))) or zero(patterns)
+# what is asked of binary64 alone
+LENGTH, MAGNITUDE, SIGN, INFINITY, ONE = (getattr(widths.DOUBLES, name) for name in "length limit sign infinity one".split())
+size, units, nearest, fault, judge, zero, nearest_sum = (
+    getattr(DOUBLES, name) for name in "size units nearest fault judge zero nearest_sum".split()
+)  # fmt: skip
 
 
 def sum_in_parts(patterns, count):

@@ -9,7 +9,8 @@ each answer, its code and every element of every array, with what docs/SCOPE.md 
     python3 tests/host.py --native         with the native archive too, as on every machine but x86-64
 
 The archive is for x86-64. On another machine it runs under the kit's emulator, and beside it the native archive is compared, which another back end made of the
-same code: every request goes to both.
+same code: every request goes to both. Those on binary32 numbers also go to tests/host/floats.c, a walk in this machine's own floats: where it differs, the
+exact integers are wrong or it is.
 
 A difference is printed with its inputs, and the exit status is 1.
 """
@@ -43,10 +44,12 @@ import remainders  # noqa: E402
 import rescues  # noqa: E402
 import settlings  # noqa: E402
 import shuffles  # noqa: E402
+import singles  # noqa: E402
+import strangers  # noqa: E402
 import writings  # noqa: E402
 
 PLACE = os.path.join(ROOT, "target", "host")
-OTHERS = claims, ensembles, farewells, lanes, merges, products, remainders, rescues, settlings, shuffles, writings
+OTHERS = claims, ensembles, farewells, lanes, merges, products, remainders, rescues, settlings, shuffles, strangers, writings, singles
 FIXED = fixed.GROUPS + [group for other in OTHERS for group in other.FIXED]
 DRAWN = drawn.GROUPS + [group for other in OTHERS for group in other.DRAWN]
 LISTS = 20000
@@ -80,7 +83,14 @@ REFUSALS = {
     "kewohiata_lanes_add": {0, 2, 3, 4, 24, 25},
     "kewohiata_lanes_withdraw": {0, 2, 3, 4, 24, 25},
     "kewohiata_lanes_settle": {0, 4, 9, 25},
+    "kewohiata_single_open": SUMS,
+    "kewohiata_single_step": {0, 4, 6, 7, 8, 18, 19, 21},
+    "kewohiata_single_faithful": SUMS,
+    "kewohiata_single_nearest": SUMS,
 }
+
+# the words that run a driver, and which calls it has
+Driver = collections.namedtuple("Driver", "words calls")
 
 
 # ---- building, with the kit alone
@@ -94,29 +104,45 @@ def source(name):
     return os.path.join(HERE, "host", f"{name}.c")
 
 
+def compiled(name, program, target, *more):
+    """The object file of a C file, for a program."""
+    made = os.path.join(PLACE, f"{program}-{name}.o")
+    words = ["-std=gnu99", "-O2", "-Wall", "-Wextra", "-Werror", "-ffreestanding", "-fno-builtin", "-fPIC", "-I", kit.INCLUDE, "-isystem", kit.HEADERS]
+    run(kit.clang(), f"--target={target}", *words, *more, "-c", source(name), "-o", made)
+    return made
+
+
 def driver():
-    """The words that run the driver with the archive for x86-64."""
+    """The driver with the archive for x86-64."""
     made = os.path.join(PLACE, "driver")
     for words in kit.c_commands(source("driver"), [built.need(built.ARCHIVE)], made):
         run(*words)
-    return [*kit.run_prefix(), made]
+    return Driver([*kit.run_prefix(), made], set(REFUSALS))
 
 
-def native_driver():
-    """The same with the native archive, linked without a C library."""
-    made, objects = os.path.join(PLACE, "native"), []
-    for name in ("driver", "alone"):
-        objects.append(os.path.join(PLACE, f"native-{name}.o"))
-        words = ["-std=gnu99", "-O2", "-Wall", "-Wextra", "-Werror", "-ffreestanding", "-fno-builtin", "-fPIC", "-I", kit.INCLUDE, "-isystem", kit.HEADERS]
-        run(kit.clang(), f"--target={archive.target()}", *words, "-c", source(name), "-o", objects[-1])
-    run(os.path.join(kit.toolchain(), "bin", "ld.lld"), "-static", *objects, built.need(built.NATIVE), "-o", made)
+def linked(program, *objects):
+    """A program for this machine, linked without a C library."""
+    made = os.path.join(PLACE, program)
+    run(os.path.join(kit.toolchain(), "bin", "ld.lld"), "-static", *objects, compiled("alone", program, archive.target()), "-o", made)
     return [made]
 
 
+def native_driver():
+    """The same with the native archive."""
+    objects = compiled("driver", "native", archive.target()), built.need(built.NATIVE)
+    return Driver(linked("native", *objects), set(REFUSALS))
+
+
+def floats_driver():
+    """The same with the walk in floats, which has the calls on binary32 numbers alone."""
+    objects = [compiled("driver", "floats", archive.target(), "-DFLOATS"), compiled("floats", "floats", archive.target())]
+    return Driver(linked("floats", *objects), set(calls.SINGLE_NAMES))
+
+
 def build(with_native):
-    """The words that run each driver."""
+    """The drivers, of which the last is no archive's."""
     os.makedirs(PLACE, exist_ok=True)
-    return [driver(), native_driver()] if with_native else [driver()]
+    return [driver(), *([native_driver()] if with_native else []), floats_driver()]
 
 
 # ---- a batch
@@ -133,7 +159,7 @@ def requests_of(seed, name):
 
 
 def answers_of(requests, words):
-    """What a driver answers, one after the other."""
+    """What a driver answers to such calls as it has, one after the other."""
     wires = b"".join(map(calls.wire, requests))
     process = subprocess.run(words, input=wires, env=kit.environment(), capture_output=True, check=False)
     if process.returncode:
@@ -164,12 +190,14 @@ def compared(work):
     requests, chance = requests_of(seed, name), random.Random(f"{seed}/{name}/flip")
     counts, reports, first = collections.Counter(), 0, None
     for some in iter(lambda: list(itertools.islice(requests, TOGETHER)), []):
-        for request, answer in itertools.chain.from_iterable(zip(some, answers_of(some, words)) for words in drivers):
-            found = calls.difference(request, flipped(request, answer, chance) if flip else answer)
-            counts[met(request)] += 1
-            if found:
-                reports += 1
-                first = first or f"{found}:\n{calls.shown(request)}"
+        for words, has in drivers:
+            own = [request for request in some if request.call in has]
+            for request, answer in zip(own, answers_of(own, words)):
+                found = calls.difference(request, flipped(request, answer, chance) if flip else answer)
+                counts[met(request)] += 1
+                if found:
+                    reports += 1
+                    first = first or f"{os.path.basename(words[-1])}: {found}:\n{calls.shown(request)}"
     return name, counts, reports, first
 
 
@@ -231,7 +259,7 @@ def main():
     bad += passed
     table(counts)
     gaps = list(uncovered(counts)) + [f"host: no answer of {call} was flipped" for call in sorted(REFUSALS.keys() - {call for call, _ in turned})]
-    what = f"{asked.lists} lists, {sum(counts.values())} calls of {len(drivers)} archive{'s' if len(drivers) > 1 else ''}"
+    what = f"{asked.lists} lists, {sum(counts.values())} calls of {len(drivers) - 1} archive{'s' if len(drivers) > 2 else ''} and of the walk in floats"
     print("\n".join(gaps + [f"host: {what}, {bad} {'flipped bits passed' if asked.flip else 'differences'}"]))
     return 1 if bad or gaps else 0
 

@@ -1,5 +1,7 @@
-"""What the tests run on: numbers and lists from a generator, as patterns."""
-from exact import INFINITY, LENGTH, MAGNITUDE, ONE, ONES, SIGN, UNIT, nearest
+"""What the tests run on, at both widths: numbers and lists from a generator, as patterns."""
+import shapes
+import widths
+from exact import ONES, UNIT
 
 START = 0x9E3779B97F4A7C15
 
@@ -28,47 +30,7 @@ def turns(n, r):
     return [turn for _, turn in zip(range(n), endless(r))]
 
 
-# ---- numbers
-SPECIAL = [
-    MAGNITUDE,
-    SIGN + MAGNITUDE,
-    MAGNITUDE + 1,
-    SIGN + MAGNITUDE + 1,
-    INFINITY - 1,
-    SIGN + INFINITY - 1,
-    INFINITY,
-    SIGN + INFINITY,
-    INFINITY + 1,
-    0x7FF8000000000000,
-    ONES,
-]
-
-# the kinds of numbers: from which magnitude on, and how many magnitudes
-RANGE = [
-    (0, MAGNITUDE + 1),  # every allowed one
-    (0, 1 << 53),  # subnormals and the smallest others
-    (0, 8),  # a few units
-    (0, 1),  # zeros
-    (ONE, 1 << 52),  # from 1 to 2
-    (0x3C0 << 52, 1 << 59),  # 128 exponents around 1
-    (MAGNITUDE - 2**53, 2**53 + 1),  # the largest
-    (MAGNITUDE, 1),  # the limit
-    (MAGNITUDE - 30, 32),  # one in 32 just above the limit
-    (0, SIGN),  # every pattern: NaNs, infinities and numbers above the limit too
-]
-KINDS = len(RANGE) + 1  # the last: SPECIAL
-
-
-def number(kind, r):
-    if kind == KINDS - 1:
-        return SPECIAL[r % len(SPECIAL)]
-    base, span = RANGE[kind]
-    return (r & 1) << 63 | base + (r >> 1) % span
-
-
-def filled(n, kind, r):
-    """n numbers of a kind, one for each turn."""
-    return [number(kind, turn) for turn in turns(n, r)]
+KINDS = 11  # of numbers
 
 
 def mirrored(numbers, flip):
@@ -77,115 +39,157 @@ def mirrored(numbers, flip):
     return numbers[: len(numbers) - half] + [p ^ flip for p in reversed(numbers[:half])]
 
 
-def zeros(n, r):
-    """Zeros of both signs."""
-    return filled(n, 3, r)
+class Samples:
+    """Numbers and lists at a width."""
+
+    def __init__(self, width):
+        self.width = width
+        sign, limit, infinity, one, place = width.sign, width.limit, width.infinity, width.one, 1 << width.digits
+        self.special = [
+            limit,
+            sign + limit,
+            limit + 1,
+            sign + limit + 1,
+            infinity - 1,
+            sign + infinity - 1,
+            infinity,
+            sign + infinity,
+            infinity + 1,
+            width.nan,
+            2 * sign - 1,
+        ]
+        # the kinds of numbers: from which magnitude on, and how many magnitudes; the last kind is the special ones
+        self.ranges = [
+            (0, limit + 1),  # every allowed one
+            (0, 2 * place),  # subnormals and the smallest others
+            (0, 8),  # a few units
+            (0, 1),  # zeros
+            (one, place),  # from 1 to 2
+            (one - 63 * place, 128 * place),  # 128 exponents around 1
+            (limit - 2 * place, 2 * place + 1),  # the largest
+            (limit, 1),  # the limit
+            (limit - 30, 32),  # one in 32 just above the limit
+            (0, sign),  # every pattern: NaNs, infinities and numbers above the limit too
+        ]
+
+    # ---- numbers
+    def number(self, kind, r):
+        if kind == KINDS - 1:
+            return self.special[r % len(self.special)]
+        base, span = self.ranges[kind]
+        return self.width.sign * (r & 1) | base + (r >> 1) % span
+
+    def filled(self, n, kind, r):
+        """n numbers of a kind, one for each turn."""
+        return [self.number(kind, turn) for turn in turns(n, r)]
+
+    def zeros(self, n, r):
+        """Zeros of both signs."""
+        return self.filled(n, 3, r)
+
+    # ---- shapes of lists, each made from three turns a, b and c
+    def plain(self, n, kind, a, b, c):
+        return self.filled(n, kind, c)
+
+    def cancelling(self, n, kind, a, b, c):
+        """The middle is a number of one of the first four kinds."""
+        numbers = mirrored(self.filled(n, kind, c), self.width.sign | b & 1)
+        numbers[n // 2] = self.number(b // 2 % 4, a)
+        return numbers
+
+    def tie(self, n, kind, a, b, c):
+        """Two numbers halfway between two of the format, a third that may decide, and numbers that cancel. The two: a number and half of its last place; or a
+        power of two, less half of the last place below it."""
+        w = self.width
+        power, places = b & 1, w.precision + 2 << w.digits
+        x = self.number(0, a) if self.number(0, a) % w.sign >= places else w.one
+        if power:
+            x &= w.sign | w.infinity
+        half = w.sign * (x >= w.sign) ^ w.sign * power | (x % w.sign >> w.digits) - w.precision - power << w.digits
+        third = [0, UNIT, w.sign | UNIT, half, half ^ w.sign | UNIT][b // 2 % 5]
+        return [x, half, third] + mirrored(self.filled(n // 2 * 2, kind, c), w.sign)
+
+    def faulty(self, n, kind, a, b, c):
+        """Two special numbers, at places that may be the same, in a list of one of the first eight kinds."""
+        numbers = self.filled(n, kind % 8, c)
+        numbers[b % n] = self.special[kind]
+        numbers[c % n] = self.special[a % len(self.special)]
+        return numbers
+
+    # ---- the lists that are always tried
+    def shaped(self):
+        """Each of four shapes with each kind of numbers and each of four lengths."""
+        for k in range(4 * KINDS * 4):
+            shape, kind, length = k % 4, k // 4 % KINDS, k // 4 // KINDS
+            a = seed(0, k)
+            b = following(a)
+            c = following(b)
+            n = [1 + a % 9, 64, 65, 3 + a % 150][length]
+            yield [self.plain, self.cancelling, self.tie, self.faulty][shape](n, kind, a, b, c)
+
+    def examples(self):
+        """The lists of rules T1 to T9."""
+        one, sign, tiny, top = self.width.one, self.width.sign, self.width.two_to(-self.width.precision), self.width.two_to(100)
+        yield from ([], [one], [sign, sign], [one, sign | one], [one, tiny], [one, tiny, UNIT], [top, one, sign | top], [UNIT, UNIT], [self.width.limit + 1])
+
+    def longest(self):
+        """Of the most numbers that are allowed, and of one more."""
+        most = self.width.length
+        for k, (n, kind) in enumerate([(most, 0), (most, 6), (most, 1), (most, 7), (most + 1, 2), (most + 1, 8)], 185):
+            yield self.filled(n, kind, seed(0, k))
+
+    def ladder(self, n, places, distance):
+        """Pairs of powers of two that cancel, from the largest magnitude down, each `distance` times halved from the last; then one unit, and zeros."""
+        w, numbers = self.width, self.zeros(n, distance)
+        numbers[:places] = [w.power(w.top - i // 2 * distance) | w.sign * (i % 2) for i in range(places)]
+        numbers[places] = UNIT
+        return numbers
+
+    def most_rounds(self, n):
+        """A ladder that takes as many rounds as a list can, where n is at least half of the longest list's: 51 with 102 places at a distance of 41, and 20 with
+        40 at a distance of 13."""
+        return self.ladder(n, 2 * (self.width.rounds + 1), self.width.precision - widths.exponent_of(self.width.length))
+
+    def few(self):
+        """Where a likely mistake in the walk's rules shows."""
+        one, sign, p = self.width.one, self.width.sign, self.width.precision
+        yield [sign, one, sign]  # remainders of -0
+        yield [1 << p - 3, sign | (1 << p - 3) - 1]  # sigma is the least normal number, and t' one unit
+        yield [1 << p - 2, sign | (1 << p - 2) - 1]  # sigma is twice that, and t' one unit
+        yield [one, sign | one - 128]  # t' is just 2^(2M+1) eps sigma
+        yield [one, sign | one - 124]  # and less
+        yield [one, sign | one - 512, self.width.two_to(2 - p) + 65]  # a tau2 that decides with T, and neither alone
+
+    def signed_zeros(self):
+        """Nothing but -0, and lists at which another look at the signs of zeros would go wrong (rule S3)."""
+        one, sign, most = self.width.one, self.width.sign, self.width.length
+        for n in (1, 3, 64, 65, most):
+            yield [sign] * n
+        for place, n in ((0, 2), (1, 2), (1, 3), (0, 65), (63, 65), (64, 65), (0, most), (most - 1, most)):
+            yield [sign] * place + [0] + [sign] * (n - 1 - place)
+        yield from ([0], [0, 0], [one, sign | one, sign], [sign, UNIT, sign | UNIT], [sign, sign, sign | UNIT])
+
+    def long_ways(self):
+        """Lists of many blocks or many rounds."""
+        r, most, p = [seed(6, k) for k in range(16)], self.width.length, self.width.precision
+        yield self.filled(63, 0, r[0])
+        yield self.filled(128, 5, r[1])
+        yield self.filled(1000, 0, r[2])
+        for k, n, kind in ((3, 1000, 0), (4, 1000, 1), (5, most - 61, 4), (6, most, 0), (15, most, 7)):
+            yield self.cancelling(n, kind, r[k], r[k] >> 20, r[k])
+        yield self.zeros(65, r[13])
+        for n, places, distance in ((64, 60, p - 3), (300, 90, p - 8)):
+            yield self.ladder(n, min(places, 2 * (self.width.top // distance)), distance)
+        yield self.most_rounds(most // 2)
+        yield shapes.two_blocks(self.width, self.zeros(128, 1))[0]
+
+    def lists(self):
+        """All of them."""
+        for group in (self.shaped, self.examples, self.longest, self.few, self.signed_zeros, self.long_ways):
+            yield from group()
 
 
-# ---- shapes of lists, each made from three turns a, b and c
-def plain(n, kind, a, b, c):
-    return filled(n, kind, c)
+DOUBLES, SINGLES = Samples(widths.DOUBLES), Samples(widths.SINGLES)
 
-
-def cancelling(n, kind, a, b, c):
-    """The middle is a number of one of the first four kinds."""
-    numbers = mirrored(filled(n, kind, c), SIGN | b & 1)
-    numbers[n // 2] = number(b // 2 % 4, a)
-    return numbers
-
-
-def tie(n, kind, a, b, c):
-    """Two numbers halfway between two doubles, a third that may decide, and numbers that cancel. The two: a number and half of its last place; or a power of
-    two, less half of the last place below it."""
-    power = b & 1
-    x = number(0, a) if number(0, a) % SIGN >= 55 << 52 else ONE
-    if power:
-        x &= 0xFFF << 52
-    half = (x >> 63 ^ power) << 63 | (x >> 52) % 2048 - 53 - power << 52
-    third = [0, UNIT, SIGN | UNIT, half, half ^ SIGN | UNIT][b // 2 % 5]
-    return [x, half, third] + mirrored(filled(n // 2 * 2, kind, c), SIGN)
-
-
-def faulty(n, kind, a, b, c):
-    """Two special numbers, at places that may be the same, in a list of one of the first eight kinds."""
-    numbers = filled(n, kind % 8, c)
-    numbers[b % n] = SPECIAL[kind]
-    numbers[c % n] = SPECIAL[a % len(SPECIAL)]
-    return numbers
-
-
-# ---- the lists that are always tried
-def shaped():
-    """Each of four shapes with each kind of numbers and each of four lengths."""
-    for k in range(4 * KINDS * 4):
-        shape, kind, length = k % 4, k // 4 % KINDS, k // 4 // KINDS
-        a = seed(0, k)
-        b = following(a)
-        c = following(b)
-        n = [1 + a % 9, 64, 65, 3 + a % 150][length]
-        yield [plain, cancelling, tie, faulty][shape](n, kind, a, b, c)
-
-
-def examples():
-    """The lists of rules T1 to T9."""
-    tiny, top = 0x3CA << 52, 0x463 << 52
-    yield from ([], [ONE], [SIGN, SIGN], [ONE, SIGN | ONE], [ONE, tiny], [ONE, tiny, UNIT], [top, ONE, SIGN | top], [UNIT, UNIT], [MAGNITUDE + 1])
-
-
-def longest():
-    """Of the most numbers that are allowed, and of one more."""
-    for k, (n, kind) in enumerate([(LENGTH, 0), (LENGTH, 6), (LENGTH, 1), (LENGTH, 7), (LENGTH + 1, 2), (LENGTH + 1, 8)], 185):
-        yield filled(n, kind, seed(0, k))
-
-
-def ladder(n, places, distance):
-    """Pairs of powers of two that cancel, from 2^1000 down, each `distance` times halved from the last; then one unit, and zeros. With 102 places at a
-    distance of 41, 2,047 numbers and more take 51 rounds."""
-    numbers = zeros(n, distance)
-    numbers[:places] = [nearest(1 << 2074 - i // 2 * distance) | i % 2 << 63 for i in range(places)]
-    numbers[places] = UNIT
-    return numbers
-
-
-def two_blocks():
-    """1, 2^-53, zeros and 64 times 2^-107: T is 2^-53 in rising order, and more where each block is added up first."""
-    return [ONE, 0x3CA << 52] + zeros(128, 1)[2:64] + [0x394 << 52] * 64
-
-
-def few():
-    """Where a likely mistake in the walk's rules shows."""
-    yield [SIGN, ONE, SIGN]  # remainders of -0
-    yield [1 << 50, SIGN | (1 << 50) - 1]  # sigma is 2^-1022, and t' one unit
-    yield [1 << 51, SIGN | (1 << 51) - 1]  # sigma is 2^-1021, and t' one unit
-    yield [ONE, SIGN | ONE - 128]  # t' is just 2^(2M+1) eps sigma
-    yield [ONE, SIGN | ONE - 124]  # and less
-    yield [ONE, SIGN | ONE - 512, (0x3CC << 52) + 65]  # a tau2 that decides with T, and neither alone
-
-
-def signed_zeros():
-    """Nothing but -0, and lists at which another look at the signs of zeros would go wrong (rule S3)."""
-    for n in (1, 3, 64, 65, LENGTH):
-        yield [SIGN] * n
-    for place, n in ((0, 2), (1, 2), (1, 3), (0, 65), (63, 65), (64, 65), (0, LENGTH), (LENGTH - 1, LENGTH)):
-        yield [SIGN] * place + [0] + [SIGN] * (n - 1 - place)
-    yield from ([0], [0, 0], [ONE, SIGN | ONE, SIGN], [SIGN, UNIT, SIGN | UNIT], [SIGN, SIGN, SIGN | UNIT])
-
-
-def long_ways():
-    """Lists of many blocks or many rounds."""
-    r = [seed(6, k) for k in range(16)]
-    yield filled(63, 0, r[0])
-    yield filled(128, 5, r[1])
-    yield filled(1000, 0, r[2])
-    for k, n, kind in ((3, 1000, 0), (4, 1000, 1), (5, 4033, 4), (6, 4094, 0), (15, 4094, 7)):
-        yield cancelling(n, kind, r[k], r[k] >> 20, r[k])
-    yield zeros(65, r[13])
-    for n, places, distance in ((64, 60, 50), (300, 90, 45), (2047, 102, 41)):
-        yield ladder(n, places, distance)
-    yield two_blocks()
-
-
-def lists():
-    """All of them."""
-    for group in (shaped, examples, longest, few, signed_zeros, long_ways):
-        yield from group()
+# what is asked of binary64 alone
+number, filled, zeros, cancelling, ladder, lists = (getattr(DOUBLES, name) for name in "number filled zeros cancelling ladder lists".split())

@@ -2,7 +2,8 @@
 
 The answers come from the models of tests/exact.py (sums, parts and registers in whole units), tests/walk.py (the faithful walk), tests/grades.py (grades),
 tests/farewell.py (weights) and tests/weighted.py (pairs); what is said here is how they lie in arrays and which lengths are refused. Sheets are read, written
-and rescued as by tests/sheets.py. An array is its bytes, of whatever its elements are.
+and rescued as by tests/sheets.py. An array is its bytes, of whatever its elements are. The walk and the nearest sum have calls at two widths, which are a
+family each.
 """
 import collections
 import functools
@@ -11,12 +12,15 @@ import struct
 import exact
 import farewell
 import grades
+import samples
 import sheets
 import walk
 import weighted
-from exact import INFINITY, NAN, SIGN, Refused
+from exact import Refused
+from states import State
 
-# the calls in the order of the driver's numbers, and of what their arrays are, in struct's letters: bytes, numbers of 64 bits, the same with a sign, doubles
+# the calls in the order of the driver's numbers, and of what their arrays are, in struct's letters: bytes, numbers of 64 bits, the same with a sign, doubles,
+# numbers of 32 bits, floats
 CALLS = {
     "kewohiata_faithful": "BB",
     "kewohiata_nearest": "BB",
@@ -41,16 +45,43 @@ CALLS = {
     "kewohiata_lanes_add": "qQ",
     "kewohiata_lanes_withdraw": "qQ",
     "kewohiata_lanes_settle": "qQQ",
+    "kewohiata_single_open": "IfQ",
+    "kewohiata_single_step": "Qf",
+    "kewohiata_single_faithful": "IfQ",
+    "kewohiata_single_nearest": "IQ",
 }
 NUMBERS = {call: number for number, call in enumerate(CALLS)}
 SIZE, SUM, REGISTER = 8, 16, 8 * exact.WORDS  # bytes of a number, of a sum in bytes, and of a register
 ARRAYS = 4  # of a call, at most
 TEN = 10  # numbers of a state
 REPORT = 4  # numbers of a rescue's report
-VALUES = {"kewohiata_walk_open": TEN, "kewohiata_walk_faithful": 2}  # numbers that a walk's call writes
 
-# Before and behind each array, where no call may write. Those of bytes begin at no multiple of 8.
-BESIDE = {"B": b"\xA5" * 9, "Q": b"\xA5" * 4 * SIZE, "q": b"\xA5" * 4 * SIZE, "d": b"\xA5" * 4 * SIZE}
+
+class Family:
+    """The calls of the walk and the nearest sum at a width, and the models that answer them."""
+
+    def __init__(self, models, named, *names):
+        self.walk, self.sums, self.samples = models
+        self.width, self.named = self.walk.width, named  # what its groups of requests have before their names
+        self.open, self.step, self.faithful, self.nearest = names
+        self.size = self.width.bits // 8  # bytes of a pattern
+        self.values = {self.open: TEN, self.faithful: 2}  # numbers that a walk's call writes
+        self.packed, self.unpacked = self.width.packed, self.width.unpacked
+
+
+WALK_NAMES = "kewohiata_walk_open", "kewohiata_walk_step", "kewohiata_walk_faithful", "kewohiata_list_nearest"
+SINGLE_NAMES = "kewohiata_single_open", "kewohiata_single_step", "kewohiata_single_faithful", "kewohiata_single_nearest"
+DOUBLES = Family((walk.DOUBLES, exact.DOUBLES, samples.DOUBLES), "", *WALK_NAMES)
+SINGLES = Family((walk.SINGLES, exact.SINGLES, samples.SINGLES), "single_", *SINGLE_NAMES)
+VALUES = DOUBLES.values
+
+
+def family(call):
+    return SINGLES if call in SINGLE_NAMES else DOUBLES
+
+
+# Before and behind each array, where no call may write. Those of bytes begin at no multiple of 8, nor do those of numbers of 32 bits.
+BESIDE = {"B": b"\xA5" * 9, "Q": b"\xA5" * 4 * SIZE, "q": b"\xA5" * 4 * SIZE, "d": b"\xA5" * 4 * SIZE, "I": b"\xA5" * 20, "f": b"\xA5" * 20}
 
 # What is asked (arrays and number), what must come back (code and arrays), and of a faithful sum where it stands (array, place in bytes) and the exact sum; of
 # an opening or a step the ensemble that it names, and of a call on lanes the count that it is given.
@@ -115,8 +146,11 @@ def apart(request, answer):
 
 # ---- the comparison
 def one_nan(of, part):
-    """A part of an answer as it is compared. Of doubles each NaN is the same."""
-    return packed([NAN if p % SIGN > INFINITY else p for p in unpacked(part)]) if of == "d" else part
+    """A part of an answer as it is compared. Of doubles each NaN is the same, and of floats."""
+    if of not in "df":
+        return part
+    w = DOUBLES.width if of == "d" else SINGLES.width
+    return w.packed([w.nan if p % w.sign > w.infinity else p for p in w.unpacked(part)])
 
 
 def compared(request, parts):
@@ -130,18 +164,18 @@ def same(request, one, other):
 
 def where(of, at):
     """A place among the bytes of an array between its guards."""
-    at -= len(BESIDE[of])
-    return f"byte {at}" if of == "B" else f"place {at // SIZE}, byte {at % SIZE},"
+    at, size = at - len(BESIDE[of]), struct.calcsize(of)
+    return f"byte {at}" if of == "B" else f"place {at // size}, byte {at % size},"
 
 
 def sum_wrong(request, parts):
     """What is wrong with a faithful sum."""
     array, byte, total = request.sum
-    at = len(BESIDE[CALLS[request.call][array]]) + byte
+    of, at = family(request.call), len(BESIDE[CALLS[request.call][array]]) + byte
     (pattern,) = unpacked(parts[1 + array][at : at + SIZE])
-    if pattern % SIGN >= INFINITY or not walk.is_faithful(pattern, total):
+    if pattern >> of.width.bits or pattern % of.width.sign >= of.width.infinity or not of.walk.is_faithful(pattern, total):
         return f"{pattern:016X} is not faithful to {total} units"
-    if total and abs(exact.units(pattern) - total) << 52 >= abs(total):
+    if total and abs(of.sums.units(pattern) - total) << of.width.digits >= abs(total):
         return f"{pattern:016X} is too far from {total} units"
     return None
 
@@ -188,21 +222,21 @@ def accepted(answer):
 
 # ---- lists, whose sums several calls are asked for
 @functools.lru_cache(maxsize=1)
-def undivided(patterns):
+def undivided(patterns, of=DOUBLES):
     """The undivided walk of a list (a tuple): its answer, and the remainders."""
     area = [0] * len(patterns)
-    return walk.faithful(patterns, area), area
+    return of.walk.faithful(patterns, area), area
 
 
 @functools.lru_cache(maxsize=1)
-def total_of(patterns):
-    return walk.exact_sum(patterns)
+def total_of(patterns, of=DOUBLES):
+    return of.walk.exact_sum(patterns)
 
 
 @functools.lru_cache(maxsize=1)
-def nearest_of(patterns):
-    exact.judge(patterns)
-    return exact.nearest(total_of(patterns)) or exact.zero(patterns)
+def nearest_of(patterns, of=DOUBLES):
+    of.sums.judge(patterns)
+    return of.sums.nearest(total_of(patterns, of)) or of.sums.zero(patterns)
 
 
 def byte_lengths(data, out):
@@ -225,20 +259,20 @@ def summed(call, data, out):
     return asked(call, [data, out], model)
 
 
-def array_lengths(data, fits):
+def array_lengths(data, fits, of=DOUBLES):
     """1 for too many numbers; else 4 where another array hasn't the length that it must have."""
-    if len(data) > SIZE * exact.LENGTH:
+    if len(data) > of.size * of.width.length:
         raise Refused(1, 0)
     if not fits:
         raise Refused(4, 0)
 
 
-def array_nearest(data, out):
+def array_nearest(data, out, of=DOUBLES):
     def model():
-        array_lengths(data, len(out) == SIZE)
-        return [data, packed([nearest_of(tuple(unpacked(data)))])], None
+        array_lengths(data, len(out) == SIZE, of)
+        return [data, packed([nearest_of(tuple(of.unpacked(data)), of)])], None
 
-    return asked("kewohiata_list_nearest", [data, out], model)
+    return asked(of.nearest, [data, out], model)
 
 
 def parted(data, area, out):
@@ -259,33 +293,35 @@ def ten(answer):
 
 def started(call, data, work, values, ensemble=0):
     """An opening, for an ensemble, or the undivided call."""
+    of = family(call)
+
     def model():
-        array_lengths(data, len(work) == len(data) and len(values) == SIZE * VALUES[call])
-        patterns = tuple(unpacked(data))
-        if call == "kewohiata_walk_open":
-            area = unpacked(work)
-            answer = accepted(walk.opening(patterns, area, ensemble))
-            return [data, packed(area), ten(answer)], (2, SIZE, total_of(patterns)) if answer[0] == "done" else None
-        answer, area = undivided(patterns)
-        return [data, packed(area), packed(accepted(answer)[1:])], (2, 0, total_of(patterns))
+        array_lengths(data, len(work) == len(data) and len(values) == SIZE * of.values[call], of)
+        patterns = tuple(of.unpacked(data))
+        if call == of.open:
+            area = of.unpacked(work)
+            answer = accepted(of.walk.opening(patterns, area, ensemble))
+            return [data, of.packed(area), ten(answer)], (2, SIZE, total_of(patterns, of)) if answer[0] == "done" else None
+        answer, area = undivided(patterns, of)
+        return [data, of.packed(area), packed(accepted(answer)[1:])], (2, 0, total_of(patterns, of))
 
     return asked(call, [data, work, values], model, ensemble=ensemble)
 
 
-def step_of(numbers, area, block, ensemble, total=None):
+def step_of(numbers, area, block, ensemble, total=None, of=DOUBLES):
     """A step on a state's numbers, however many; the model's answer, and the area afterwards. The exact sum is given where the step is one of a walk."""
-    arrays, after = [packed(numbers), packed(area)], list(area)
-    answer = walk.step(walk.State(*numbers[1:9]), after, block, ensemble) if len(numbers) == TEN else ("refused", 4, 0)
+    arrays, after = [packed(numbers), of.packed(area)], list(area)
+    answer = of.walk.step(State(*numbers[1:9]), after, block, ensemble) if len(numbers) == TEN else ("refused", 4, 0)
 
     def model():
-        return [ten(accepted(answer)), packed(after)], (0, SIZE, total) if answer[0] == "done" and total is not None else None
+        return [ten(accepted(answer)), of.packed(after)], (0, SIZE, total) if answer[0] == "done" and total is not None else None
 
-    return asked("kewohiata_walk_step", arrays, model, block, ensemble), answer, after
+    return asked(of.step, arrays, model, block, ensemble), answer, after
 
 
-def stepped(s, area, block, unread=(1, 0), total=None):
+def stepped(s, area, block, unread=(1, 0), total=None, of=DOUBLES):
     """The same on a state, for its own ensemble, with the first number and the last, which are of no effect."""
-    return step_of([unread[0], *s, unread[1]], area, block, s.ensemble, total)
+    return step_of([unread[0], *s, unread[1]], area, block, s.ensemble, total, of)
 
 
 # ---- registers

@@ -1,7 +1,6 @@
 """Requests for grades: the nearest pattern of a list and two on either side, claims at the ends of the doubles, ties, and every refusal beside a later one."""
-import walk
 from calls import SIZE, graded, packed
-from drawn import SHAPES, tie
+from drawn import SHAPES, numbers, tie
 from exact import INFINITY, LENGTH, MAGNITUDE, NAN, ONE, SIGN
 from grades import EXACT, FAITHFUL, NEAREST, WRONG
 from sequences import near
@@ -45,7 +44,7 @@ def grade_witnesses(chance):
     assert met == {EXACT, NEAREST, FAITHFUL, WRONG}
     for n in (0, 1, 2, 3, 4, 8, 30, 64, 130, 700, LENGTH):
         for kind in KINDS:
-            if n <= 130 or kind is walk.numbers:
+            if n <= 130 or kind is numbers:
                 yield from claims(chance, kind(chance, n), ENDS)
     for patterns in ([MAGNITUDE - 1] * 3, [MAGNITUDE] * LENGTH, [SIGN | MAGNITUDE] * LENGTH, [MAGNITUDE] * 4093 + [1]):
         yield from claims(chance, patterns, ENDS)

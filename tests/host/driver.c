@@ -3,7 +3,9 @@
    A request is sixteen 64-bit numbers (which call, its number where it has one, the ensemble where it names one, the count of calls that lanes have taken, and
    of up to four arrays at which element it begins, how many elements are lent, and how many bytes follow for it) and then those bytes: each array with guards
    before and behind it. An answer is the call's code in 64 bits and all of the bytes as they are afterwards: arrays that a call only reads, and the guards,
-   too. There are no headers of a C library here, and nothing but read and write is used of it. */
+   too. There are no headers of a C library here, and nothing but read and write is used of it.
+
+   With FLOATS it is the driver of tests/host/floats.c, which has the calls on binary32 numbers alone. */
 #include "kewohiata.h"
 #include "pipe.h"
 
@@ -19,6 +21,8 @@ static union {
     uint64_t numbers[LIMIT / sizeof(uint64_t)];
     int64_t lanes[LIMIT / sizeof(int64_t)];
     double doubles[LIMIT / sizeof(double)];
+    uint32_t patterns[LIMIT / sizeof(uint32_t)];
+    float floats[LIMIT / sizeof(float)];
 } arrays[ARRAYS];
 
 #define LENT(k, type) arrays[k].type + r->at[k], r->length[k]
@@ -26,6 +30,7 @@ static union {
 static uint64_t call(const struct request *r)
 {
     switch (r->call) {
+#ifndef FLOATS
     case 0: return kewohiata_faithful(LENT(0, bytes), LENT(1, bytes));
     case 1: return kewohiata_nearest(LENT(0, bytes), LENT(1, bytes));
     case 2: return kewohiata_register_add(LENT(0, bytes), r->number);
@@ -49,6 +54,11 @@ static uint64_t call(const struct request *r)
     case 20: return kewohiata_lanes_add(LENT(0, lanes), r->count, r->number, LENT(1, numbers));
     case 21: return kewohiata_lanes_withdraw(LENT(0, lanes), r->count, r->number, LENT(1, numbers));
     case 22: return kewohiata_lanes_settle(LENT(0, lanes), r->count, LENT(1, numbers), LENT(2, numbers));
+#endif
+    case 23: return kewohiata_single_open(LENT(0, patterns), LENT(1, floats), LENT(2, numbers), (uint32_t)r->ensemble);
+    case 24: return kewohiata_single_step(LENT(0, numbers), LENT(1, floats), r->number, (uint32_t)r->ensemble);
+    case 25: return kewohiata_single_faithful(LENT(0, patterns), LENT(1, floats), LENT(2, numbers));
+    case 26: return kewohiata_single_nearest(LENT(0, patterns), LENT(1, numbers));
     default: return UINT64_MAX;
     }
 }

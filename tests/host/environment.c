@@ -32,6 +32,10 @@ static uint32_t registered(size_t n, uint32_t (*enter)(uint8_t *, size_t, uint64
 
 static double area[MOST];
 
+/* the lowest 32 bits of each number of the list, and a work area for them */
+static uint32_t singles[MOST];
+static float floats[MOST];
+
 /* 33 words, rounded to their first */
 static uint32_t rounded(size_t n)
 {
@@ -154,6 +158,30 @@ static uint32_t paired(size_t n)
     return code ? code : kewohiata_pairs_nearest(a, pairs, b, pairs, values + VALUES - 1, KEWOHIATA_VALUE);
 }
 
+/* a step of a walk of one binary32 number, +0, with the list's sigma and t: the ten numbers that it leaves */
+static uint32_t single_stepped(void)
+{
+    const uint64_t state[KEWOHIATA_STATE] = {KEWOHIATA_MORE, list[0], list[1], 0, 1, 1, 0, 0, 0, 0};
+    memcpy(values, state, sizeof state);
+    floats[0] = 0.0f;
+    return kewohiata_single_step(values, KEWOHIATA_STATE, floats, 1, 0, 0);
+}
+
+/* the walk of binary32 numbers by blocks, from the last pending one down: the sum and the rounds */
+static uint32_t single_walked(size_t n)
+{
+    uint64_t state[KEWOHIATA_STATE];
+    uint32_t code = kewohiata_single_open(singles, n, floats, n, state, KEWOHIATA_STATE, 7);
+    while (code == 0 && state[KEWOHIATA_STATE_KIND] == KEWOHIATA_MORE) {
+        size_t block = kewohiata_blocks(n) - 1;
+        while (!(state[KEWOHIATA_STATE_PENDING] >> block & 1))
+            block--;
+        code = kewohiata_single_step(state, KEWOHIATA_STATE, floats, n, block, 7);
+    }
+    memcpy(values, state + KEWOHIATA_DONE_SUM, KEWOHIATA_FAITHFUL * sizeof state[0]);
+    return code;
+}
+
 static uint32_t call(uint64_t which, size_t n)
 {
     switch (which) {
@@ -175,6 +203,10 @@ static uint32_t call(uint64_t which, size_t n)
     case 15: return sheet_rescued(n);
     case 16: return paired(n);
     case 17: return laned(n);
+    case 18: return kewohiata_single_nearest(singles, n, values, KEWOHIATA_VALUE);
+    case 19: return kewohiata_single_faithful(singles, n, floats, n, values, KEWOHIATA_FAITHFUL);
+    case 20: return single_walked(n);
+    case 21: return single_stepped();
     default: return UINT32_MAX;
     }
 }
@@ -187,6 +219,8 @@ int main(void)
         if (request[2] > MOST || !take(list, request[2] * sizeof list[0]))
             return 1;
         memset(values, 0, sizeof values);
+        for (size_t i = 0; i < request[2]; i++)
+            singles[i] = (uint32_t)list[i];
         set_control(request[0] ? (uint32_t)request[0] : start);
         told[1] = call(request[1], request[2]);
         told[0] = control();

@@ -3,9 +3,10 @@ import itertools
 
 import exact
 import walk
-from calls import SIZE, SUM, VALUES, array_nearest, entered, graded, nearest_of, packed, parted, rounded, started, step_of, stepped, summed, ten
+from calls import DOUBLES, SIZE, SUM, array_nearest, entered, graded, nearest_of, packed, parted, rounded, started, step_of, stepped, summed, ten
 from calls import total_of, undivided, unpacked
 from exact import INFINITY, ONES, SIGN, UNIT
+from widths import blocks_of
 
 ORDERS = [walk.rising, walk.falling, walk.seeded]
 ADD, WITHDRAW = ENTRIES = [(f"kewohiata_register_{entry}", f"kewohiata_words_{entry}") for entry in ("add", "withdraw")]
@@ -42,42 +43,44 @@ def near(patterns):
     return [beside(middle, steps) for steps in (-2, -1, 0, 1, 2)]
 
 
-def list_requests(chance, patterns):
+def list_requests(chance, patterns, of=DOUBLES):
     """Every call on a list. The arrays hold what they happen to hold."""
-    data, n = packed(patterns), len(patterns)
-    yield summed("kewohiata_faithful", data, chance.randbytes(SUM))
-    yield summed("kewohiata_nearest", data, chance.randbytes(SUM))
-    for call, values in VALUES.items():
-        yield started(call, data, chance.randbytes(SIZE * n), chance.randbytes(SIZE * values), number(chance))
-    yield array_nearest(data, chance.randbytes(SIZE))
-    yield parted(data, chance.randbytes(SIZE * chance.randint(1, 8)), chance.randbytes(SIZE))
-    for claim in near(patterns):
-        yield graded(data, claim, chance.randbytes(SIZE))
+    data, n = of.packed(patterns), len(patterns)
+    if of is DOUBLES:
+        yield summed("kewohiata_faithful", data, chance.randbytes(SUM))
+        yield summed("kewohiata_nearest", data, chance.randbytes(SUM))
+    for call, values in of.values.items():
+        yield started(call, data, chance.randbytes(of.size * n), chance.randbytes(SIZE * values), number(chance))
+    yield array_nearest(data, chance.randbytes(SIZE), of)
+    if of is DOUBLES:
+        yield parted(data, chance.randbytes(SIZE * chance.randint(1, 8)), chance.randbytes(SIZE))
+        for claim in near(patterns):
+            yield graded(data, claim, chance.randbytes(SIZE))
 
 
-def run_requests(chance, patterns, order):
+def run_requests(chance, patterns, order, of=DOUBLES):
     """A walk block by block. It must end as the undivided one, remainders too, and with as many steps as its rounds have blocks; a further step is refused."""
-    area, total, steps, ensemble = [0] * len(patterns), total_of(tuple(patterns)), 0, number(chance)
-    answer = walk.opening(patterns, area, ensemble)
+    area, total, steps, ensemble = [0] * len(patterns), total_of(tuple(patterns), of), 0, number(chance)
+    answer = of.walk.opening(patterns, area, ensemble)
     while answer[0] == "more":
         s = answer[1]
-        request, answer, area = stepped(s, area, order(s.pending, turn(chance)), unread(chance), total)
+        request, answer, area = stepped(s, area, order(s.pending, turn(chance)), unread(chance), total, of)
         yield request
         steps += 1
-    assert (answer, area) == undivided(tuple(patterns)), f"orders differ: {order.__name__} {patterns}"
-    assert steps == answer[2] * walk.blocks_of(len(patterns)), f"{steps} steps: {order.__name__} {patterns}"
-    yield step_of(unpacked(ten(answer)), area, 0, ensemble)[0]
+    assert (answer, area) == undivided(tuple(patterns), of), f"orders differ: {order.__name__} {patterns}"
+    assert steps == answer[2] * blocks_of(len(patterns)), f"{steps} steps: {order.__name__} {patterns}"
+    yield step_of(unpacked(ten(answer)), area, 0, ensemble, None, of)[0]
 
 
-def is_allowed(patterns):
-    return undivided(tuple(patterns))[0][0] == "done"
+def is_allowed(patterns, of=DOUBLES):
+    return undivided(tuple(patterns), of)[0][0] == "done"
 
 
 # ---- states
-def several(s, area, order, turns):
+def several(s, area, order, turns, of=DOUBLES):
     """Up to five steps from a state, until one is refused or finishes."""
     for chosen in itertools.islice(turns, 5):
-        request, answer, area = stepped(s, area, order(s.pending, chosen))
+        request, answer, area = stepped(s, area, order(s.pending, chosen), of=of)
         yield request
         if answer[0] != "more":
             return

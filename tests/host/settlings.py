@@ -3,12 +3,11 @@ that leave the range, of which some come back by withdrawals and others, with no
 import exact
 import samples
 from calls import REGISTER, SIZE, array_nearest, lanes_entered, lanes_packed, lanes_settled, lanes_unpacked, packed, rounded, unpacked
-from drawn import TOP, ladder, tie
+from drawn import TOP, cancelled, ladder, numbers, tie
 from exact import CALLS, LANES, LENGTH, MAGNITUDE, NAN, ONE, SIGN
 from lanes import ENTER, acts, begun, digits, room, spread, whole
 from merges import UNITS
 from sequences import register_of, turn
-from walk import cancelled, numbers
 
 NONE = bytes(SIZE * LANES)  # lanes that began with nothing
 ALLOWED = range(8)  # the kinds of numbers that every register takes

@@ -7,7 +7,7 @@ use lib.Ieee.{Format, prec, ones, ofBits}
 use Rattle.ieee.specs.Units.{magnitude, value}
 use Rattle.lists.specs.Carry.{two}
 use Rattle.lists.specs.SignedDigits.{Words}
-use Rattle.kinds.specs.Limits.{Width, doubles}
+use Rattle.kinds.specs.Limits.{Width}
 use Rattle.words.specs.Words.{wordBits, wordCount}
 
 -- the units of a pattern
@@ -25,6 +25,6 @@ pub record Scaled (f : Format) (p m e : ℕ) : Type 0 where
   pub units : m * 2 ^ e ≡ magnitude f (ofBits f p)
 
 -- lo at the word k and hi at the next are the magnitude of the pattern p, and the two words are there
-pub record AtWord (p k lo hi : ℕ) : Type 0 where
+pub record AtWord (f : Format) (p k lo hi : ℕ) : Type 0 where
   pub within : k + 1 < wordCount
-  pub units : two wordBits k lo hi ≡ magnitude (doubles .format) (ofBits (doubles .format) p)
+  pub units : two wordBits k lo hi ≡ magnitude f (ofBits f p)

@@ -1,7 +1,7 @@
 -- The register's words after a sum: a carry equation on their numbers gives every word; and the units of a pattern and of its opposite. Assumes nothing.
 use mathlib.Core.Path.{_≡_, sym, ap, _∙_}
 use mathlib.Core.List.{List}
-use Prim.Native.Nat.{ℕ, _^_, _≤_, _<_}
+use Prim.Native.Nat.{ℕ, _*_, _≤_, _<_}
 use lib.Dec.{T, lit<}
 use lib.Ieee.{ofBits, top}
 use lib.Ieee.Scale.{finite}
@@ -9,7 +9,7 @@ use lib.IntN.{pos, negℤ, _+ℤ_, _-ℤ_}
 use lib.ListN.{length, getD}
 use mir.Syntax.{w64}
 use mir.Val.{Fits}
-use Rattle.kinds.specs.Limits.{doubles}
+use Rattle.kinds.specs.Limits.{Width}
 use Rattle.lists.specs.Carry.{two, Carried}
 use Rattle.lists.specs.SignedDigits.{cut-add, cut-sub}
 use Rattle.words.specs.Words.{wordBits, wordCount, wholeOf, wordsOf}
@@ -30,12 +30,13 @@ module _ {ws es : List ℕ} (W : Held ws) (E : Held es) {m r : ℕ} where
   falls C = cut-sub wordBits wordCount (lit< tt) m r W E (rw (W .long) at (C .total))
 
 -- ---- the units of a pattern, from its place
-module _ {p k lo hi : ℕ} (F : T (finite (ofBits (doubles .format) p))) (P : AtWord p k lo hi) where
-  pub units-plus : p < top (doubles .format) → unitsOf doubles p ≡ pos (two wordBits k lo hi)
-  units-plus h = pattern-plus (doubles .format) p F h ∙ ap pos (sym (P .units))
+module _ (W : Width) {p k lo hi : ℕ} (F : T (finite (ofBits (W .format) p))) (P : AtWord (W .format) p k lo hi) where
+  pub units-plus : p < top (W .format) → unitsOf W p ≡ pos (two wordBits k lo hi)
+  units-plus h = pattern-plus (W .format) p F h ∙ ap pos (sym (P .units))
 
-  pub units-minus : top (doubles .format) ≤ p → unitsOf doubles p ≡ negℤ (pos (two wordBits k lo hi))
-  units-minus h = pattern-minus (doubles .format) p F h ∙ ap (λ (m : ℕ). negℤ (pos m)) (sym (P .units))
+  pub units-minus : top (W .format) ≤ p → unitsOf W p ≡ negℤ (pos (two wordBits k lo hi))
+  units-minus h = pattern-minus (W .format) p F h ∙ ap (λ (m : ℕ). negℤ (pos m)) (sym (P .units))
 
-pub opposite-units : (p : ℕ) → p < 2 ^ 64 → T (finite (ofBits (doubles .format) p)) → unitsOf doubles (opposite (doubles .format) p) ≡ negℤ (unitsOf doubles p)
-opposite-units p h F = opposite-value (doubles .format) p h F
+pub opposite-units : (W : Width) (p : ℕ) → p < 2 * top (W .format) → T (finite (ofBits (W .format) p))
+    → unitsOf W (opposite (W .format) p) ≡ negℤ (unitsOf W p)
+opposite-units W = opposite-value (W .format)

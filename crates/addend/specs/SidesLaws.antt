@@ -18,7 +18,7 @@ use Rattle.units.specs.Whole.{nat, neg, difference}
 use Rattle.lists.specs.Carry.{two, Carried}
 use Rattle.lists.specs.Digits.{number, Digits}
 use Rattle.lists.specs.DigitLaws.{digits-take}
-use Rattle.kinds.specs.Limits.{doubles}
+use Rattle.kinds.specs.Limits.{Width}
 use Rattle.words.specs.Words.{wordBits, wordCount, registerBits, wholeOf, wordsOf}
 use Rattle.addend.specs.Addend.{AtWord, Held}
 use Rattle.addend.specs.RegisterWords.{falls, units-plus, units-minus}
@@ -46,27 +46,26 @@ minus-side zero = refl
 minus-side (suc n) = refl
 
 -- b is the sign's bit
-module _ {p k lo hi : ℕ} (F : T (finite (ofBits (doubles .format) p))) (P : AtWord p k lo hi) (b : ℕ) where
+module _ (W : Width) {p k lo hi : ℕ} (F : T (finite (ofBits (W .format) p))) (P : AtWord (W .format) p k lo hi) (b : ℕ) where
   n : ℕ
   n = two wordBits k lo hi
 
-  plus : p < top (doubles .format) → b ≡ 0 → two wordBits (k + wordCount * b) lo hi ≡ sideBySide (sidesOf doubles p)
+  plus : p < top (W .format) → b ≡ 0 → two wordBits (k + wordCount * b) lo hi ≡ sideBySide (sidesOf W p)
   unfolding n
   plus h z =
       let e : k + wordCount * b ≡ k = omega arith in
-      let u : sidesOf doubles p ≡ nat n = ap difference (units-plus F P h) in
+      let u : sidesOf W p ≡ nat n = ap difference (units-plus W F P h) in
       ap (λ (x : ℕ). two wordBits x lo hi) e ∙ no-minus (2 ^ registerBits) n ∙ sym (ap sideBySide u)
 
-  minus : top (doubles .format) ≤ p → b ≡ 1 → two wordBits (k + wordCount * b) lo hi ≡ sideBySide (sidesOf doubles p)
+  minus : top (W .format) ≤ p → b ≡ 1 → two wordBits (k + wordCount * b) lo hi ≡ sideBySide (sidesOf W p)
   unfolding n
   minus h z =
       let e : k + wordCount * b ≡ k + wordCount = omega arith in
-      let u : sidesOf doubles p ≡ neg (nat n) = ap difference (units-minus F P h) ∙ minus-side n in
+      let u : sidesOf W p ≡ neg (nat n) = ap difference (units-minus W F P h) ∙ minus-side n in
       ap (λ (x : ℕ). two wordBits x lo hi) e ∙ two-above wordBits k wordCount lo hi ∙ no-plus (2 ^ registerBits) n ∙ sym (ap sideBySide u)
 
-  pub side-at : (p < top (doubles .format) → b ≡ 0) → (top (doubles .format) ≤ p → b ≡ 1)
-      → two wordBits (k + wordCount * b) lo hi ≡ sideBySide (sidesOf doubles p)
-  side-at z s = elim (le-or-lt (top (doubles .format)) p) [
+  pub side-at : (p < top (W .format) → b ≡ 0) → (top (W .format) ≤ p → b ≡ 1) → two wordBits (k + wordCount * b) lo hi ≡ sideBySide (sidesOf W p)
+  side-at z s = elim (le-or-lt (top (W .format)) p) [
     | inl h ↦ minus h (s h)
     | inr h ↦ plus h (z h)
   ]

@@ -58,7 +58,7 @@ pub fn shifted(m: u64, e: u64) -> Pair
 // The words of a finite number's magnitude. What is required is as above.
 pub fn place(p: u64) -> Pair
     requires { ⌜ T (finite (ofBits (doubles .format) p)) ⌝ }
-    ensures { λ r. ⌜ AtWord p (r .word) (r .lo) (r .hi) ⌝ }
+    ensures { λ r. ⌜ AtWord (doubles .format) p (r .word) (r .lo) (r .hi) ⌝ }
 {
     let number = scaled(p);
     shifted(number.significand, number.by)

@@ -5,7 +5,7 @@ use mathlib.Core.List.{List, [], _∷_}
 use Prim.Native.Nat.{ℕ, _+_}
 use lib.Dec.{ltb}
 use lib.ListN.{length}
-use Rattle.kinds.specs.Limits.{doubles}
+use Rattle.kinds.specs.Limits.{Width, doubles, singles}
 use Rattle.kinds.specs.Heard.{Heard, refused, more, done, nearest, parts, accepted, count, rescued}
 use Rattle.calls.specs.Calls.{placeCode}
 
@@ -41,5 +41,11 @@ abbrev pub returned : {X : Type 0} → ℕ → List X → List ℕ → Returned 
 returned c xs vs = record { code = c; area = xs; values = vs }
 
 -- where the array of values has another length: 4, and 1 before it
+abbrev pub tooManyOf : Width → List ℕ → ℕ
+tooManyOf W ps = cond (ltb (W .length) (length ps)) 1 4
+
 abbrev pub tooManyOr4 : List ℕ → ℕ
-tooManyOr4 ps = cond (ltb (doubles .length) (length ps)) 1 4
+tooManyOr4 = tooManyOf doubles
+
+abbrev pub tooManySingles : List ℕ → ℕ
+tooManySingles = tooManyOf singles

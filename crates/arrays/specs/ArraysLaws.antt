@@ -1,8 +1,9 @@
 -- What a call of the library answers, as a C call on arrays returns it. Assumes nothing.
 use mathlib.Core.Path.{_≡_, refl, sym, ap, _∙_}
 use mathlib.Core.List.{List}
-use Prim.Native.Nat.{ℕ}
-use Rattle.kinds.specs.Limits.{doubles}
+use Prim.Native.Nat.{ℕ, _≤_}
+use native.Mathlib.Nat.{le-trans}
+use Rattle.kinds.specs.Limits.{Width, doubles}
 use Rattle.kinds.specs.Outcome.{Outcome, outcome}
 use Rattle.kinds.specs.Heard.{Refusal, Heard}
 use Rattle.kinds.specs.declared.Nearest.{Nearest}
@@ -28,7 +29,12 @@ code-returned {A} {X} heard {r} {a} {b} {xs} {w} c e q =
     ∙ ap (λ (x : A). outcome (codeOf (heard x)) xs) (sym q)
     ∙ ap (λ (x : Outcome A X). outcome (codeOf (heard (x .answer))) (x .area)) e
 
+-- ---- a place among fewer is one among more
+pub refusal-among : {m n k i : ℕ} → m ≤ n → Refusal m k i → Refusal n k i
+refusal-among l R = record { number = R .number; place = le-trans (R .place) l; as-told = R .as-told }
+
 -- ---- a nearest sum that is refused is refused with a number of the table
-pub nearest-by : (a : Nearest) → ((k i : ℕ) → a ≡ nearests.Refused k i → Refusal (doubles .length) k i) → NearestRefusal a
-nearest-by (nearests.Sum x) h = tt
-nearest-by (nearests.Refused k i) h = h k i refl
+pub nearest-by : (W : Width) → W .length ≤ doubles .length → (a : Nearest)
+    → ((k i : ℕ) → a ≡ nearests.Refused k i → Refusal (W .length) k i) → NearestRefusal a
+nearest-by W l (nearests.Sum x) h = tt
+nearest-by W l (nearests.Refused k i) h = refusal-among l (h k i refl)

@@ -4,7 +4,7 @@ use mathlib.Core.Logic.{_↔_}
 use mathlib.Core.List.{List}
 use Prim.Native.Nat.{ℕ, _+_, _≤_, _<_}
 use lib.ListN.{length}
-use Rattle.kinds.specs.Limits.{doubles}
+use Rattle.kinds.specs.Limits.{Width}
 use Rattle.kinds.specs.Heard.{Place, Heard, refused}
 use Rattle.calls.specs.Calls.{placeCode}
 use Rattle.arrays.specs.Arrays.{Returned}
@@ -29,9 +29,9 @@ pub record Coded (n L other : ℕ) (h : Heard) (code : ℕ) : Type 0 where
   pub zero : (code ≡ 0) ↔ ((L ≡ n) × Accepts h)
 
 -- `other` for a list: 1 for a list that is too long, and 4 for the array itself
-pub data ListOther (ps : List ℕ) : ℕ → Type 0 where
-  too-many : doubles .length < length ps → ListOther ps 1
-  otherwise : length ps ≤ doubles .length → ListOther ps 4
+pub data ListOther (W : Width) (ps : List ℕ) : ℕ → Type 0 where
+  too-many : W .length < length ps → ListOther W ps 1
+  otherwise : length ps ≤ W .length → ListOther W ps 4
 
 -- every array is as it was
 pub record Left {X : Type 0} (w : Returned X) (xs : List X) (vs : List ℕ) : Type 0 where

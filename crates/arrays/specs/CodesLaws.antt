@@ -11,7 +11,7 @@ use borrow.Author.Tests.{lt-ltb, le-ltb}
 use lib.ListN.{length}
 use Rattle.lists.specs.Apart.{apart}
 use Rattle.units.specs.Powers.{le-or-lt}
-use Rattle.kinds.specs.Limits.{doubles}
+use Rattle.kinds.specs.Limits.{Width}
 use Rattle.kinds.specs.Outcome.{Outcome, outcome}
 use Rattle.kinds.specs.Heard.{Place, Heard, refused, more, done, nearest, parts, accepted, count, rescued}
 use Rattle.kinds.specs.Hearing.{exactly}
@@ -19,7 +19,7 @@ use Rattle.kinds.specs.OutcomeLaws.{same}
 use Rattle.kinds.specs.declared.Verdict.the-variants as verdicts
 use Rattle.judge.specs.Table as list-rows
 use Rattle.judge.specs.Table.{ListWhen}
-use Rattle.arrays.specs.Arrays.{codeOf, valuesOf, Returned, returned, tooManyOr4}
+use Rattle.arrays.specs.Arrays.{codeOf, valuesOf, Returned, returned, tooManyOf}
 use Rattle.arrays.specs.Codes.{Accepts, HeardWhen, accepts, refuses, CodeWhen, right-length, other-length, Coded, Left, ListOther, too-many, otherwise}
 
 -- ---- each code exactly when
@@ -121,29 +121,30 @@ values-call-left h values true k n = values-left h values n
 values-call-left h values false k n = refl
 
 -- ---- a list: no refusal has the number 0
-pub list-some : {area parts : Bool} {ps : List ℕ} {k i : ℕ} → ListWhen doubles area parts ps (verdicts.Refused k i) → k ≡ 0 → ⊥
+pub list-some : {W : Width} {area parts : Bool} {ps : List ℕ} {k i : ℕ} → ListWhen W area parts ps (verdicts.Refused k i) → k ≡ 0 → ⊥
 list-some (list-rows.too-many h) z = omega arith
 list-some (list-rows.wrong-area h a) z = omega arith
 list-some (list-rows.wrong-parts h a b) z = omega arith
 list-some (list-rows.bad-number P k i F) z = F .bad z
 
 -- the code for another length of the array of values
-other-row : {ps : List ℕ} {c : ℕ} → ListOther ps c → tooManyOr4 ps ≡ c
-other-row {ps} (too-many h) = rw (lt-ltb (doubles .length) (length ps) h)
-other-row {ps} (otherwise h) = rw (le-ltb (doubles .length) (length ps) h)
+module _ (W : Width) where
+  other-row : {ps : List ℕ} {c : ℕ} → ListOther W ps c → tooManyOf W ps ≡ c
+  other-row {ps} (too-many h) = rw (lt-ltb (W .length) (length ps) h)
+  other-row {ps} (otherwise h) = rw (le-ltb (W .length) (length ps) h)
 
-some-other : (ps : List ℕ) → (c : ℕ) × ListOther ps c
-some-other ps = elim (le-or-lt (length ps) (doubles .length)) [ inl h ↦ (4, otherwise h) | inr h ↦ (1, too-many h) ]
+  some-other : (ps : List ℕ) → (c : ℕ) × ListOther W ps c
+  some-other ps = elim (le-or-lt (length ps) (W .length)) [ inl h ↦ (4, otherwise h) | inr h ↦ (1, too-many h) ]
 
-pub list-other : (ps : List ℕ) (c : ℕ) → (tooManyOr4 ps ≡ c) ↔ ListOther ps c
-list-other ps = exactly (tooManyOr4 ps) (ListOther ps) (λ c. other-row) (some-other ps)
+  pub list-other : (ps : List ℕ) (c : ℕ) → (tooManyOf W ps ≡ c) ↔ ListOther W ps c
+  list-other ps = exactly (tooManyOf W ps) (ListOther W ps) (λ c. other-row) (some-other ps)
 
-pub list-nonzero : (ps : List ℕ) → tooManyOr4 ps ≡ 0 → ⊥
-list-nonzero ps z = by (list-other ps 0 .0 z) refl
-  where
-    by : {c : ℕ} → ListOther ps c → c ≡ 0 → ⊥
-    by (too-many h) e = omega arith
-    by (otherwise h) e = omega arith
+  pub list-nonzero : (ps : List ℕ) → tooManyOf W ps ≡ 0 → ⊥
+  list-nonzero ps z = by (list-other ps 0 .0 z) refl
+    where
+      by : {c : ℕ} → ListOther W ps c → c ≡ 0 → ⊥
+      by (too-many h) e = omega arith
+      by (otherwise h) e = omega arith
 
 -- ---- any two results that meet a contract are equal
 pub returned-determined : {X : Type 0} {r q : ℕ} {xs ys : List X} {us vs : List ℕ} (w : Returned X) → returned r xs us ≡ w → returned q ys vs ≡ w

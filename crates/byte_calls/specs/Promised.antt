@@ -24,13 +24,14 @@ use Rattle.judge.specs.FaultLaws.{fault-number}
 use Rattle.octets.specs.Octets.{little, packed}
 use Rattle.octets.specs.EightsLaws.{eights-length}
 use Rattle.sums.specs.Sums.{sumOf}
-use Rattle.sums.specs.SumLaws.{sum-below-limit}
+use Rattle.sums.specs.SumLaws.{sums-doubles, sum-below-limit}
 use Rattle.sums.specs.PartsMeaning.{nearest-sign}
 use Rattle.sums.specs.Promised.{nearest-promised}
 use Rattle.sums.specs.ZeroSums as zeros
 use Rattle.sums.specs.AnswerNumbers.{nearest-refusal}
 use Rattle.walk.specs.Walk.{Walked}
 use Rattle.runs.specs.Instances.{Accepted, faithful-64, minus-64, zero-64}
+use Rattle.rounds.specs.Instances.{doubles-fit}
 use Rattle.runs.specs.AnswerNumbers.{faithful-refusal}
 use Rattle.demands.specs.Refusals.{nearest-refused, faithful-refused}
 use Rattle.calls.specs.Calls.{Called, placeCode, answered, lengthFault, patternsIn, sumCall, own, faithfulHeard, sumHeard, faithfulCall, nearestCall}
@@ -73,12 +74,12 @@ module _ (list out : List ℕ) (l : length list ≤ listBytes) (m : length list 
 
   pub nearest-call : Allowed doubles ps → NearestBytes list (nearestCall list out)
   nearest-call A =
-      let P = nearest-promised ps (allowed (record { few = few; right-area = tt; right-parts = tt }) A) in
+      let P = nearest-promised sums-doubles ps (allowed (record { few = few; right-area = tt; right-parts = tt }) A) in
       record {
         sum = _;
         is = is-summed sumHeard ∙ ap (λ h. answered h out []) (P .0) ∙ answered-nearest out [] _;
         nearest = P .1;
-        zero = nearest-sign (doubles .format) (zeroSign doubles ps) (sumOf (doubles .format) ps) (sum-below-limit few A);
+        zero = nearest-sign (doubles .format) (zeroSign doubles ps) (sumOf (doubles .format) ps) (sum-below-limit sums-doubles few A);
       }
 
   -- rule S3 in bytes
@@ -102,7 +103,7 @@ module _ (list out : List ℕ) (l : length list ≤ listBytes) (m : length list 
       pub nearest-zero : nearestCall list out ≡ outcome 0 (packed (p ∷ 0 ∷ []))
       nearest-zero =
           is-summed sumHeard
-          ∙ ap (λ h. answered h out []) (zeros.nearest-zero ps s (allowed (record { few = few; right-area = tt; right-parts = tt }) A) p .1 Z)
+          ∙ ap (λ h. answered h out []) (zeros.nearest-zero sums-doubles ps s (allowed (record { few = few; right-area = tt; right-parts = tt }) A) p .1 Z)
           ∙ answered-nearest out [] p
 
   -- a bad number is told with its fault and its place
@@ -127,7 +128,7 @@ module _ (list out : List ℕ) (l : length list ≤ listBytes) (m : length list 
     faithful-code =
         is-summed faithfulHeard
         ∙ ap (λ h. answered h out []) (faithful-hears ps k i given)
-        ∙ code (faithful-refusal ps (own (length ps)) k i (faithful-refused ps (own (length ps)) k i .1 (rw (fits ps) given)))
+        ∙ code (faithful-refusal doubles-fit ps (own (length ps)) k i (faithful-refused ps (own (length ps)) k i .1 (rw (fits ps) given)))
 
     pub nearest-code : nearestCall list out ≡ outcome (k + 32 * (i + 1)) out
     nearest-code =

@@ -28,8 +28,8 @@ use Rattle.rescue.specs.Rescue.{rescuedOf}
 use Rattle.weights.specs.Weights as H
 use Rattle.pairs.specs.Pairs as X
 use Rattle.arrays.specs.Arrays.{returned}
-use Rattle.step_calls.specs.StepArrays.{openArrays, stepArrays}
-use Rattle.sum_calls.specs.SumArrays.{faithfulArrays, nearestArrays}
+use Rattle.step_calls.specs.StepArrays.{openWith, stepWith, openArrays, stepArrays}
+use Rattle.sum_calls.specs.SumArrays.{faithfulWith, nearestWith, faithfulArrays, nearestArrays}
 use Rattle.part_calls.specs.PartArrays.{partsArrays}
 use Rattle.register_calls.specs.RegisterArrays.{addArrays, withdrawArrays, mergeArrays, roundArrays}
 use Rattle.sheet_calls.specs.SheetArrays.{readArrays, writeArrays}
@@ -56,30 +56,30 @@ abbrev further : List ℕ
 further = 1 ∷ 0x4340000000000000 ∷ 0x4320000000000000 ∷ 0 ∷ 3 ∷ 1 ∷ 1 ∷ 7 ∷ 0 ∷ 0 ∷ []
 
 pub opens : openArrays 7 numbers zeros (replicate 10 7) ≡ returned 0 copied begun
-unfolding openArrays judged firstFault faultOf W.openedAfter R.fresh largest powerOf ceil magnitude nearestFloat ofBits toBits le eq
+unfolding openWith judged firstFault faultOf W.openedAfter R.fresh largest powerOf ceil magnitude nearestFloat ofBits toBits le eq
 opens = refl
 
 pub goes-on : stepArrays begun copied 7 0 ≡ returned 0 zeros further
-unfolding stepArrays W.steppedAfter W.taken R.turned R.fresh R.scaled R.finished R.closedBy
+unfolding stepWith W.steppedAfter W.taken R.turned R.fresh R.scaled R.finished R.closedBy
     N.soundSigma N.atMost N.soundLargest N.soundNumbers N.soundPending N.badPlace N.sound N.gated remainders gathered lastSum largest largestWith powerOf ceil
     magnitude negative nearestFloat ofBits toBits add sub mul le eq
 goes-on = refl
 
 pub finishes : stepArrays further zeros 7 0 ≡ returned 0 zeros (2 ∷ 0x4320000000000000 ∷ 2 ∷ replicate 7 0)
-unfolding stepArrays W.steppedAfter W.taken R.turned R.fresh R.scaled R.finished R.closedBy
+unfolding stepWith W.steppedAfter W.taken R.turned R.fresh R.scaled R.finished R.closedBy
     N.soundSigma N.atMost N.soundLargest N.soundNumbers N.soundPending N.badPlace N.sound N.gated remainders gathered lastSum largest largestWith powerOf ceil
     magnitude negative nearestFloat ofBits toBits add sub mul le eq
 finishes = refl
 
 -- ---- the sums in one call: 2^51, in 2 rounds
 pub undivided : faithfulArrays numbers zeros (7 ∷ 7 ∷ []) ≡ returned 0 zeros (0x4320000000000000 ∷ 2 ∷ [])
-unfolding faithfulArrays judged firstFault faultOf W.openedAfter W.steppedAfter W.taken W.rising W.roundsFrom R.turned R.fresh R.scaled R.finished R.closedBy
+unfolding faithfulWith judged firstFault faultOf W.openedAfter W.steppedAfter W.taken W.rising W.roundsFrom R.turned R.fresh R.scaled R.finished R.closedBy
     N.soundSigma N.atMost N.soundLargest N.soundNumbers N.soundPending N.badPlace N.sound N.gated remainders gathered lastSum largest largestWith powerOf ceil
     magnitude negative nearestFloat ofBits toBits add sub mul le eq
 undivided = refl
 
 pub nearest : nearestArrays numbers (7 ∷ []) ≡ outcome 0 (0x4320000000000000 ∷ [])
-unfolding nearestArrays judged firstFault faultOf S.nearestAfter nearestFloat value ofBits toBits
+unfolding nearestWith judged firstFault faultOf S.nearestAfter nearestFloat value ofBits toBits
 nearest = refl
 
 -- 2^54 + 1 in one part: the part is 2^54, and doesn't add up
@@ -174,14 +174,14 @@ halfDone = replicate 64 (ofBits binary64 0) ++ one ∷ []
 
 pub half-way : stepArrays (7 ∷ 0x4060000000000000 ∷ 0 ∷ 0 ∷ 65 ∷ 3 ∷ 0 ∷ 7 ∷ 0 ∷ 7 ∷ []) (replicate 65 one) 7 0
     ≡ returned 0 halfDone (1 ∷ 0x4060000000000000 ∷ 0 ∷ 0x4050000000000000 ∷ 65 ∷ 2 ∷ 0 ∷ 7 ∷ 0 ∷ 0 ∷ [])
-unfolding stepArrays W.steppedAfter W.taken R.turned R.fresh R.scaled R.finished R.closedBy
+unfolding stepWith W.steppedAfter W.taken R.turned R.fresh R.scaled R.finished R.closedBy
     N.soundSigma N.atMost N.soundLargest N.soundNumbers N.soundPending N.badPlace N.sound N.gated remainders gathered lastSum largest largestWith powerOf ceil
     magnitude negative nearestFloat ofBits toBits add sub mul le eq
 half-way = refl
 
 pub second-half : stepArrays (7 ∷ 0x4060000000000000 ∷ 0 ∷ 0x4050000000000000 ∷ 65 ∷ 2 ∷ 0 ∷ 7 ∷ 0 ∷ 7 ∷ []) halfDone 7 1
     ≡ returned 0 (replicate 65 (ofBits binary64 0)) (2 ∷ 0x4050400000000000 ∷ 1 ∷ replicate 7 0)
-unfolding stepArrays W.steppedAfter W.taken R.turned R.fresh R.scaled R.finished R.closedBy
+unfolding stepWith W.steppedAfter W.taken R.turned R.fresh R.scaled R.finished R.closedBy
     N.soundSigma N.atMost N.soundLargest N.soundNumbers N.soundPending N.badPlace N.sound N.gated remainders gathered lastSum largest largestWith powerOf ceil
     magnitude negative nearestFloat ofBits toBits add sub mul le eq
 second-half = refl
@@ -192,14 +192,14 @@ keeping largest = 7 ∷ 0x4070000000000000 ∷ 0 ∷ 0 ∷ 1 ∷ 1 ∷ 0 ∷ 7 �
 
 pub restarts : stepArrays (keeping 0x3C30000000000000) (ofBits binary64 0 ∷ []) 7 0
     ≡ returned 0 (ofBits binary64 0 ∷ []) (1 ∷ 0x3C50000000000000 ∷ 0 ∷ 0 ∷ 1 ∷ 1 ∷ 1 ∷ 7 ∷ 0 ∷ 0x3C30000000000000 ∷ [])
-unfolding stepArrays W.steppedAfter W.taken R.turned R.fresh R.scaled R.finished R.closedBy
+unfolding stepWith W.steppedAfter W.taken R.turned R.fresh R.scaled R.finished R.closedBy
     N.soundSigma N.atMost N.soundLargest N.soundNumbers N.soundPending N.badPlace N.sound N.gated remainders gathered lastSum largest largestWith powerOf ceil
     magnitude negative nearestFloat ofBits toBits add sub mul le eq
 restarts = refl
 
 -- and a NaN there is no state's
 pub kept-nan : stepArrays (keeping 0x7FF8000000000000) (ofBits binary64 0 ∷ []) 7 0 ≡ returned 8 (ofBits binary64 0 ∷ []) (keeping 0x7FF8000000000000)
-unfolding stepArrays W.steppedAfter N.soundSigma N.atMost N.soundLargest N.soundNumbers N.gated ceil magnitude negative ofBits toBits le eq
+unfolding stepWith W.steppedAfter N.soundSigma N.atMost N.soundLargest N.soundNumbers N.gated ceil magnitude negative ofBits toBits le eq
 kept-nan = refl
 
 -- rule C11: 2^32 rounds are no state's
@@ -207,7 +207,7 @@ abbrev manyRounds : List ℕ
 manyRounds = 1 ∷ 0x4660000000000000 ∷ 0 ∷ 0 ∷ 3 ∷ 1 ∷ 0x100000000 ∷ 7 ∷ 0 ∷ 0 ∷ []
 
 pub rounds-of-33-bits : stepArrays manyRounds copied 7 0 ≡ returned 8 copied manyRounds
-unfolding stepArrays W.steppedAfter W.taken R.turned R.fresh R.scaled R.finished R.closedBy
+unfolding stepWith W.steppedAfter W.taken R.turned R.fresh R.scaled R.finished R.closedBy
     N.soundSigma N.atMost N.soundLargest N.soundNumbers N.soundPending N.badPlace N.sound N.gated remainders gathered lastSum largest largestWith powerOf ceil
     magnitude negative nearestFloat ofBits toBits add sub mul le eq
 rounds-of-33-bits = refl
@@ -217,7 +217,7 @@ abbrev elsewhere : List ℕ
 elsewhere = 1 ∷ 0x4660000000000000 ∷ 0 ∷ 0 ∷ 3 ∷ 1 ∷ 0x100000000 ∷ 0x100000007 ∷ 0 ∷ 0 ∷ []
 
 pub ensemble-of-33-bits : stepArrays elsewhere copied 7 0 ≡ returned 21 copied elsewhere
-unfolding stepArrays W.steppedAfter N.gated
+unfolding stepWith W.steppedAfter N.gated
 ensemble-of-33-bits = refl
 
 -- rule R19: under sigma = 2^102 the 2^100 at place 0 is above 2^-M sigma, and place 0 is 19 + 32
@@ -225,7 +225,7 @@ abbrev lowered : List ℕ
 lowered = 1 ∷ 0x4650000000000000 ∷ 0 ∷ 0 ∷ 3 ∷ 1 ∷ 0 ∷ 7 ∷ 0 ∷ 0 ∷ []
 
 pub work-at-place-0 : stepArrays lowered copied 7 0 ≡ returned 51 copied lowered
-unfolding stepArrays W.steppedAfter N.soundSigma N.atMost N.soundLargest N.soundNumbers N.soundPending N.badPlace N.gated ceil
+unfolding stepWith W.steppedAfter N.soundSigma N.atMost N.soundLargest N.soundNumbers N.soundPending N.badPlace N.gated ceil
     magnitude negative ofBits toBits le eq
 work-at-place-0 = refl
 
@@ -237,26 +237,26 @@ in-two-parts = refl
 
 -- a sum below zero keeps its sign; a NaN at place 1 is 2 + 64
 pub below-zero : nearestArrays (0xBFF0000000000000 ∷ []) (7 ∷ []) ≡ outcome 0 (0xBFF0000000000000 ∷ [])
-unfolding nearestArrays judged firstFault faultOf S.nearestAfter nearestFloat value ofBits toBits
+unfolding nearestWith judged firstFault faultOf S.nearestAfter nearestFloat value ofBits toBits
 below-zero = refl
 
 pub bad-on-arrays : nearestArrays (0x3FF0000000000000 ∷ 0x7FF8000000000000 ∷ []) (7 ∷ []) ≡ outcome 66 (7 ∷ [])
-unfolding nearestArrays judged firstFault faultOf magnitude S.nearestAfter ofBits
+unfolding nearestWith judged firstFault faultOf magnitude S.nearestAfter ofBits
 bad-on-arrays = refl
 
 -- ---- rule S3: -0 alone, by blocks, undivided, nearest and in two parts
 pub opens-minus : openArrays 7 (0x8000000000000000 ∷ []) (one ∷ []) (replicate 10 7)
     ≡ returned 0 (ofBits binary64 0x8000000000000000 ∷ []) (2 ∷ 0x8000000000000000 ∷ 0 ∷ replicate 7 0)
-unfolding openArrays judged firstFault faultOf zeroSign every W.openedAfter R.fresh largest magnitude nearestFloat ofBits toBits
+unfolding openWith judged firstFault faultOf zeroSign every W.openedAfter R.fresh largest magnitude nearestFloat ofBits toBits
 opens-minus = refl
 
 pub undivided-minus : faithfulArrays (0x8000000000000000 ∷ []) (one ∷ []) (7 ∷ 7 ∷ [])
     ≡ returned 0 (ofBits binary64 0x8000000000000000 ∷ []) (0x8000000000000000 ∷ 0 ∷ [])
-unfolding faithfulArrays judged firstFault faultOf zeroSign every W.openedAfter W.rising W.roundsFrom R.fresh largest magnitude nearestFloat ofBits toBits
+unfolding faithfulWith judged firstFault faultOf zeroSign every W.openedAfter W.rising W.roundsFrom R.fresh largest magnitude nearestFloat ofBits toBits
 undivided-minus = refl
 
 pub nearest-minus : nearestArrays (0x8000000000000000 ∷ []) (7 ∷ []) ≡ outcome 0 (0x8000000000000000 ∷ [])
-unfolding nearestArrays judged firstFault faultOf zeroSign every S.nearestAfter nearestFloat value ofBits toBits
+unfolding nearestWith judged firstFault faultOf zeroSign every S.nearestAfter nearestFloat value ofBits toBits
 nearest-minus = refl
 
 pub in-parts-minus : partsArrays (0x8000000000000000 ∷ []) (one ∷ one ∷ []) (7 ∷ [])
@@ -266,7 +266,7 @@ in-parts-minus = refl
 
 -- ---- rule C10, another length of the array of values: 1 before it, 5 behind it, on a sheet all else before it
 pub too-many-first : nearestArrays (replicate 4095 0) [] ≡ outcome 1 []
-unfolding nearestArrays
+unfolding nearestWith
 too-many-first = refl
 
 pub four-before-five : partsArrays [] [] [] ≡ returned 4 [] []
@@ -274,7 +274,7 @@ unfolding partsArrays
 four-before-five = refl
 
 pub four-for-ten : stepArrays [] [] 7 0 ≡ returned 4 [] []
-unfolding stepArrays
+unfolding stepWith
 four-for-ten = refl
 
 pub sheet-first : readArrays [] [] [] ≡ returned 11 [] []

@@ -8,6 +8,7 @@ pub mod Largest
 pub mod Lanes
 pub mod FromC
 pub mod LanesFromC
+pub mod Singles
 pub mod BytesFromC
 pub mod Holds
 pub mod Example

@@ -26,16 +26,17 @@ use Rattle.register.specs.RegisterLaws.{entry-when}
 use Rattle.register.specs.Merge as merging
 use Rattle.register.specs.Merge.{merged, MergeWhen}
 use Rattle.sums.specs.Sums.{nearestOf, fitting, partsOf}
+use Rattle.rounds.specs.Instances.{doubles-fit}
 use Rattle.walk.specs.Walk.{opened, stepped, faithfulOf}
 use Rattle.demands.specs.Tables as tables
 use Rattle.demands.specs.Tables.{StepWhen, WalkWhen, RoundWhen}
-use Rattle.demands.specs.Refusals.{nearest-refused, parts-refused, round-refused, merge-refused, open-refused, faithful-refused, step-refused}
+use Rattle.demands.specs.Refusals.{parts-refused, round-refused, merge-refused}
+use Rattle.demands.specs.WalkHearing as walks
 
 module _ (ps : List ℕ) where
   pub nearest-heard : (k : ℕ) (p : Place) → (nearestHeard doubles (nearestOf doubles ps) ≡ refused k p)
       ↔ Row (λ k i. ListWhen doubles true true ps (verdicts.Refused k i)) k p
-  nearest-heard = hears (nearestHeard doubles) nearests.Refused (λ k i. refl) (nearestOf doubles ps) (nearest-is doubles (nearestOf doubles ps))
-      (λ k i. ListWhen doubles true true ps (verdicts.Refused k i)) (nearest-refused ps) (λ k i h. list-refusal h .as-told)
+  nearest-heard = walks.nearest-heard doubles ps
 
   pub parts-heard : (area : List Float) (k : ℕ) (p : Place) → (partedHeard (partsOf doubles ps area .answer) ≡ refused k p)
       ↔ Row (λ k i. ListWhen doubles true (fitting doubles area) ps (verdicts.Refused k i)) k p
@@ -45,29 +46,15 @@ module _ (ps : List ℕ) where
   module _ (work : List Float) where
     pub open-heard : (e k : ℕ) (p : Place) → (stepHeard doubles (opened doubles e ps work .answer) ≡ refused k p)
         ↔ Row (λ k i. WalkWhen doubles ps work (verdicts.Refused k i)) k p
-    open-heard e = hears (stepHeard doubles) steps.Refused (λ k i. refl) (opened doubles e ps work .answer) (step-is doubles (opened doubles e ps work .answer))
-        (λ k i. WalkWhen doubles ps work (verdicts.Refused k i)) (λ k i. open-refused ps work k i e) (λ k i h. list-refusal h .as-told)
+    open-heard = walks.open-heard doubles ps work
 
     pub faithful-heard : (k : ℕ) (p : Place) → (stepHeard doubles (faithfulOf doubles ps work .answer) ≡ refused k p)
         ↔ Row (λ k i. WalkWhen doubles ps work (verdicts.Refused k i)) k p
-    faithful-heard = hears (stepHeard doubles) steps.Refused (λ k i. refl) _ (step-is doubles (faithfulOf doubles ps work .answer))
-        (λ k i. WalkWhen doubles ps work (verdicts.Refused k i)) (faithful-refused ps work) (λ k i h. list-refusal h .as-told)
-
--- ---- a step: 19 has its place, and any other number place 0
+    faithful-heard = walks.faithful-heard doubles ps work doubles-fit
 
 pub step-heard : (s : State) (e b : ℕ) (work : List Float) (k : ℕ) (p : Place) → (stepHeard doubles (stepped doubles s e b work .answer) ≡ refused k p)
     ↔ Row (λ k i. StepWhen doubles s e b work (verdicts.Refused k i)) k p
-step-heard s e b work = hears (stepHeard doubles) steps.Refused (λ k i. refl) _ (step-is doubles (stepped doubles s e b work .answer))
-    (λ k i. StepWhen doubles s e b work (verdicts.Refused k i)) (step-refused s e b work) (λ k i h. as-told h)
-  where
-    as-told : {k i : ℕ} → StepWhen doubles s e b work (verdicts.Refused k i) → placeOf k i ≡ told k i
-    as-told (tables.wrong-length n) = refl
-    as-told (tables.other-ensemble l n) = refl
-    as-told (tables.unsound-numbers l m n) = refl
-    as-told (tables.unsound-set l m N n) = refl
-    as-told (tables.unsound-place l m N S i F) = placed 19 i (inr tt)
-    as-told (tables.no-block l m S h) = refl
-    as-told (tables.taken-before l m S h p) = refl
+step-heard = walks.step-heard doubles-fit
 
 -- ---- the other tables give every number with place 0
 

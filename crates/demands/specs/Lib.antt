@@ -6,7 +6,9 @@ pub mod TablesLaws
 pub mod WalkRefusals
 pub mod Determined
 pub mod Refusals
+pub mod WalkHearing
 pub mod Hearing
+pub mod Singles
 pub mod Weighed
 pub mod Graded
 pub mod Products

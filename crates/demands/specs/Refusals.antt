@@ -34,7 +34,7 @@ use Rattle.rounds.specs.Instances.{doubles-fit}
 use Rattle.walk.specs.Walk.{opened, stepped, faithfulOf}
 use Rattle.demands.specs.SoundState.{SoundState}
 use Rattle.demands.specs.Tables.{StepWhen, OfState, WalkWhen, RoundWhen}
-use Rattle.demands.specs.TablesLaws.{step-when, sound-when, round-when}
+use Rattle.demands.specs.TablesLaws.{round-when}
 use Rattle.demands.specs.WalkRefusals as walks
 
 -- ---- sums::nearest is lent no area
@@ -112,12 +112,6 @@ module _ (s : State) (e b : ℕ) (work : List Float) (k i : ℕ) where
   pub step-leaves : stepped doubles s e b work .answer ≡ steps.Refused k i → stepped doubles s e b work .area ≡ work
   step-leaves = walks.step-leaves doubles s e b work k i
 
--- where the area has n numbers and the step names the state's ensemble, the state is sound exactly where it answers none of the refusals that are the state's
 pub step-sound : (s : State) (e b : ℕ) (work : List Float) → length work ≡ s .n → e ≡ s .ensemble
     → SoundState doubles s work ↔ ((k i : ℕ) → OfState k → stepped doubles s e b work .answer ≡ steps.Refused k i → ⊥)
-step-sound s e b work l m =
-    let sound = sound-when doubles (doubles-fit .top) (doubles-fit .top-is) s e b work l m in
-    let given = step-when doubles (doubles-fit .top) (doubles-fit .top-is) s e b work in (
-      λ S k i o h. sound .0 S k i o (given (verdicts.Refused k i) .1 (step-refused s e b work k i .0 h)),
-      λ none. sound .1 (λ k i o h. none k i o (step-refused s e b work k i .1 (given (verdicts.Refused k i) .0 h))),
-    )
+step-sound s e b work = walks.step-sound doubles s e b work (doubles-fit .top) (doubles-fit .top-is)

@@ -18,15 +18,15 @@ use lib.Ieee.Scale.{finite}
 use Rattle.ieee.specs.Units.{magnitude}
 use Rattle.lists.specs.Bitset.{has}
 use Rattle.lists.specs.Each.{Each}
-use Rattle.kinds.specs.Limits.{Width, doubles, exponentOf, blocksOf}
+use Rattle.kinds.specs.Limits.{Width, doubles, singles, exponentOf, blocksOf}
 use Rattle.kinds.specs.declared.State.{State}
 use Rattle.judge.specs.Table.{sizeOf}
 use Rattle.sound.specs.Sound.{soundNumbers, soundPending, soundPlace, badPlace, sound}
 use Rattle.sound.specs.Numbers.{limitExponent, Numbers}
 use Rattle.sound.specs.SigmaLaws.{both-true}
 use Rattle.sound.specs.SoundLaws.{numbers-hold, numbers-true, pending-holds, sound-tests, sound-all}
-use Rattle.sound.specs.DoublesLaws.{magnitude-exponent}
-use Rattle.rounds.specs.Instances.{doubles-fit}
+use Rattle.sound.specs.LimitLaws.{magnitude-doubles, magnitude-singles}
+use Rattle.rounds.specs.Instances.{doubles-fit, singles-fit}
 use Rattle.demands.specs.SoundState.{SoundPlace, SoundSet, SoundState, FirstUnsound}
 
 -- ---- a set with no member from B on is below 2^B, and one that isn't 0 has a member
@@ -170,8 +170,19 @@ pub sound-doubles : (s : State) (xs : List Float) → (sound doubles s xs ≡ tr
 sound-doubles s = sound-state doubles s (doubles-fit .top) (doubles-fit .top-is)
 
 pub limit-doubles : limitExponent doubles ≡ 2074
-limit-doubles = magnitude-exponent
+limit-doubles = magnitude-doubles
 
 pub carried-doubles : sizeOf doubles (doubles .carried) ≡ 2 ^ 2086
 unfolding magnitude ofBits
 carried-doubles = refl
+
+-- ---- at binary32 the limit 2^100 is 2^249 units, and 2^111 is 2^260
+pub sound-singles : (s : State) (xs : List Float) → (sound singles s xs ≡ true) ↔ SoundState singles s xs
+sound-singles s = sound-state singles s (singles-fit .top) (singles-fit .top-is)
+
+pub limit-singles : limitExponent singles ≡ 249
+limit-singles = magnitude-singles
+
+pub carried-singles : sizeOf singles (singles .carried) ≡ 2 ^ 260
+unfolding magnitude ofBits
+carried-singles = refl

@@ -31,8 +31,9 @@ use Rattle.walk.specs.OpeningLaws.{opened-refused}
 use Rattle.walk.specs.StepLaws.{stepped-refused}
 use Rattle.walk.specs.Undivided as undivided
 use Rattle.runs.specs.Faithful.{faithful-promised}
-use Rattle.demands.specs.Tables.{StepWhen, WalkWhen}
-use Rattle.demands.specs.TablesLaws.{step-when}
+use Rattle.demands.specs.SoundState.{SoundState}
+use Rattle.demands.specs.Tables.{StepWhen, OfState, WalkWhen}
+use Rattle.demands.specs.TablesLaws.{step-when, sound-when}
 
 -- ---- what the three share: the verdict that an answer comes from, and what a refusal leaves
 
@@ -80,6 +81,17 @@ module _ (W : Width) (s : State) (e b : ℕ) (work : List Float) where
 
     pub step-accepted : StepWhen W s e b work verdicts.Good → stepped W s e b work .answer ≡ Refused k i → ⊥
     step-accepted h = accepts (step-after (gated W s e b work)) (step-when W top is s e b work verdicts.Good .1 h) k i
+
+  -- where the area has n numbers and the step names the state's ensemble, the state is sound exactly where it answers none of the refusals that are the
+  -- state's
+  pub step-sound : (top : ℕ) → sizeOf W (W .magnitude) ≡ 2 ^ top → length work ≡ s .n → e ≡ s .ensemble
+      → SoundState W s work ↔ ((k i : ℕ) → OfState k → stepped W s e b work .answer ≡ Refused k i → ⊥)
+  step-sound top is l m =
+      let sound = sound-when W top is s e b work l m in
+      let given = step-when W top is s e b work in (
+        λ S k i o h. sound .0 S k i o (given (verdicts.Refused k i) .1 (step-refused top is k i .0 h)),
+        λ none. sound .1 (λ k i o h. none k i o (step-refused top is k i .1 (given (verdicts.Refused k i) .0 h))),
+      )
 
   -- a step that names another ensemble is refused with 21, whatever else is wrong but the area's length
   pub step-stranger : length work ≡ s .n → (e ≡ s .ensemble → ⊥) → stepped W s e b work ≡ outcome (Refused 21 0) work

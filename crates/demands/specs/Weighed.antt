@@ -15,6 +15,7 @@ use Rattle.kinds.specs.declared.Verdict.the-variants.{Good}
 use Rattle.judge.specs.Judge.{zeroSign}
 use Rattle.judge.specs.Table.{ListWhen, allowed}
 use Rattle.sums.specs.Sums.{sumOf, nearestOf}
+use Rattle.sums.specs.SumLaws.{sums-doubles}
 use Rattle.sums.specs.Promised.{nearest-promised}
 use Rattle.weights.specs.Weights.{grains, grain, wholeWeight, patternFor, handedOf}
 use Rattle.weights.specs.Table.{Accepted}
@@ -56,4 +57,6 @@ module _ (ps : List ℕ) (at : ℕ) (area : List ℕ) (A : Accepted doubles ps a
       ∙ nearest-positive f z false (grains * grain f) (rw (one-is doubles fine-doubles) (pow-pos (low f))))
 
   pub weights-nearest : nearestHeard doubles (nearestOf doubles (handedOf doubles ps at area .area)) ≡ nearest 0x3FF0000000000000
-  weights-nearest = nearest-promised new listed .0 ∙ ap nearest (one-pattern (zeroSign doubles new) (sumOf (doubles .format) new) (P .whole) ∙ one-64)
+  weights-nearest =
+      nearest-promised sums-doubles new listed .0
+      ∙ ap nearest (one-pattern (zeroSign doubles new) (sumOf (doubles .format) new) (P .whole) ∙ one-64)

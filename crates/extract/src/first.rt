@@ -18,8 +18,8 @@ pub struct First {
     pub sum: f64,
 }
 
-// Rules WB1 and WS13 for a whole list, as `extract` has them for a block; the list is only read, and its remainders are written. T is added up beside tau, in the
-// same order as `last_sum` does: two chains of additions take no longer than one.
+// Rules WB1 and WS13 for a whole list, as `extract` has them for a block; the list is only read, and its remainders are written. T is added up beside tau, in
+// the same order as `last_sum` does: two chains of additions take no longer than one.
 pub fn from_list(list: &[u64], work: &mut [f64], sigma: f64, tau: f64, largest: f64) -> First
     requires { ⌜
         (length (now work) ≡ length (now list)) × T (finite largest) × (negative largest ≡ false) × Each (λ p. T (not (nanBits binary64 p))) (now list)

@@ -54,7 +54,8 @@ fn turns(work: &mut [f64], sigma: f64, largest: f64) -> Sums
     ensures { λ r. ⌜
         (r .taus ≡ spreads binary64 sigma (now (work .entry)) (length (now (work .entry)) / 8))
         × (now (work .exit)
-        ≡ remainders binary64 sigma (take (8 * (length (now (work .entry)) / 8)) (now (work .entry))) ++ drop (8 * (length (now (work .entry)) / 8)) (now (work .entry)))
+        ≡ remainders binary64 sigma (take (8 * (length (now (work .entry)) / 8)) (now (work .entry)))
+        ++ drop (8 * (length (now (work .entry)) / 8)) (now (work .entry)))
         × Raised binary64 (toBits binary64 largest) (remainders binary64 sigma (take (8 * (length (now (work .entry)) / 8)) (now (work .entry)))) (r .most)
         ⌝ }
 {

@@ -109,7 +109,7 @@ module _ (S : ℤ) (l : natAbs S < limit binary64) {p : ℕ} (e : p ≡ toBits b
     pub words-left : wholeOf ws ≡ S -ℤ value binary64 (near binary64 S)
     words-left =
         ap wholeOf (w ∙ ap (λ (x : Float). wordsOf (S -ℤ value f x)) near-back)
-        ∙ whole-words (S -ℤ value f (near f S)) (lt-of-le-of-lt (left-smaller f false S l) l)
+        ∙ whole-words f (S -ℤ value f (near f S)) (lt-of-le-of-lt (left-smaller f false S l) l)
 
     -- nothing, exactly where the nearest is S
     pub nothing-left : eqb (number wordBits ws) 0 ≡ true → value binary64 (near binary64 S) ≡ S

@@ -23,6 +23,7 @@ use Rattle.judge.specs.Table.{ListWhen}
 use Rattle.judge.specs.JudgeLaws.{list-when}
 use Rattle.sums.specs.Sums.{sumOf, nearestOf}
 use Rattle.sums.specs.AnswerLaws.{nearest-refused}
+use Rattle.sums.specs.SumLaws.{sums-doubles}
 use Rattle.sums.specs.Promised.{nearest-promised}
 use Rattle.grade.specs.Grade.{gradeAt, gradeOf}
 use Rattle.grade.specs.Table as table
@@ -68,7 +69,7 @@ nearest-graded ps c h = by (judged doubles true true ps) refl
     by : (v : Verdict) → judged doubles true true ps ≡ v → AtLeastNearest (gradeOf doubles ps c)
     by verdicts.Good e =
         let G = list-when doubles true true ps verdicts.Good .0 e in
-        let P = nearest-promised ps G in
+        let P = nearest-promised sums-doubles ps G in
         let x = nearestFloat (doubles .format) (zeroSign doubles ps) (sumOf (doubles .format) ps) in
         let s : nearest (toBits (doubles .format) x) ≡ nearest c = sym (P .0) ∙ h in
         let b : toBits (doubles .format) x ≡ c = cc in

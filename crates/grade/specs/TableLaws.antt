@@ -26,7 +26,7 @@ use Rattle.judge.specs.Table.{Allowed, Passed, ListWhen}
 use Rattle.judge.specs.FaultLaws.{most-doubles}
 use Rattle.judge.specs.JudgeLaws.{list-when, list-passed, list-allowed, list-refusal}
 use Rattle.sums.specs.Sums.{sumOf}
-use Rattle.sums.specs.SumLaws.{sum-at-most, sum-below-limit}
+use Rattle.sums.specs.SumLaws.{sums-doubles, sum-at-most, sum-below-limit}
 use Rattle.grade.specs.Grade.{gradeAt, gradeOf, gradedHeard}
 use Rattle.grade.specs.Table as table
 use Rattle.grade.specs.Table.{Earns, GradedWhen, too-many, bad-number, bad-claim, earned}
@@ -44,7 +44,7 @@ pub roomy-doubles : Roomy doubles
 unfolding patternUnits
 roomy-doubles = record {
   inside = λ ps G. record {
-    below = sum-below-limit (list-passed G .few) (list-allowed G);
+    below = sum-below-limit sums-doubles (list-passed G .few) (list-allowed G);
     largest =
         le-trans (rw most-doubles at (sum-at-most doubles ps (list-allowed G)))
         (le-trans (mul-le-mul-right (2 ^ 2074) (list-passed G .few)) (lit≤ tt));

@@ -31,7 +31,7 @@ module _ (ps : List ℕ) (c : ℕ) (out : List ℕ) where
   pub grade-coded : Coded 1 (length out) (tooManyOr4 ps) (gradedHeard (gradeOf doubles ps c)) (gradeArrays ps c out .answer)
   grade-coded = coded 1 (length out) (tooManyOr4 ps) (gradedHeard (gradeOf doubles ps c))
       (λ l. ap answerIn (grade-called ps c out l)) (λ l. ap answerIn (grade-other ps c out l))
-      (λ p e. some (graded-heard doubles roomy-doubles ps c 0 p .0 e .1) refl) (list-nonzero ps)
+      (λ p e. some (graded-heard doubles roomy-doubles ps c 0 p .0 e .1) refl) (list-nonzero doubles ps)
 
   -- ---- determined
   pub grade-determined : {r q : ℕ} {us vs : List ℕ} → outcome r us ≡ gradeArrays ps c out → outcome q vs ≡ gradeArrays ps c out → (r ≡ q) × (us ≡ vs)

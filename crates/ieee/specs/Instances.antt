@@ -29,7 +29,7 @@ pub top-64 : patternUnits binary64 0x7E70000000000000 ≡ 2 ^ 2074
 unfolding patternUnits
 top-64 = refl
 
-top-32 : patternUnits binary32 0x71800000 ≡ 2 ^ 249
+pub top-32 : patternUnits binary32 0x71800000 ≡ 2 ^ 249
 unfolding patternUnits
 top-32 = refl
 

@@ -16,8 +16,8 @@ use Rattle.units.specs.Powers.{le-or-lt}
 use Rattle.ieee.specs.Units.{Number, patternUnits}
 use Rattle.ieee.specs.Finite.{is-units, finite-no-nan}
 use Rattle.ieee.specs.Pattern.{pattern-positive, pattern-finite, pattern-within}
-use Rattle.ieee.specs.Instances.{top-64}
-use Rattle.kinds.specs.Limits.{Width, doubles}
+use Rattle.ieee.specs.Instances.{top-32, top-64}
+use Rattle.kinds.specs.Limits.{Width, doubles, singles}
 use Rattle.judge.specs.Judge.{faultOf}
 use Rattle.judge.specs.Table.{floatOf, sizeOf, most}
 
@@ -107,9 +107,15 @@ module _ (W : Width) (proper : W .magnitude < ones (W .format) * hid (W .format)
       | inr h ↦ rw (lt-ltb (W .magnitude) (p % top (W .format)) h, ne-eqb (faultOf W p) 0 (λ e. not-le-of-lt h (within .1 (fault-0 W p .0 e))))
     ]
 
--- ---- rule L5's limit, 2 ^ 1000
+-- ---- rule L5's limit, 2 ^ 1000, and at binary32 2 ^ 100
 pub proper-doubles : doubles .magnitude < ones (doubles .format) * hid (doubles .format)
 proper-doubles = lit< tt
 
 pub most-doubles : most doubles ≡ 2 ^ 2074
 most-doubles = most-is doubles proper-doubles ∙ top-64
+
+pub proper-singles : singles .magnitude < ones (singles .format) * hid (singles .format)
+proper-singles = lit< tt
+
+pub most-singles : most singles ≡ 2 ^ 249
+most-singles = most-is singles proper-singles ∙ top-32

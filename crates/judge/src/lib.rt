@@ -57,8 +57,8 @@ fn beside(verdict: Verdict, greatest: u64) -> Measured
     Measured { verdict, greatest }
 }
 
-// Rule O1, with the greatest pattern of a good list: its sign taken off, so that it stands for the largest magnitude. Either fault of a number is a pattern above
-// the limit's: a NaN's and an infinity's are above every number's. A list is only read (rule A4).
+// Rule O1, with the greatest pattern of a good list: its sign taken off, so that it stands for the largest magnitude. Either fault of a number is a pattern
+// above the limit's: a NaN's and an infinity's are above every number's. A list is only read (rule A4).
 pub fn measure(list: &[u64], area: bool, parts: bool) -> Measured
     ensures { λ r. ⌜
         (r .verdict ≡ judged doubles area parts (now (list .entry))) × (r .verdict ≡ Good → r .greatest ≡ greatest doubles (now (list .entry)))

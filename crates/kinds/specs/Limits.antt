@@ -1,7 +1,7 @@
--- What one width of float fixes, and at binary64 the limits on lists (rule L6) and on sound states. Definitions only.
+-- What one width of float fixes, and at binary64 and at binary32 the limits on lists (rule L6) and on sound states. Definitions only.
 use mathlib.Core.Path.{_≡_}
 use Prim.Native.Nat.{ℕ, _+_}
-use lib.Ieee.{Format, binary64}
+use lib.Ieee.{Format, binary32, binary64}
 use Rattle.units.specs.Rounding.{ceil}
 use Rattle.units.specs.Walk.{roundedUp}
 use Rattle.kinds.specs.declared.Limits.{Limits}
@@ -19,6 +19,10 @@ pub record Width : Type 0 where
 
 abbrev pub doubles : Width
 doubles = record { format = binary64; length = 4094; magnitude = 0x7E70000000000000; block = 64; parts = 8; carried = 0x7F30000000000000; rounds = 50 }
+
+-- at binary32, rules Y1 and Y2: magnitudes up to 2^100, t and tau up to 2^111
+abbrev pub singles : Width
+singles = record { format = binary32; length = 2046; magnitude = 0x71800000; block = 64; parts = 8; carried = 0x77000000; rounds = 19 }
 
 -- rule L7: M; rule L9: B
 abbrev pub exponentOf : ℕ → ℕ

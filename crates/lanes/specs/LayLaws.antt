@@ -73,7 +73,7 @@ lane-withdrawn-added p h zs calls =
     let q = opposite (doubles .format) p in
     let fault : faultOf doubles q ≡ faultOf doubles p = opposite-fault p h in
     by-fault zs calls p q (negℤ (unitsOf doubles p)) fault ∙ elim (ℕ-discrete (faultOf doubles p) 0) [
-      | yes e ↦ ap (λ (u : ℤ). lay zs calls q u) (sym (opposite-units p h (fault-0 doubles p .0 e .0)))
+      | yes e ↦ ap (λ (u : ℤ). lay zs calls q u) (sym (opposite-units doubles p h (fault-0 doubles p .0 e .0)))
       | no e ↦ whatever zs calls q (negℤ (unitsOf doubles p)) (unitsOf doubles q) (λ k. e (sym fault ∙ k))
     ]
 

@@ -1,5 +1,5 @@
-// An addition and a settling with no look at all lanes: for the public calls, which have looked, and for whoever adds a list and knows the bound, as crates/timed
-// does. The number may be any finite one, also above 2^1000.
+// An addition and a settling with no look at all lanes: for the public calls, which have looked, and for whoever adds a list and knows the bound, as
+// crates/timed does. The number may be any finite one, also above 2^1000.
 use crate::Lanes;
 use crate::carries;
 use crate::lane::BASE;

@@ -5,3 +5,4 @@ pub mod HeadLaws
 pub mod Sticky
 pub mod NearestBits
 pub mod BitsLaws
+pub mod RegisterBits

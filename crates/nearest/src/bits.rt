@@ -22,7 +22,7 @@ pub struct Bits {
 // a larger one. A zero gets the sign `zero`.
 pub fn nearest_bits(register: &[u64], zero: bool) -> Bits
     requires { ⌜ length (now register) ≡ wordCount ⌝ }
-    ensures { λ r. ⌜ r ≡ bitsOf zero (wholeOf (now (register .entry))) ⌝ }
+    ensures { λ r. ⌜ r ≡ bitsOf binary64 zero (wholeOf (now (register .entry))) ⌝ }
 {
     if register[WORDS - 1] < TOP {
         let p = pattern(leading(register));

@@ -4,7 +4,7 @@ use crate::bits::nearest_bits;
 
 pub mod bits;
 pub mod head;
-mod magnitude;
+pub mod magnitude;
 pub mod pattern;
 
 ghost use mathlib.Core.Path.{_≡_};

@@ -40,7 +40,7 @@ fn quotient(x: u64, d: u64, rest: bool) -> u64
 // The digits dropped, times the weight of the exponent's field, plus the rounded quotient. 33 words have 2,048 digits below their leading 64 at most.
 pub fn pattern(h: Head) -> u64
     requires { ⌜ h .below ≤ 2048 ⌝ }
-    ensures { λ r. ⌜ r ≡ headBits h ⌝ }
+    ensures { λ r. ⌜ r ≡ headBits binary64 h ⌝ }
 {
     let x = h.digits;
     let d = excess(x);

@@ -8,7 +8,7 @@ use Prim.Native.Nat.{ℕ, _≤_}
 use native.Mathlib.Decide.{ℕ-discrete}
 use native.Mathlib.Omega.{arith}
 use borrow.Author.Tests.{lt-ltb, le-ltb, eq-eqb, ne-eqb}
-use lib.Dec.{ltb}
+use lib.Dec.{lit≤, ltb}
 use lib.ListN.{length}
 use Rattle.units.specs.Powers.{le-or-lt}
 use Rattle.kinds.specs.Limits.{doubles}
@@ -76,4 +76,4 @@ pub products-refusal : (ps qs out : List ℕ) (k i : ℕ) → multipliedOf doubl
 products-refusal ps qs out k i e = wider (pairs-refusal (multiplied-when doublePairs ps qs out (Refused k i) .0 e))
 
 pub weighted-refusal : (ps qs : List ℕ) → NearestRefusal (weightedOf doublePairs ps qs)
-weighted-refusal ps qs = nearest-by (weightedOf doublePairs ps qs) (λ k i e. wider (pairs-refusal (weighted-when doublePairs ps qs k i .0 e)))
+weighted-refusal ps qs = nearest-by doubles (lit≤ tt) (weightedOf doublePairs ps qs) (λ k i e. wider (pairs-refusal (weighted-when doublePairs ps qs k i .0 e)))

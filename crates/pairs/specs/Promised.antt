@@ -16,6 +16,7 @@ use Rattle.judge.specs.Judge.{zeroSign}
 use Rattle.judge.specs.JudgeLaws.{list-allowed}
 use Rattle.sums.specs.Sums.{sumOf, nearestOf}
 use Rattle.sums.specs.Promised.{nearest-promised}
+use Rattle.sums.specs.SumLaws.{sums-doubles}
 use Rattle.sums.specs.Reordered.{nearest-reordered}
 use Rattle.pairs.specs.Limits.{Pairing, doublePairs}
 use Rattle.pairs.specs.Pairs.{Pair, productOf, errorOf, productsOf, twoEach, multipliedOf, weightedOf}
@@ -97,7 +98,7 @@ pub weighted-promised : (ps qs : List ℕ) → PairsWhen doublePairs true ps qs 
 weighted-promised ps qs G =
     let L = pairs-list doublePairs roomy-doubles (when-matching G) (when-allowed G) in
     let out = productsOf binary64 (zip ps qs) in
-    let n = nearest-promised out (L .taken true true tt tt) in (
+    let n = nearest-promised sums-doubles out (L .taken true true tt tt) in (
       nearestFloat binary64 (zeroSign doubles out) (sumOf binary64 out),
       ap (nearestHeard doubles) (weighted-list doublePairs roomy-doubles G) ∙ n .0,
       record { units = sumOf binary64 out; exact = L .sum; nearest = n .1 },

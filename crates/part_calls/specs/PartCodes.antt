@@ -24,7 +24,7 @@ module _ (ps : List ℕ) (area : List Float) (out : List ℕ) where
   pub parts-coded : Coded 1 (length out) (tooManyOr4 ps) (partedHeard (partsOf doubles ps area .answer)) (partsArrays ps area out .code)
   parts-coded = coded 1 (length out) (tooManyOr4 ps) (partedHeard (partsOf doubles ps area .answer))
       (λ l. ap codeIn (parts-parted ps area out l)) (λ l. ap codeIn (parts-other ps area out l))
-      (λ p e. list-some (parts-heard ps area 0 p .0 e .1) refl) (list-nonzero ps)
+      (λ p e. list-some (parts-heard ps area 0 p .0 e .1) refl) (list-nonzero doubles ps)
 
 -- ---- determined
 module _ {r q : ℕ} {xs ys : List Float} {us vs : List ℕ} where

@@ -13,6 +13,7 @@ use Rattle.kinds.specs.declared.Parted.{Parted}
 use Rattle.kinds.specs.declared.Verdict.the-variants.{Good}
 use Rattle.judge.specs.Table.{ListWhen, ZeroWhen}
 use Rattle.sums.specs.Sums.{sumOf, fitting, partsOf}
+use Rattle.sums.specs.SumLaws.{sums-doubles}
 use Rattle.sums.specs.ZeroSums as sums
 use Rattle.arrays.specs.Arrays.{codeOf, valuesOf, Returned, returned}
 use Rattle.part_calls.specs.PartArrays.{partsArrays}
@@ -24,12 +25,12 @@ module _ (ps : List ℕ) (area : List Float) (out : List ℕ) (s : sumOf (double
   returns =
       parts-parted ps area out l
       ∙ ap (λ (a : Parted). returned (codeOf (partedHeard a)) (partsOf doubles ps area .area) (valuesOf (partedHeard a) out))
-      (sums.parts-zero ps s area G Z .0)
+      (sums.parts-zero sums-doubles ps s area G Z .0)
 
   pub parts-zero : (partsArrays ps area out .code ≡ 0) × (partsArrays ps area out .values ≡ 1 ∷ [])
       × (map (toBits (doubles .format)) (partsArrays ps area out .area) ≡ p ∷ replicate (length area - 1) 0)
   parts-zero = (
     ap (λ (r : Returned Float). r .code) returns,
     ap (λ (r : Returned Float). r .values) returns,
-    ap (λ (r : Returned Float). map (toBits (doubles .format)) (r .area)) returns ∙ sums.parts-zero ps s area G Z .1,
+    ap (λ (r : Returned Float). map (toBits (doubles .format)) (r .area)) returns ∙ sums.parts-zero sums-doubles ps s area G Z .1,
   )

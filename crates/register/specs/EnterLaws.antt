@@ -72,6 +72,6 @@ module _ (p : ℕ) (h : p < 2 ^ 64) where
   pub withdrawn-added : (ws : List ℕ) → withdrawn ws p ≡ added ws (opposite (doubles .format) p)
   unfolding q
   withdrawn-added ws = by-fault ws p q (wholeOf ws -ℤ unitsOf doubles p) opposite-fault ∙ elim (ℕ-discrete (faultOf doubles p) 0) [
-    | yes e ↦ ap (λ (u : ℤ). enter ws q (wholeOf ws +ℤ u)) (sym (opposite-units p h (fault-0 doubles p .0 e .0)))
+    | yes e ↦ ap (λ (u : ℤ). enter ws q (wholeOf ws +ℤ u)) (sym (opposite-units doubles p h (fault-0 doubles p .0 e .0)))
     | no e ↦ whatever ws q (wholeOf ws -ℤ unitsOf doubles p) (wholeOf ws +ℤ unitsOf doubles q) (λ k. e (sym opposite-fault ∙ k))
   ]

@@ -4,7 +4,7 @@ use mathlib.Core.List.{List}
 use Prim.Native.Nat.{ℕ}
 use native.Mathlib.Omega.{arith}
 use borrow.Author.Tests.{eq-eqb, ne-eqb}
-use lib.Dec.{lit<}
+use lib.Dec.{lit≤, lit<}
 use lib.ListN.{length}
 use Rattle.kinds.specs.Limits.{doubles}
 use Rattle.kinds.specs.Outcome.{outcome}
@@ -39,7 +39,7 @@ round-row (wrong-words l) = record { number = omega arith; place = omega arith; 
 round-row (beyond l h) = record { number = omega arith; place = omega arith; as-told = refl }
 
 pub round-refusal : (ws : List ℕ) → NearestRefusal (rounded ws)
-round-refusal ws = nearest-by (rounded ws) (λ k i e. round-row (round-refused ws k i .0 e))
+round-refusal ws = nearest-by doubles (lit≤ tt) (rounded ws) (λ k i e. round-row (round-refused ws k i .0 e))
 
 merge-row : {us vs out : List ℕ} {a : Entry} → MergeWhen us vs out a → EntryRefusal a
 merge-row (merges T h) = tt

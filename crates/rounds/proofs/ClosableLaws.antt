@@ -4,7 +4,7 @@ use native.Mathlib.Omega.{arith}
 use lib.Ieee.{binary64}
 use Rattle.kinds.specs.Limits.{doubles}
 use Rattle.kinds.specs.declared.State.{State}
-use Rattle.sound.specs.DoublesLaws.{magnitude-exponent, sigma-room}
+use Rattle.sound.specs.LimitLaws.{magnitude-doubles, room-doubles}
 use Rattle.rounds.specs.Closable.{PowerFrom, Closable}
 
 pub closable-power : {s : State} → Closable doubles s → PowerFrom binary64 0 (s .sigma)
@@ -16,5 +16,5 @@ closable-power {s} C =
       positive = P .positive;
       power = P .power;
       from = omega arith;
-      to = omega (arith, P .to, magnitude-exponent, sigma-room (s .n) (C .counts .few));
+      to = omega (arith, P .to, magnitude-doubles, room-doubles (s .n) (C .counts .few));
     }

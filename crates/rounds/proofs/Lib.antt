@@ -1,3 +1,2 @@
 -- Laws that one proof needs.
-pub mod CutLaws
 pub mod ClosableLaws

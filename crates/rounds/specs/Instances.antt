@@ -1,12 +1,11 @@
 -- The scope's width fits the walk, and so do numbers for binary32: 2,046 numbers of magnitude at most 2^100, t and tau up to 2^111, 19 rounds closed.
 -- Assumes nothing.
 use mathlib.Core.Path.{refl}
-use native.Mathlib.Omega.{arith}
 use lib.Dec.{lit<, lit≤}
-use lib.Ieee.{ofBits, binary32}
-use Rattle.units.specs.Ceiling.{ceil-least}
+use lib.Ieee.{ofBits}
 use Rattle.ieee.specs.Units.{magnitude}
-use Rattle.kinds.specs.Limits.{Width, doubles}
+use Rattle.kinds.specs.Limits.{doubles, singles}
+use Rattle.kinds.specs.LimitsLaws.{exponent-doubles, exponent-singles}
 use Rattle.rounds.specs.Fitting.{Fitting}
 
 unfoldable pub doubles-fit : Fitting doubles
@@ -17,7 +16,7 @@ doubles-fit = record {
   most = 12;
   top-is = refl;
   bound-is = refl;
-  most-is = λ n h. ceil-least (omega arith);
+  most-is = exponent-doubles;
   block = lit< tt;
   half = lit< tt;
   fine = lit≤ tt;
@@ -29,9 +28,6 @@ doubles-fit = record {
 }
 
 -- units of 2^-149: 2^100 is 2^249 of them, 2^111 is 2^260
-abbrev pub singles : Width
-singles = record { format = binary32; length = 2046; magnitude = 0x71800000; block = 64; parts = 8; carried = 0x77000000; rounds = 19 }
-
 unfoldable pub singles-fit : Fitting singles
 unfolding magnitude ofBits
 singles-fit = record {
@@ -40,7 +36,7 @@ singles-fit = record {
   most = 11;
   top-is = refl;
   bound-is = refl;
-  most-is = λ n h. ceil-least (omega arith);
+  most-is = exponent-singles;
   block = lit< tt;
   half = lit< tt;
   fine = lit≤ tt;

@@ -7,6 +7,7 @@ pub mod InUnits
 pub mod GroupedSums
 pub mod Begun
 pub mod FreshRound
+pub mod CutLaws
 pub mod Blocks
 pub mod Closes
 pub mod PatternLaws

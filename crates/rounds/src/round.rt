@@ -75,8 +75,8 @@ pub fn take(s: State, work: &mut [f64], block: usize) -> State
     in_round(s, taken.tau, taken.largest, pending)
 }
 
-// Every block of a round in rising order: that is the whole area in one extraction. Only for a round of a run: tau is in eight sums, and there each is exact, so
-// that any grouping gives the same tau.
+// Every block of a round in rising order: that is the whole area in one extraction. Only for a round of a run: tau is in eight sums, and there each is exact,
+// so that any grouping gives the same tau.
 pub fn take_all(s: State, work: &mut [f64]) -> State
     requires { ⌜ ((e : ℕ) × Begun doubles doubles-fit e s (now work)) ⌝ }
     ensures { λ r. ⌜

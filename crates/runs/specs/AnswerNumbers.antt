@@ -9,7 +9,7 @@ use lib.ListN.{length}
 use lib.Ieee.{Float, isNan}
 use Rattle.ieee.specs.Units.{Number}
 use Rattle.ieee.specs.Finite.{finite-no-nan}
-use Rattle.kinds.specs.Limits.{Width, doubles}
+use Rattle.kinds.specs.Limits.{Width}
 use Rattle.kinds.specs.Heard.{Refusal}
 use Rattle.kinds.specs.declared.State.{State}
 use Rattle.kinds.specs.declared.Step.{Step}
@@ -19,7 +19,6 @@ use Rattle.kinds.specs.declared.Verdict.the-variants as verdicts
 use Rattle.judge.specs.Judge.{judged}
 use Rattle.judge.specs.JudgeLaws.{list-when, list-refusal}
 use Rattle.rounds.specs.Fitting.{Fitting}
-use Rattle.rounds.specs.Instances.{doubles-fit}
 use Rattle.walk.specs.Walk.{Walked, faithfulOf}
 use Rattle.walk.specs.OpeningLaws.{opened-refused}
 use Rattle.walk.specs.Undivided.{faithful-refused}
@@ -42,25 +41,25 @@ faithful-ended {W} F ps work = by (judged W (eqb (length work) (length ps)) true
         let w = faithful-refused F 0 ps work (Refused k p) work (opened-refused W 0 _ k p ps work g) k p refl in
         subst (Ended W) (ap (λ (w : Walked). w .answer) w) (list-refusal (list-when W _ true ps (verdicts.Refused k p) .0 g))
 
-module _ (ps : List ℕ) (work : List Float) where
+module _ {W : Width} (F : Fitting W) (ps : List ℕ) (work : List Float) where
   -- the undivided call never answers more
-  pub faithful-not-more : (s : State) (told : Float) → faithfulOf doubles ps work .answer ≡ More s told → ⊥
-  faithful-not-more s told e = subst (Ended doubles) e (faithful-ended doubles-fit ps work)
+  pub faithful-not-more : (s : State) (told : Float) → faithfulOf W ps work .answer ≡ More s told → ⊥
+  faithful-not-more s told e = subst (Ended W) e (faithful-ended F ps work)
 
   -- a refusal's number is of the table, its place is one of a list, and is told as the table says
-  pub faithful-refusal : (k p : ℕ) → faithfulOf doubles ps work .answer ≡ Refused k p → Refusal (doubles .length) k p
-  faithful-refusal k p e = subst (Ended doubles) e (faithful-ended doubles-fit ps work)
+  pub faithful-refusal : (k p : ℕ) → faithfulOf W ps work .answer ≡ Refused k p → Refusal (W .length) k p
+  faithful-refusal k p e = subst (Ended W) e (faithful-ended F ps work)
 
-  module _ {x : Float} {r : ℕ} (e : faithfulOf doubles ps work .answer ≡ Done x r) where
-    done : Number (doubles .format) x × (r ≤ suc (doubles .rounds))
-    done = subst (Ended doubles) e (faithful-ended doubles-fit ps work)
+  module _ {x : Float} {r : ℕ} (e : faithfulOf W ps work .answer ≡ Done x r) where
+    done : Number (W .format) x × (r ≤ suc (W .rounds))
+    done = subst (Ended W) e (faithful-ended F ps work)
 
-    pub faithful-number : Number (doubles .format) x
+    pub faithful-number : Number (W .format) x
     faithful-number = done .0
 
     pub faithful-no-nan : T (not (isNan x))
     faithful-no-nan = finite-no-nan x (done .0 .fini)
 
-    -- rule WR3: never above 51
-    pub faithful-rounds : r ≤ suc (doubles .rounds)
+    -- rule WR3: never above 51, and at binary32 never above 20
+    pub faithful-rounds : r ≤ suc (W .rounds)
     faithful-rounds = done .1

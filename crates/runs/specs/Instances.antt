@@ -8,20 +8,25 @@ use Prim.Native.Nat.{ℕ, _+_, _-_, _*_, _^_, _≤_, _<_}
 use lib.Dec.{eqb}
 use lib.IntN.{pos, natAbs, _-ℤ_}
 use lib.ListN.{length}
-use lib.Ieee.{Float, binary32, binary64}
-use Rattle.ieee.specs.Units.{value}
-use Rattle.ieee.specs.Accuracy.{EqualOrNeighbouring}
+use lib.Ieee.{Float, binary32, binary64, toBits}
+use Rattle.ieee.specs.Units.{value, nearestFloat}
+use Rattle.ieee.specs.Accuracy.{NearestTo, EqualOrNeighbouring}
 use Rattle.ieee.specs.Zeros.{minusZero}
-use Rattle.kinds.specs.Limits.{Width, doubles, blocksOf}
+use Rattle.kinds.specs.Limits.{Width, doubles, singles, blocksOf}
 use Rattle.kinds.specs.Outcome.{outcome}
-use Rattle.kinds.specs.Heard.{stepHeard, done}
+use Rattle.kinds.specs.Heard.{stepHeard, nearestHeard, done, nearest}
 use Rattle.kinds.specs.declared.State.{State}
 use Rattle.kinds.specs.declared.Step.the-variants.{More, Done}
 use Rattle.kinds.specs.declared.Verdict.the-variants.{Good}
-use Rattle.judge.specs.Judge.{floats}
+use Rattle.judge.specs.Judge.{floats, zeroSign}
 use Rattle.judge.specs.Table.{ListWhen, MinusZeros, ZeroWhen}
-use Rattle.sums.specs.Sums.{sumOf}
-use Rattle.rounds.specs.Instances.{doubles-fit, singles, singles-fit}
+use Rattle.judge.specs.JudgeLaws.{list-allowed}
+use Rattle.sums.specs.Sums.{sumOf, nearestOf}
+use Rattle.sums.specs.SumLaws.{sums-doubles, sums-singles}
+use Rattle.sums.specs.Promised.{nearest-promised}
+use Rattle.sums.specs.ZeroSums.{nearest-minus}
+use Rattle.sums.specs.Reordered.{nearest-reordered}
+use Rattle.rounds.specs.Instances.{doubles-fit, singles-fit}
 use Rattle.sound.specs.Sound.{gated}
 use Rattle.walk.specs.Walk.{opened, rising, stepped, faithfulOf}
 use Rattle.walk.specs.Before.{faithfulBefore}
@@ -54,6 +59,23 @@ faithful-64 = faithful-promised doubles-fit
 
 pub faithful-32 : (ps : List ℕ) (work : List Float) → Accepted singles ps work → FaithfulSum singles ps (faithfulOf singles ps work)
 faithful-32 = faithful-promised singles-fit
+
+-- ---- rule D2, the nearest sum, and which zero it is
+pub nearest-64 : (ps : List ℕ) → ListWhen doubles true true ps Good → let x = nearestFloat binary64 (zeroSign doubles ps) (sumOf binary64 ps) in
+    (nearestHeard doubles (nearestOf doubles ps) ≡ nearest (toBits binary64 x)) × NearestTo binary64 (sumOf binary64 ps) x
+nearest-64 = nearest-promised sums-doubles
+
+pub nearest-32 : (ps : List ℕ) → ListWhen singles true true ps Good → let x = nearestFloat binary32 (zeroSign singles ps) (sumOf binary32 ps) in
+    (nearestHeard singles (nearestOf singles ps) ≡ nearest (toBits binary32 x)) × NearestTo binary32 (sumOf binary32 ps) x
+nearest-32 = nearest-promised sums-singles
+
+pub nearest-minus-64 : (ps : List ℕ) → ListWhen doubles true true ps Good
+    → (nearestHeard doubles (nearestOf doubles ps) ≡ nearest 0x8000000000000000) ↔ MinusZeros doubles ps
+nearest-minus-64 = nearest-minus sums-doubles
+
+pub nearest-minus-32 : (ps : List ℕ) → ListWhen singles true true ps Good
+    → (nearestHeard singles (nearestOf singles ps) ≡ nearest 0x80000000) ↔ MinusZeros singles ps
+nearest-minus-32 = nearest-minus sums-singles
 
 -- ---- rule S3: the opening and the faithful sum of nothing but -0; which zero a faithful sum is where the exact sum is zero; and no other sum is -0
 pub opened-minus-64 : (ps : List ℕ) (work : List Float) → Accepted doubles ps work → MinusZeros doubles ps
@@ -165,6 +187,10 @@ undivided-64 = undivided-unchanged doubles-fit
 
 pub undivided-32 : (ps : List ℕ) (work : List Float) → faithfulBefore singles ps work ≡ faithfulOf singles ps work
 undivided-32 = undivided-unchanged singles-fit
+
+-- ---- rule Y5, the nearest sum in any order; rule S7 has it of doubles, in sums/Reordered
+pub nearest-reordered-32 : {ps qs : List ℕ} → Perm ps qs → ListWhen singles true true ps Good → nearestOf singles ps ≡ nearestOf singles qs
+nearest-reordered-32 π G = nearest-reordered π (list-allowed G)
 
 -- ---- rule S8, faithful sums in any order; rule S9, how far off they are
 module _ {ps qs : List ℕ} (π : Perm ps qs) {x y : Float} {j k : ℕ} {xs ys : List Float} where

@@ -37,7 +37,7 @@ module _ (ps area out : List ℕ) where
   -- ---- exactly when
   pub write-coded : Coded 1 (length out) (tooManyOr4 ps) (writtenHeard (writtenOf doubles ps area .answer)) (writeArrays ps area out .code)
   write-coded = coded 1 (length out) (tooManyOr4 ps) (writtenHeard (writtenOf doubles ps area .answer))
-      (λ l. ap codeIn (write-written l)) (λ l. ap codeIn (write-other l)) (λ p e. some (write-heard doubles ps area 0 p .0 e .1) refl) (list-nonzero ps)
+      (λ l. ap codeIn (write-written l)) (λ l. ap codeIn (write-other l)) (λ p e. some (write-heard doubles ps area 0 p .0 e .1) refl) (list-nonzero doubles ps)
 
   -- ---- determined
   pub write-determined : {r q : ℕ} {xs ys us vs : List ℕ} → returned r xs us ≡ writeArrays ps area out → returned q ys vs ≡ writeArrays ps area out

@@ -4,7 +4,7 @@ pub mod Numbers
 pub mod Places
 pub mod WithinLaws
 pub mod SigmaLaws
-pub mod DoublesLaws
+pub mod LimitLaws
 pub mod PlacesLaws
 pub mod SoundLaws
 pub mod GateLaws

@@ -14,8 +14,8 @@ ghost use Rattle.kinds.specs.Heard.{stepHeard};
 ghost use Rattle.kinds.specs.Outcome.{outcome};
 ghost use Rattle.kinds.specs.declared.Step.the-variants.{More};
 ghost use Rattle.arrays.specs.Arrays.{codeOf};
-ghost use Rattle.step_calls.specs.StepArrays.{walkNumbers, walkValues, stateIn};
-ghost use Rattle.step_calls.specs.Inner.{StepRefusal, readable};
+ghost use Rattle.step_calls.specs.StepArrays.{walkNumbers, walkValues, floatAt, stateIn};
+ghost use Rattle.step_calls.specs.Inner.{StepRefusal, number, readable};
 
 // The numbers of a walk.
 pub const NUMBERS: usize = 10;
@@ -73,31 +73,46 @@ pub fn told(answer: Step, numbers: &mut [u64]) -> u32
     }
 }
 
-// Whether the numbers that a step reads fit a state's fields. No sound state has others, and of a NaN's pattern the language makes no double.
+// Whether a number is a pattern, and no NaN's: of that the language makes no double.
+fn number(p: u64) -> bool
+    ensures { λ r. ⌜ r ≡ number (doubles .format) p ⌝ }
+{
+    p % SIGN <= INFINITY
+}
+
+// The double of such a pattern.
+fn float(p: u64) -> f64
+    requires { ⌜ number (doubles .format) p ≡ true ⌝ }
+    ensures { λ r. ⌜ r ≡ floatAt (doubles .format) p ⌝ }
+{
+    f64::from_bits(p)
+}
+
+// Whether the numbers that a step reads fit a state's fields. No sound state has others.
 pub fn readable(numbers: &[u64]) -> bool
     requires { ⌜ length (now numbers) ≡ walkNumbers ⌝ }
-    ensures { λ r. ⌜ r ≡ readable (now (numbers .entry)) ⌝ }
+    ensures { λ r. ⌜ r ≡ readable (doubles .format) (now (numbers .entry)) ⌝ }
 {
     (numbers[6] <= MOST)
         & (numbers[7] <= MOST)
-        & (numbers[1] % SIGN <= INFINITY)
-        & (numbers[2] % SIGN <= INFINITY)
-        & (numbers[3] % SIGN <= INFINITY)
-        & (numbers[8] % SIGN <= INFINITY)
+        & number(numbers[1])
+        & number(numbers[2])
+        & number(numbers[3])
+        & number(numbers[8])
 }
 
 pub fn state(numbers: &[u64]) -> State
-    requires { ⌜ (length (now numbers) ≡ walkNumbers) × (readable (now numbers) ≡ true) ⌝ }
-    ensures { λ r. ⌜ r ≡ stateIn (now (numbers .entry)) ⌝ }
+    requires { ⌜ (length (now numbers) ≡ walkNumbers) × (readable (doubles .format) (now numbers) ≡ true) ⌝ }
+    ensures { λ r. ⌜ r ≡ stateIn doubles (now (numbers .entry)) ⌝ }
 {
     State::of(
         numbers[4] as usize,
-        f64::from_bits(numbers[1]),
-        f64::from_bits(numbers[2]),
-        f64::from_bits(numbers[3]),
+        float(numbers[1]),
+        float(numbers[2]),
+        float(numbers[3]),
         numbers[5],
         numbers[6] as u32,
         numbers[7] as u32,
-        f64::from_bits(numbers[8]),
+        float(numbers[8]),
     )
 }

@@ -5,20 +5,34 @@ use Prim.Native.Nat.{ℕ}
 use lib.Dec.{eqb}
 use lib.Ieee.{Float}
 use lib.ListN.{length}
-use Rattle.kinds.specs.Limits.{doubles}
+use Rattle.kinds.specs.Limits.{Width, doubles, singles}
 use Rattle.kinds.specs.Outcome.{Outcome, outcome}
 use Rattle.kinds.specs.Heard.{stepHeard, nearestHeard}
 use Rattle.walk.specs.Walk.{faithfulOf}
 use Rattle.sums.specs.Sums.{nearestOf}
-use Rattle.arrays.specs.Arrays.{codeOf, valuesOf, Returned, returned, tooManyOr4}
+use Rattle.arrays.specs.Arrays.{codeOf, valuesOf, Returned, returned, tooManyOf}
 
-unfoldable pub faithfulArrays : List ℕ → List Float → List ℕ → Returned Float
-faithfulArrays ps work out =
-    let w = faithfulOf doubles ps work in
-    let h = stepHeard doubles (w .answer) in
-    cond (eqb (length out) 2) (returned (codeOf h) (w .area) (valuesOf h out)) (returned (tooManyOr4 ps) work out)
+-- of any width
+unfoldable pub faithfulWith : Width → List ℕ → List Float → List ℕ → Returned Float
+faithfulWith W ps work out =
+    let w = faithfulOf W ps work in
+    let h = stepHeard W (w .answer) in
+    cond (eqb (length out) 2) (returned (codeOf h) (w .area) (valuesOf h out)) (returned (tooManyOf W ps) work out)
 
-unfoldable pub nearestArrays : List ℕ → List ℕ → Outcome ℕ ℕ
-nearestArrays ps out =
-    let h = nearestHeard doubles (nearestOf doubles ps) in
-    cond (eqb (length out) 1) (outcome (codeOf h) (valuesOf h out)) (outcome (tooManyOr4 ps) out)
+unfoldable pub nearestWith : Width → List ℕ → List ℕ → Outcome ℕ ℕ
+nearestWith W ps out =
+    let h = nearestHeard W (nearestOf W ps) in
+    cond (eqb (length out) 1) (outcome (codeOf h) (valuesOf h out)) (outcome (tooManyOf W ps) out)
+
+-- ---- the calls
+abbrev pub faithfulArrays : List ℕ → List Float → List ℕ → Returned Float
+faithfulArrays = faithfulWith doubles
+
+abbrev pub nearestArrays : List ℕ → List ℕ → Outcome ℕ ℕ
+nearestArrays = nearestWith doubles
+
+abbrev pub faithfulSingles : List ℕ → List Float → List ℕ → Returned Float
+faithfulSingles = faithfulWith singles
+
+abbrev pub nearestSingles : List ℕ → List ℕ → Outcome ℕ ℕ
+nearestSingles = nearestWith singles

@@ -2,43 +2,43 @@
 -- refusals is one of the table. Assumes nothing.
 use mathlib.Core.Path.{_≡_}
 use mathlib.Core.List.{List}
-use Prim.Native.Nat.{ℕ}
+use Prim.Native.Nat.{ℕ, _≤_}
 use borrow.Author.Tests.{eq-eqb, ne-eqb}
 use lib.Ieee.{Float}
 use lib.ListN.{length}
-use Rattle.kinds.specs.Limits.{doubles}
+use Rattle.kinds.specs.Limits.{Width, doubles}
 use Rattle.kinds.specs.Outcome.{outcome}
 use Rattle.kinds.specs.Heard.{stepHeard, nearestHeard}
 use Rattle.walk.specs.Walk.{faithfulOf}
 use Rattle.sums.specs.Sums.{nearestOf}
 use Rattle.sums.specs.AnswerNumbers as lists
-use Rattle.arrays.specs.Arrays.{codeOf, valuesOf, returned, tooManyOr4}
+use Rattle.arrays.specs.Arrays.{codeOf, valuesOf, returned, tooManyOf}
 use Rattle.arrays.specs.ArraysLaws.{nearest-by}
 use Rattle.arrays.specs.Inner.{NearestRefusal}
-use Rattle.sum_calls.specs.SumArrays.{faithfulArrays, nearestArrays}
+use Rattle.sum_calls.specs.SumArrays.{faithfulWith, nearestWith}
 
-module _ (ps : List ℕ) (work : List Float) (out : List ℕ) where
-  pub faithful-other : (length out ≡ 2 → ⊥) → faithfulArrays ps work out ≡ returned (tooManyOr4 ps) work out
-  unfolding faithfulArrays
+module _ (W : Width) (ps : List ℕ) (work : List Float) (out : List ℕ) where
+  pub faithful-other : (length out ≡ 2 → ⊥) → faithfulWith W ps work out ≡ returned (tooManyOf W ps) work out
+  unfolding faithfulWith
   faithful-other h = rw (ne-eqb (length out) 2 h)
 
   pub faithful-walked : length out ≡ 2
-      → let w = faithfulOf doubles ps work in
-      faithfulArrays ps work out ≡ returned (codeOf (stepHeard doubles (w .answer))) (w .area) (valuesOf (stepHeard doubles (w .answer)) out)
-  unfolding faithfulArrays
+      → let w = faithfulOf W ps work in
+      faithfulWith W ps work out ≡ returned (codeOf (stepHeard W (w .answer))) (w .area) (valuesOf (stepHeard W (w .answer)) out)
+  unfolding faithfulWith
   faithful-walked h = rw (eq-eqb (length out) 2 h)
 
-module _ (ps out : List ℕ) where
-  pub nearest-other : (length out ≡ 1 → ⊥) → nearestArrays ps out ≡ outcome (tooManyOr4 ps) out
-  unfolding nearestArrays
+module _ (W : Width) (ps out : List ℕ) where
+  pub nearest-other : (length out ≡ 1 → ⊥) → nearestWith W ps out ≡ outcome (tooManyOf W ps) out
+  unfolding nearestWith
   nearest-other h = rw (ne-eqb (length out) 1 h)
 
   pub nearest-summed : length out ≡ 1
-      → let h = nearestHeard doubles (nearestOf doubles ps) in
-      nearestArrays ps out ≡ outcome (codeOf h) (valuesOf h out)
-  unfolding nearestArrays
+      → let h = nearestHeard W (nearestOf W ps) in
+      nearestWith W ps out ≡ outcome (codeOf h) (valuesOf h out)
+  unfolding nearestWith
   nearest-summed h = rw (eq-eqb (length out) 1 h)
 
 -- ---- what is refused is refused with a number of the table
-pub nearest-refusal : (ps : List ℕ) → NearestRefusal (nearestOf doubles ps)
-nearest-refusal ps = nearest-by (nearestOf doubles ps) (lists.nearest-refusal doubles ps)
+pub nearest-refusal : (W : Width) → W .length ≤ doubles .length → (ps : List ℕ) → NearestRefusal (nearestOf W ps)
+nearest-refusal W l ps = nearest-by W l (nearestOf W ps) (lists.nearest-refusal W ps)

@@ -47,7 +47,7 @@ module _ {part : Float} (z : Bool) (S : ℤ) (l : natAbs S < limit (doubles .for
       whole : wholeOf ws ≡ S -ℤ value (doubles .format) (nearestFloat (doubles .format) z S)
       whole =
           ap wholeOf (w ∙ ap (λ (u : ℤ). wordsOf (S -ℤ u)) units)
-          ∙ whole-words (S -ℤ value (doubles .format) (nearestFloat (doubles .format) z S)) left-below
+          ∙ whole-words (doubles .format) (S -ℤ value (doubles .format) (nearestFloat (doubles .format) z S)) left-below
 
 -- ---- a loop over n parts of S: i of them stand in the area, the words hold what is left, and the next zero has the sign `sign`
 pub record Splitting (n : ℕ) (z : Bool) (S : ℤ) (ws : List ℕ) (area : List Float) (sign : Bool) (i : ℕ) : Type 0 where

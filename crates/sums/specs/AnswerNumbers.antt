@@ -8,31 +8,31 @@ use lib.Ieee.{Float, isNan}
 use Rattle.ieee.specs.Units.{Number, nearestFloat}
 use Rattle.ieee.specs.Finite.{finite-no-nan}
 use Rattle.lists.specs.Apart.{apart}
-use Rattle.kinds.specs.Limits.{Width, doubles}
+use Rattle.kinds.specs.Limits.{Width}
 use Rattle.kinds.specs.Heard.{Refusal}
 use Rattle.kinds.specs.declared.Verdict.{Verdict}
 use Rattle.kinds.specs.declared.Verdict.the-variants as verdicts
 use Rattle.kinds.specs.declared.Nearest.the-variants.{Sum, Refused}
 use Rattle.judge.specs.Judge.{judged, zeroSign}
 use Rattle.judge.specs.JudgeLaws.{list-when, list-refusal}
-use Rattle.sums.specs.Sums.{sumOf, nearestOf}
+use Rattle.sums.specs.Sums.{sumOf, nearestOf, Summing}
 use Rattle.sums.specs.AnswerLaws.{nearest-good, nearest-refused}
 use Rattle.sums.specs.Promised.{nearest-promised, nearest-refusals}
 
 pub nearest-refusal : (W : Width) (ps : List ℕ) (k p : ℕ) → nearestOf W ps ≡ Refused k p → Refusal (W .length) k p
 nearest-refusal W ps k p e = list-refusal (nearest-refusals W ps k p .0 e)
 
-module _ (ps : List ℕ) {x : Float} (e : nearestOf doubles ps ≡ Sum x) where
-  pub nearest-number : Number (doubles .format) x
-  nearest-number = by (judged doubles true true ps) refl
+module _ {W : Width} (R : Summing W) (ps : List ℕ) {x : Float} (e : nearestOf W ps ≡ Sum x) where
+  pub nearest-number : Number (W .format) x
+  nearest-number = by (judged W true true ps) refl
     where
-      by : (v : Verdict) → judged doubles true true ps ≡ v → Number (doubles .format) x
+      by : (v : Verdict) → judged W true true ps ≡ v → Number (W .format) x
       by verdicts.Good g =
-          let s : Sum (nearestFloat (doubles .format) (zeroSign doubles ps) (sumOf (doubles .format) ps)) ≡ Sum x = sym (nearest-good doubles ps g) ∙ e in
-          let y : nearestFloat (doubles .format) (zeroSign doubles ps) (sumOf (doubles .format) ps) ≡ x = cc in
-          subst (Number (doubles .format)) y (nearest-promised ps (list-when doubles true true ps verdicts.Good .0 g) .1 .number)
+          let s : Sum (nearestFloat (W .format) (zeroSign W ps) (sumOf (W .format) ps)) ≡ Sum x = sym (nearest-good W ps g) ∙ e in
+          let y : nearestFloat (W .format) (zeroSign W ps) (sumOf (W .format) ps) ≡ x = cc in
+          subst (Number (W .format)) y (nearest-promised R ps (list-when W true true ps verdicts.Good .0 g) .1 .number)
       by (verdicts.Refused k p) g =
-          let s : Refused k p ≡ Sum x = sym (nearest-refused doubles ps k p g) ∙ e in
+          let s : Refused k p ≡ Sum x = sym (nearest-refused W ps k p g) ∙ e in
           apart (cc)
 
   pub nearest-no-nan : T (not (isNan x))

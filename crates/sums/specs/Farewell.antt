@@ -25,7 +25,7 @@ use Rattle.register.specs.RunLaws.{run-from-zero, zeros-held, all-entered, patt
 use Rattle.register.specs.RoundedLaws.{rounded-sum}
 use Rattle.register.specs.Farewell.{history, stayed, gone, run-held}
 use Rattle.sums.specs.Sums.{sumOf, nearestOf}
-use Rattle.sums.specs.SumLaws.{sum-below-limit}
+use Rattle.sums.specs.SumLaws.{sums-doubles, sum-below-limit}
 use Rattle.sums.specs.AnswerLaws.{nearest-good}
 
 -- qs is a list of what stayed: an accepted list with the exact sum of the history without p
@@ -36,7 +36,7 @@ farewell-rounds xs ys zs p qs A G n e =
     let f = doubles .format in
     let cs = history xs ys zs p in
     let whole : wholeOf (run zeros cs) ≡ sumOf f qs = run-from-zero cs A ∙ gone xs ys zs p ∙ e in
-    let small : natAbs (wholeOf (run zeros cs)) < limit f = rw whole (sum-below-limit (list-passed G .few) (list-allowed G)) in
+    let small : natAbs (wholeOf (run zeros cs)) < limit f = rw whole (sum-below-limit sums-doubles (list-passed G .few) (list-allowed G)) in
     rounded-sum (run zeros cs) (run-held zeros cs zeros-held .long) small
     ∙ (λ i. Sum (nearestFloat f (sym (zero-plus doubles qs .1 n) i) (whole i)))
     ∙ sym (nearest-good doubles qs (list-when doubles true true qs Good .1 G))

@@ -30,7 +30,7 @@ use Rattle.register.specs.Merge.{merged, Sites, totalOf, AllMerged, registersOf
 use Rattle.register.specs.Rooms.{merge-runs}
 use Rattle.register.specs.SitesLaws.{sites-run}
 use Rattle.sums.specs.Sums.{sumOf, nearestOf}
-use Rattle.sums.specs.SumLaws.{sum-below-limit}
+use Rattle.sums.specs.SumLaws.{sums-doubles, sum-below-limit}
 use Rattle.sums.specs.AnswerLaws.{nearest-good}
 
 -- the register of a list: its numbers, added to zeros
@@ -45,7 +45,7 @@ pub added-nearest : (ps : List ℕ) → ListWhen doubles true true ps Good → (
 added-nearest ps G n =
     let f = doubles .format in
     let whole : wholeOf (addedUp ps) ≡ sumOf f ps = list-whole ps (lt-of-le-of-lt (list-passed G .few) (lit< tt)) (list-allowed G) in
-    let small : natAbs (wholeOf (addedUp ps)) < limit f = rw whole (sum-below-limit (list-passed G .few) (list-allowed G)) in
+    let small : natAbs (wholeOf (addedUp ps)) < limit f = rw whole (sum-below-limit sums-doubles (list-passed G .few) (list-allowed G)) in
     rounded-sum (addedUp ps) (run-held zeros (map add ps) zeros-held .long) small
     ∙ (λ i. Sum (nearestFloat f (sym (zero-plus doubles ps .1 n) i) (whole i)))
     ∙ sym (nearest-good doubles ps (list-when doubles true true ps Good .1 G))

@@ -20,7 +20,7 @@ use Rattle.ieee.specs.Finite.{is-units}
 use Rattle.ieee.specs.Overflow.{nearest-is, nearest-negative}
 use Rattle.ieee.specs.Rounded.{prec-pos}
 use Rattle.lists.specs.Each.{Each}
-use Rattle.kinds.specs.Limits.{doubles}
+use Rattle.kinds.specs.Limits.{Width, doubles}
 use Rattle.sums.specs.Sums.{parts, addUp, fitting}
 use Rattle.sums.specs.PartsLaws.{left-smaller}
 
@@ -30,11 +30,14 @@ both true true e = (refl, refl)
 both true false e = let z : _≡_ {A = ℕ} 0 1 = cc in absurd (omega arith)
 both false b e = let z : _≡_ {A = ℕ} 0 1 = cc in absurd (omega arith)
 
-pub fitting-when : (area : List Float) → (fitting doubles area ≡ true) ↔ ((1 ≤ length area) × (length area ≤ 8))
-fitting-when area = (
-  λ e. let h = both (leb 1 (length area)) (leb (length area) 8) e in (leb-true 1 (length area) (h .0), leb-true (length area) 8 (h .1)),
-  λ h. rw (le-leb 1 (length area) (h .0), le-leb (length area) 8 (h .1)),
+pub fitting-when : (W : Width) (area : List Float) → (fitting W area ≡ true) ↔ ((1 ≤ length area) × (length area ≤ W .parts))
+fitting-when W area = (
+  λ e. let h = both (leb 1 (length area)) (leb (length area) (W .parts)) e in (leb-true 1 (length area) (h .0), leb-true (length area) (W .parts) (h .1)),
+  λ h. rw (le-leb 1 (length area) (h .0), le-leb (length area) (W .parts) (h .1)),
 )
+
+pub fitting-doubles : (area : List Float) → (fitting doubles area ≡ true) ↔ ((1 ≤ length area) × (length area ≤ 8))
+fitting-doubles = fitting-when doubles
 
 -- ---- rule S5: the answer says that the parts add up exactly when their exact sum is S
 no-distance : (z : ℤ) → natAbs z ≡ 0 → z ≡ pos 0

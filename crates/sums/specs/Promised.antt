@@ -11,7 +11,7 @@ use lib.Ieee.{Float, Format, toBits}
 use Rattle.ieee.specs.Units.{value, nearestFloat, limit}
 use Rattle.ieee.specs.Accuracy.{NearestTo}
 use Rattle.ieee.specs.Nearest.{nearest-nearest}
-use Rattle.kinds.specs.Limits.{Width, doubles}
+use Rattle.kinds.specs.Limits.{Width}
 use Rattle.kinds.specs.Outcome.{Outcome, outcome}
 use Rattle.kinds.specs.Heard.{nearestHeard, nearest}
 use Rattle.kinds.specs.declared.Verdict.{Verdict}
@@ -23,7 +23,7 @@ use Rattle.kinds.specs.declared.Parted.the-variants as parteds
 use Rattle.judge.specs.Judge.{judged, zeroSign}
 use Rattle.judge.specs.Table.{ListWhen}
 use Rattle.judge.specs.JudgeLaws.{list-when, list-passed, list-allowed}
-use Rattle.sums.specs.Sums.{sumOf, nearestAfter, nearestOf, parts, addUp, fitting, partsOf, partsAfter}
+use Rattle.sums.specs.Sums.{sumOf, nearestAfter, nearestOf, parts, addUp, fitting, partsOf, partsAfter, Summing}
 use Rattle.sums.specs.NonOverlapping.{NonOverlapping}
 use Rattle.sums.specs.PartsLaws.{left-smaller, parts-apart}
 use Rattle.sums.specs.SumLaws.{sum-below-limit}
@@ -79,32 +79,32 @@ module _ (W : Width) (ps : List ℕ) where
       λ G. sym (parts-refused W ps area k i (list-when W true (fitting W area) ps (verdicts.Refused k i) .1 G)),
     )
 
--- ---- what is answered otherwise. The sum of an allowed list of doubles is below their limit.
-module _ (ps : List ℕ) where
+-- ---- what is answered otherwise. The sum of an allowed list is below its format's limit.
+module _ {W : Width} (R : Summing W) (ps : List ℕ) where
   abbrev S : ℤ
-  S = sumOf (doubles .format) ps
+  S = sumOf (W .format) ps
 
-  module _ (G : ListWhen doubles true true ps verdicts.Good) where
+  module _ (G : ListWhen W true true ps verdicts.Good) where
     -- rule S2, for every list that isn't refused
-    pub nearest-promised : let x = nearestFloat (doubles .format) (zeroSign doubles ps) S in
-        (nearestHeard doubles (nearestOf doubles ps) ≡ nearest (toBits (doubles .format) x)) × NearestTo (doubles .format) S x
+    pub nearest-promised : let x = nearestFloat (W .format) (zeroSign W ps) S in
+        (nearestHeard W (nearestOf W ps) ≡ nearest (toBits (W .format) x)) × NearestTo (W .format) S x
     nearest-promised = (
-      ap (nearestHeard doubles) (nearest-good doubles ps (list-when doubles true true ps verdicts.Good .1 G)),
-      nearest-nearest (doubles .format) (zeroSign doubles ps) S (sum-below-limit (list-passed G .few) (list-allowed G)),
+      ap (nearestHeard W) (nearest-good W ps (list-when W true true ps verdicts.Good .1 G)),
+      nearest-nearest (W .format) (zeroSign W ps) S (sum-below-limit R (list-passed G .few) (list-allowed G)),
     )
 
   module _ (area : List Float) where
     -- what an accepted call leaves
     abbrev left : List Float
-    left = parts (doubles .format) (length area) (zeroSign doubles ps) S
+    left = parts (W .format) (length area) (zeroSign W ps) S
 
-    pub parts-promised : ListWhen doubles true (fitting doubles area) ps verdicts.Good
-        → (partsOf doubles ps area ≡ outcome (parteds.Parts (addUp (doubles .format) left S)) left)
-        × EachNearest (doubles .format) S left × NonOverlapping (doubles .format) left
+    pub parts-promised : ListWhen W true (fitting W area) ps verdicts.Good
+        → (partsOf W ps area ≡ outcome (parteds.Parts (addUp (W .format) left S)) left)
+        × EachNearest (W .format) S left × NonOverlapping (W .format) left
     unfolding partsAfter
     parts-promised G =
-        let l = sum-below-limit (list-passed G .few) (list-allowed G) in (
-          rw (list-when doubles true (fitting doubles area) ps verdicts.Good .1 G),
-          parts-nearest (doubles .format) (length area) (zeroSign doubles ps) S l,
-          parts-apart (doubles .format) (length area) (zeroSign doubles ps) S l,
+        let l = sum-below-limit R (list-passed G .few) (list-allowed G) in (
+          rw (list-when W true (fitting W area) ps verdicts.Good .1 G),
+          parts-nearest (W .format) (length area) (zeroSign W ps) S l,
+          parts-apart (W .format) (length area) (zeroSign W ps) S l,
         )

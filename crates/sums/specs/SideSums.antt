@@ -2,7 +2,7 @@
 use mathlib.Core.Path.{_≡_, refl, sym, ap, _∙_}
 use mathlib.Core.List.{List, [], _∷_, _++_, map, map-append}
 use Prim.Native.Nat.{ℕ, suc, _+_, _-_, _*_, _/_, _%_, _^_, _≤_, _<_}
-use native.Mathlib.Nat.{le-trans, lt-trans, lt-of-le-of-lt, mul-le-mul-right}
+use native.Mathlib.Nat.{le-trans, lt-trans, lt-of-le-of-lt, lt-of-lt-of-le, mul-le-mul-right}
 use native.Mathlib.Omega.{arith}
 use lib.Arith.{digits-div, digits-mod}
 use lib.Dec.{lit<}
@@ -18,16 +18,15 @@ use Rattle.lists.specs.DigitLaws.{number-cut}
 use Rattle.lists.specs.LowestDigits.{number-take-lt}
 use Rattle.lists.specs.Front.{take-next}
 use Rattle.lists.specs.TwosComplement.{signed-low, no-carry}
-use Rattle.kinds.specs.Limits.{Width, doubles}
+use Rattle.kinds.specs.Limits.{Width}
 use Rattle.judge.specs.Judge.{faultOf}
 use Rattle.judge.specs.Table.{Allowed, most}
-use Rattle.judge.specs.FaultLaws.{most-doubles}
 use Rattle.words.specs.Words.{wordBits, wordCount, registerBits, wholeOf, wordsOf}
 use Rattle.addend.specs.Addend.{unitsOf}
 use Rattle.addend.specs.Sides.{sidesOf, sideBySide}
-use Rattle.sums.specs.Sums.{sumOf}
+use Rattle.sums.specs.Sums.{sumOf, Summing}
 use Rattle.sums.specs.ListSides.{listSides}
-use Rattle.sums.specs.SumLaws.{each-most}
+use Rattle.sums.specs.SumLaws.{each-most, register-room}
 
 -- ---- one number more
 next-up : (xs : List Whole) (x : Whole) → total (xs ++ (x ∷ [])) .up ≡ total xs .up + x .up
@@ -72,21 +71,18 @@ sides-bound c (z ∷ zs) h =
     let r = sides-bound c zs (λ j l. h (suc j) (omega arith)) in
     (omega (arith, s .0, h 0 (omega arith), r .0), omega (arith, s .1, h 0 (omega arith), r .1))
 
--- 4,094 times 2 ^ 2074 units is what a register's words hold
-room-doubles : doubles .length * most doubles < 2 ^ (registerBits - 1)
-room-doubles = rw most-doubles (lit< tt)
-
-module _ {ps : List ℕ} (few : length ps ≤ doubles .length) (C : Allowed doubles ps) where
-  most-of : (x : ℕ) → x ≤ length (map (unitsOf doubles) ps) * most doubles → x < 2 ^ (registerBits - 1)
+-- they are below the format's limit, and that is what a register's words hold
+module _ {W : Width} (R : Summing W) {ps : List ℕ} (few : length ps ≤ W .length) (C : Allowed W ps) where
+  most-of : (x : ℕ) → x ≤ length (map (unitsOf W) ps) * most W → x < 2 ^ (registerBits - 1)
   most-of x h =
-      let l : x ≤ length ps * most doubles = rw (length-map ps (unitsOf doubles)) at h in
-      lt-of-le-of-lt (le-trans l (mul-le-mul-right (most doubles) few)) room-doubles
+      let l : x ≤ length ps * most W = rw (length-map ps (unitsOf W)) at h in
+      lt-of-le-of-lt (le-trans l (mul-le-mul-right (most W) few)) (lt-of-lt-of-le (R .room) (register-room (W .format)))
 
-  pub up-below : listSides doubles ps .up < 2 ^ (registerBits - 1)
-  up-below = most-of _ (sides-bound (most doubles) (map (unitsOf doubles) ps) (each-most doubles ps C) .0)
+  pub up-below : listSides W ps .up < 2 ^ (registerBits - 1)
+  up-below = most-of _ (sides-bound (most W) (map (unitsOf W) ps) (each-most W ps C) .0)
 
-  pub dn-below : listSides doubles ps .dn < 2 ^ (registerBits - 1)
-  dn-below = most-of _ (sides-bound (most doubles) (map (unitsOf doubles) ps) (each-most doubles ps C) .1)
+  pub dn-below : listSides W ps .dn < 2 ^ (registerBits - 1)
+  dn-below = most-of _ (sides-bound (most W) (map (unitsOf W) ps) (each-most W ps C) .1)
 
 -- ---- side by side in words
 allowed-take : {W : Width} (ps : List ℕ) (i : ℕ) → Allowed W ps → Allowed W (take i ps)
@@ -120,33 +116,32 @@ nothing = refl
 half : (x : ℕ) → x < 2 ^ (registerBits - 1) → x < 2 ^ registerBits
 half x h = lt-trans h (lit< tt)
 
-module _ {ps : List ℕ} (few : length ps ≤ doubles .length) (C : Allowed doubles ps) where
+module _ {W : Width} (R : Summing W) {ps : List ℕ} (few : length ps ≤ W .length) (C : Allowed W ps) where
   pub gathers : {ws es : List ℕ} {r : ℕ} (i : ℕ) → i < length ps → length ws ≡ wordCount + wordCount
-      → number wordBits ws ≡ sideBySide (listSides doubles (take i ps))
-      → Carried wordBits ws (sideBySide (sidesOf doubles (getD ps i 0))) es (length ws) r
-      → number wordBits es ≡ sideBySide (listSides doubles (take (i + 1) ps))
+      → number wordBits ws ≡ sideBySide (listSides W (take i ps))
+      → Carried wordBits ws (sideBySide (sidesOf W (getD ps i 0))) es (length ws) r → number wordBits es ≡ sideBySide (listSides W (take (i + 1) ps))
   gathers {ws} {es} {r} i h l e D =
       let B = 2 ^ registerBits in
-      let a = listSides doubles (take i ps) in
-      let b = sidesOf doubles (getD ps i 0) in
-      let s : sideBySide a + sideBySide b ≡ sideBySide (listSides doubles (take (i + 1) ps)) =
-      joined B (a .up) (a .dn) (b .up) (b .dn) ∙ sym (λ k. sides-up doubles ps i h k + sides-dn doubles ps i h k * B) in
-      let t : number wordBits es + r * 2 ^ (wordBits * (wordCount + wordCount)) ≡ sideBySide (listSides doubles (take (i + 1) ps)) =
+      let a = listSides W (take i ps) in
+      let b = sidesOf W (getD ps i 0) in
+      let s : sideBySide a + sideBySide b ≡ sideBySide (listSides W (take (i + 1) ps)) =
+      joined B (a .up) (a .dn) (b .up) (b .dn) ∙ sym (λ k. sides-up W ps i h k + sides-dn W ps i h k * B) in
+      let t : number wordBits es + r * 2 ^ (wordBits * (wordCount + wordCount)) ≡ sideBySide (listSides W (take (i + 1) ps)) =
       rw (l, e) at (D .total) ∙ s in
-      let f : length (take (i + 1) ps) ≤ doubles .length = rw (length-take (i + 1) ps) (omega arith) in
+      let f : length (take (i + 1) ps) ≤ W .length = rw (length-take (i + 1) ps) (omega arith) in
       let A = allowed-take ps (i + 1) C in
-      no-carry (2 ^ (wordBits * (wordCount + wordCount))) r _ _ t (room B _ _ (half _ (up-below f A)) (half _ (dn-below f A)))
+      no-carry (2 ^ (wordBits * (wordCount + wordCount))) r _ _ t (room B _ _ (half _ (up-below R f A)) (half _ (dn-below R f A)))
 
-  pub settled-sides : {ws : List ℕ} → length ws ≡ wordCount + wordCount → Digits wordBits ws → number wordBits ws ≡ sideBySide (listSides doubles ps)
-      → wholeOf (take wordCount ws) -ℤ pos (number wordBits (drop wordCount ws)) ≡ sumOf (doubles .format) ps
+  pub settled-sides : {ws : List ℕ} → length ws ≡ wordCount + wordCount → Digits wordBits ws → number wordBits ws ≡ sideBySide (listSides W ps)
+      → wholeOf (take wordCount ws) -ℤ pos (number wordBits (drop wordCount ws)) ≡ sumOf (W .format) ps
   settled-sides {ws} l D e =
-      let a = listSides doubles ps in
+      let a = listSides W ps in
       let lower = number-take-lt wordBits ws {i = wordCount} D (omega arith) in
-      let x = apart (2 ^ registerBits) _ _ (a .up) (a .dn) (sym (number-cut wordBits ws {i = wordCount} (omega arith)) ∙ e) lower (half _ (up-below few C)) in
+      let x = apart (2 ^ registerBits) _ _ (a .up) (a .dn) (sym (number-cut wordBits ws {i = wordCount} (omega arith)) ∙ e) lower (half _ (up-below R few C)) in
       (λ k. signed registerBits (x .0 k) -ℤ pos (x .1 k))
-      ∙ ap (λ (z : ℤ). z -ℤ pos (a .dn)) (signed-low registerBits (up-below few C))
+      ∙ ap (λ (z : ℤ). z -ℤ pos (a .dn)) (signed-low registerBits (up-below R few C))
       ∙ less a
-      ∙ sides-sum doubles ps
+      ∙ sides-sum W ps
     where
       less : (a : Whole) → pos (a .up) -ℤ pos (a .dn) ≡ int a
       less a =

@@ -1,13 +1,13 @@
 -- The exact sum S of a list, the nearest sum and the sum in parts. Definitions only. They speak of the patterns alone, of neither words nor code.
 use mathlib.Core.Bool.{Bool, true, false, _&&_}
 use mathlib.Core.List.{List, [], _∷_, map}
-use Prim.Native.Nat.{ℕ, zero, suc}
+use Prim.Native.Nat.{ℕ, zero, suc, _*_, _<_}
 use lib.Dec.{leb, eqb}
 use lib.IntN.{ℤ, _-ℤ_, natAbs}
 use lib.ListN.{length}
 use lib.Ieee.{Float, Format, ofBits}
 use Rattle.units.specs.Whole.{exactSum}
-use Rattle.ieee.specs.Units.{value, nearestFloat}
+use Rattle.ieee.specs.Units.{value, nearestFloat, limit}
 use Rattle.kinds.specs.Limits.{Width}
 use Rattle.kinds.specs.Outcome.{Outcome, outcome}
 use Rattle.kinds.specs.declared.Verdict.{Verdict}
@@ -17,10 +17,15 @@ use Rattle.kinds.specs.declared.Nearest.the-variants as nearests
 use Rattle.kinds.specs.declared.Parted.{Parted}
 use Rattle.kinds.specs.declared.Parted.the-variants as parteds
 use Rattle.judge.specs.Judge.{judged, zeroSign}
+use Rattle.judge.specs.Table.{most}
 
 -- rule L2: S
 abbrev pub sumOf : Format → List ℕ → ℤ
 sumOf f ps = exactSum (map (λ (p : ℕ). value f (ofBits f p)) ps)
+
+-- what a nearest sum and parts ask of a width: the sum of the longest list is below the format's limit
+pub record Summing (W : Width) : Type 0 where
+  pub room : W .length * most W < limit (W .format)
 
 -- ---- rules S2 and S3
 unfoldable pub nearestAfter : Width → Verdict → List ℕ → Nearest

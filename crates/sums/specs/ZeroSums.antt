@@ -14,7 +14,7 @@ use Rattle.units.specs.Whole.{exactSum}
 use Rattle.ieee.specs.Units.{negative, magnitude, value, nearestFloat}
 use Rattle.ieee.specs.Zeros.{minusZero, zero-bits, zero-value, minus-value, minus-sign, minus-magnitude, bits-minus}
 use Rattle.lists.specs.Each.{Each}
-use Rattle.kinds.specs.Limits.{Width, doubles}
+use Rattle.kinds.specs.Limits.{Width}
 use Rattle.kinds.specs.Outcome.{Outcome, outcome}
 use Rattle.kinds.specs.Heard.{nearestHeard, nearest}
 use Rattle.kinds.specs.declared.Verdict.the-variants.{Good}
@@ -25,7 +25,7 @@ use Rattle.judge.specs.Table.{ListWhen, MinusZeros, ZeroWhen, minus}
 use Rattle.judge.specs.JudgeLaws.{list-passed, list-allowed}
 use Rattle.judge.specs.ZeroLaws.{zero-sign, zero-when}
 use Rattle.judge.specs.IeeeZero.{ieeeSum, Patterns, ieee-zero}
-use Rattle.sums.specs.Sums.{sumOf, nearestOf, parts, addUp, fitting, partsOf}
+use Rattle.sums.specs.Sums.{sumOf, nearestOf, parts, addUp, fitting, partsOf, Summing}
 use Rattle.sums.specs.SumLaws.{sum-below-limit}
 use Rattle.sums.specs.PartsMeaning.{fitting-when, add-up-when, nearest-sign}
 use Rattle.sums.specs.Promised.{nearest-promised, parts-promised}
@@ -54,73 +54,73 @@ module _ (f : Format) where
   parts-add (suc k) z = rw (no-more z, zero-value f z, parts-add k false)
 
 -- ---- what is answered
-module _ (ps : List ℕ) (s : sumOf (doubles .format) ps ≡ pos 0) where
+module _ {W : Width} (R : Summing W) (ps : List ℕ) (s : sumOf (W .format) ps ≡ pos 0) where
   bits : ℕ
-  bits = toBits (doubles .format) (nearestFloat (doubles .format) (zeroSign doubles ps) (pos 0))
+  bits = toBits (W .format) (nearestFloat (W .format) (zeroSign W ps) (pos 0))
 
-  module _ (G : ListWhen doubles true true ps Good) where
-    heard : nearestHeard doubles (nearestOf doubles ps) ≡ nearest bits
+  module _ (G : ListWhen W true true ps Good) where
+    heard : nearestHeard W (nearestOf W ps) ≡ nearest bits
     unfolding bits
-    heard = rw s at (nearest-promised ps G .0)
+    heard = rw s at (nearest-promised R ps G .0)
 
-    pub nearest-zero : (p : ℕ) → (nearestHeard doubles (nearestOf doubles ps) ≡ nearest p) ↔ ZeroWhen doubles ps p
+    pub nearest-zero : (p : ℕ) → (nearestHeard W (nearestOf W ps) ≡ nearest p) ↔ ZeroWhen W ps p
     unfolding bits
     nearest-zero p = (
-      λ e. let h : nearest bits ≡ nearest p = sym heard ∙ e in let same : bits ≡ p = cc in zero-when doubles ps p .0 same,
-      λ Z. heard ∙ ap nearest (zero-when doubles ps p .1 Z),
+      λ e. let h : nearest bits ≡ nearest p = sym heard ∙ e in let same : bits ≡ p = cc in zero-when W ps p .0 same,
+      λ Z. heard ∙ ap nearest (zero-when W ps p .1 Z),
     )
 
   -- the first part is that zero, every other +0, and they add up
-  module _ (area : List Float) (G : ListWhen doubles true (fitting doubles area) ps Good) where
+  module _ (area : List Float) (G : ListWhen W true (fitting W area) ps Good) where
     left : List Float
-    left = parts (doubles .format) (length area) (zeroSign doubles ps) (pos 0)
+    left = parts (W .format) (length area) (zeroSign W ps) (pos 0)
 
-    answered : partsOf doubles ps area ≡ outcome (Parts (addUp (doubles .format) left (pos 0))) left
+    answered : partsOf W ps area ≡ outcome (Parts (addUp (W .format) left (pos 0))) left
     unfolding left
-    answered = rw s at (parts-promised ps area G .0)
+    answered = rw s at (parts-promised R ps area G .0)
 
-    flag : addUp (doubles .format) left (pos 0) ≡ true
+    flag : addUp (W .format) left (pos 0) ≡ true
     unfolding left
-    flag = add-up-when (doubles .format) left (pos 0) .1 (parts-add (doubles .format) (length area) (zeroSign doubles ps))
+    flag = add-up-when (W .format) left (pos 0) .1 (parts-add (W .format) (length area) (zeroSign W ps))
 
     count : length area ≡ suc (length area - 1)
-    count = omega (arith, fitting-when area .0 (is-true (fitting doubles area) (list-passed G .right-parts)) .0)
+    count = omega (arith, fitting-when W area .0 (is-true (fitting W area) (list-passed G .right-parts)) .0)
 
-    pub parts-zero : {p : ℕ} → ZeroWhen doubles ps p
-        → (partsOf doubles ps area .answer ≡ Parts true) × (map (toBits (doubles .format)) (partsOf doubles ps area .area) ≡ p ∷ replicate (length area - 1) 0)
+    pub parts-zero : {p : ℕ} → ZeroWhen W ps p
+        → (partsOf W ps area .answer ≡ Parts true) × (map (toBits (W .format)) (partsOf W ps area .area) ≡ p ∷ replicate (length area - 1) 0)
     unfolding left
     parts-zero {p} Z =
-        let f = doubles .format in
-        let first : cond (zeroSign doubles ps) (top f) 0 ≡ p = sym (zero-bits f (zeroSign doubles ps)) ∙ zero-when doubles ps p .1 Z in (
+        let f = W .format in
+        let first : cond (zeroSign W ps) (top f) 0 ≡ p = sym (zero-bits f (zeroSign W ps)) ∙ zero-when W ps p .1 Z in (
           ap (λ (w : Outcome Parted Float). w .answer) answered ∙ ap Parts flag,
           ap (λ (w : Outcome Parted Float). map (toBits f) (w .area)) answered
-              ∙ ap (λ (k : ℕ). map (toBits f) (parts f k (zeroSign doubles ps) (pos 0))) count
-              ∙ parts-bits f (length area - 1) (zeroSign doubles ps)
+              ∙ ap (λ (k : ℕ). map (toBits f) (parts f k (zeroSign W ps) (pos 0))) count
+              ∙ parts-bits f (length area - 1) (zeroSign W ps)
               ∙ ap (λ (b : ℕ). b ∷ replicate (length area - 1) 0) first,
         )
 
 -- ---- nothing but -0, whatever the exact sum may be
-module _ (ps : List ℕ) where
-  pub nearest-minus : ListWhen doubles true true ps Good → (nearestHeard doubles (nearestOf doubles ps) ≡ nearest 0x8000000000000000) ↔ MinusZeros doubles ps
+module _ {W : Width} (R : Summing W) (ps : List ℕ) where
+  pub nearest-minus : ListWhen W true true ps Good → (nearestHeard W (nearestOf W ps) ≡ nearest (minusPattern W)) ↔ MinusZeros W ps
   nearest-minus G = (
     λ e.
-        let f = doubles .format in
+        let f = W .format in
         let S = sumOf f ps in
-        let x = nearestFloat f (zeroSign doubles ps) S in
-        let P = nearest-promised ps G in
-        let h : nearest (toBits f x) ≡ nearest 0x8000000000000000 = sym (P .0) ∙ e in
+        let x = nearestFloat f (zeroSign W ps) S in
+        let P = nearest-promised R ps G in
+        let h : nearest (toBits f x) ≡ nearest (minusPattern W) = sym (P .0) ∙ e in
         let same : x ≡ minusZero f = bits-minus (P .1 .number) (cc) in
-        let sign = nearest-sign f (zeroSign doubles ps) S (sum-below-limit (list-passed G .few) (list-allowed G)) (ap (magnitude f) same ∙ minus-magnitude f) in
-        zero-sign doubles ps .0 (sym sign ∙ ap negative same ∙ minus-sign f),
-    λ M. nearest-zero ps (minus-sum ps M) G 0x8000000000000000 .1 (minus M),
+        let sign = nearest-sign f (zeroSign W ps) S (sum-below-limit R (list-passed G .few) (list-allowed G)) (ap (magnitude f) same ∙ minus-magnitude f) in
+        zero-sign W ps .0 (sym sign ∙ ap negative same ∙ minus-sign f),
+    λ M. nearest-zero R ps (minus-sum ps M) G (minusPattern W) .1 (minus M),
   )
 
-  pub parts-minus : (area : List Float) → ListWhen doubles true (fitting doubles area) ps Good → MinusZeros doubles ps
-      → map (toBits (doubles .format)) (partsOf doubles ps area .area) ≡ 0x8000000000000000 ∷ replicate (length area - 1) 0
-  parts-minus area G M = parts-zero ps (minus-sum ps M) area G (minus M) .1
+  pub parts-minus : (area : List Float) → ListWhen W true (fitting W area) ps Good → MinusZeros W ps
+      → map (toBits (W .format)) (partsOf W ps area .area) ≡ minusPattern W ∷ replicate (length area - 1) 0
+  parts-minus area G M = parts-zero R ps (minus-sum ps M) area G (minus M) .1
 
   -- so it is -0 exactly where IEEE 754's own sum is, from the first number on
-  pub nearest-ieee : ListWhen doubles true true ps Good → Patterns doubles ps
-      → (nearestHeard doubles (nearestOf doubles ps) ≡ nearest 0x8000000000000000)
-      ↔ (ieeeSum (doubles .format) (floats doubles ps) ≡ minusZero (doubles .format))
-  nearest-ieee G P = (λ e. ieee-zero doubles ps P .1 (nearest-minus G .0 e), λ e. nearest-minus G .1 (ieee-zero doubles ps P .0 e))
+  pub nearest-ieee : ListWhen W true true ps Good → Patterns W ps
+      → (nearestHeard W (nearestOf W ps) ≡ nearest (minusPattern W))
+      ↔ (ieeeSum (W .format) (floats W ps) ≡ minusZero (W .format))
+  nearest-ieee G P = (λ e. ieee-zero W ps P .1 (nearest-minus G .0 e), λ e. nearest-minus G .1 (ieee-zero W ps P .0 e))

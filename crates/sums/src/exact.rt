@@ -15,7 +15,8 @@ ghost use Rattle.sums.specs.Sums.{sumOf};
 // Below so many numbers one register is faster than one for each sign.
 const FEW: usize = 32;
 
-// From so many numbers on lanes are faster than words, whatever the numbers are: settling lanes costs what some hundred additions to words cost more than to lanes.
+// From so many numbers on lanes are faster than words, whatever the numbers are: settling lanes costs what some hundred additions to words cost more than to
+// lanes.
 const LONG: usize = 128;
 
 // The words of a list's sum, in words that are zero. Of an allowed list only: a NaN or an infinity has no units.

@@ -1,5 +1,5 @@
-// The exact sum of few numbers: each is added to one register's words or taken from them, by a branch on its sign. To clear and subtract a second register's words
-// would take longer than the branches that are guessed wrong.
+// The exact sum of few numbers: each is added to one register's words or taken from them, by a branch on its sign. To clear and subtract a second register's
+// words would take longer than the branches that are guessed wrong.
 ghost use mathlib.Core.Path.{_≡_};
 ghost use lib.IntN.{_+ℤ_};
 ghost use lib.ListN.{length};

@@ -34,7 +34,8 @@ pub fn copy(list: &[u64], work: &mut [f64])
     }
 }
 
-// Rules WO2 and WO3, of an allowed list: its greatest pattern is mu's, as patterns without their sign are in the order of their magnitudes; +0 of an empty list.
+// Rules WO2 and WO3, of an allowed list: its greatest pattern is mu's, as patterns without their sign are in the order of their magnitudes; +0 of an empty
+// list.
 pub fn first(list: &[u64], pattern: u64, ensemble: u32) -> Step
     requires { ⌜ (length (now list) ≤ doubles .length) × (firstFault doubles (now list) 0 ≡ Good) × (pattern ≡ greatest doubles (now list)) ⌝ }
     ensures { λ r. ⌜ r ≡ firstOf doubles ensemble (now (list .entry)) ⌝ }

@@ -1,6 +1,7 @@
 -- `addend::add` meets its contract: a positive number is added at its place, and a negative one's magnitude taken there. Assumes nothing.
 use borrow.Author.Needs.{needs}
 use mathlib.Core.Path.{_∙_}
+use Rattle.kinds.specs.Limits.{doubles}
 use Rattle.addend.specs.RegisterWords.{held, rises, falls, units-plus, units-minus}
 use Rattle.addend.proofs.add.Statement.{statement}
 use Rattle.addend.proofs.add.Tie as tie
@@ -22,7 +23,7 @@ returns c =
     let up = c .before .before in
     let at = up .before .before .before in
     let g = at .before .before in
-    rw (units-plus (g .pre .1) (at .place .ensures) (up .before .before .if1 .taken))
+    rw (units-plus doubles (g .pre .1) (at .place .ensures) (up .before .before .if1 .taken))
     (rises (held (g .pre .0) (at .before .slice-known .given)) (held (up .add-at .kept .0 ∙ g .pre .0) (c .slice-known2 .given)) (up .add-at .ensures))
 
 same-length-2 : tie.Need-same-length-2
@@ -33,7 +34,7 @@ returns-2 c =
     let down = c .before .before in
     let at = down .before .before .before in
     let g = at .before .before in
-    rw (units-minus (g .pre .1) (at .place .ensures) (down .before .before .if1 .left))
+    rw (units-minus doubles (g .pre .1) (at .place .ensures) (down .before .before .if1 .left))
     (falls (held (g .pre .0) (at .before .slice-known .given)) (held (down .sub-at .kept .0 ∙ g .pre .0) (c .slice-known3 .given)) (down .sub-at .ensures))
 
 pub add-spec : {M : Type 1} → statement M

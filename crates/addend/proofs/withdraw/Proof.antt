@@ -18,7 +18,7 @@ returns c =
     let other = c .before .before .before in
     let g = other .before .before .before in
     let u : unitsOf doubles (other .opposite .result) ≡ negℤ (unitsOf doubles (g .args .p)) =
-    ap (unitsOf doubles) (other .opposite .ensures) ∙ opposite-units (g .args .p) (g .fits .p .fits) (g .pre .1) in
+    ap (unitsOf doubles) (other .opposite .ensures) ∙ opposite-units doubles (g .args .p) (g .fits .p .fits) (g .pre .1) in
     c .before .before .add .ensures ∙ ap (λ (y : ℤ). wordsOf (wholeOf (g .args .words .now) +ℤ y)) u
 
 opposite-requires : tie.Need-opposite-requires

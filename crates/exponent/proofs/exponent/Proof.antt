@@ -24,7 +24,7 @@ sub-result-2 c = leading-le 64 _
 returns-2 : tie.Need-returns-2
 returns-2 c =
     let p = c .before .before .args .p in
-    size-is (p - 1) (omega (arith, c .before .before .pre)) ∙ sym (subnormal-ceiling binary64 {r = p} (omega arith))
+    size-is 64 (p - 1) (omega (arith, c .before .before .pre)) ∙ sym (subnormal-ceiling binary64 {r = p} (omega arith))
 
 cast-field : tie.Need-cast-field
 cast-field c = search needs

@@ -12,7 +12,7 @@ use Rattle.kinds.specs.Limits.{doubles}
 use Rattle.kinds.specs.declared.Verdict.the-variants.{Good}
 use Rattle.judge.specs.JudgeLaws.{list-when, list-passed, list-allowed}
 use Rattle.sums.specs.Sums.{sumOf}
-use Rattle.sums.specs.SumLaws.{sum-below-limit, sum-whole}
+use Rattle.sums.specs.SumLaws.{sums-doubles, sum-below-limit, sum-whole}
 use Rattle.grade.specs.Grade.{gradeAt}
 use Rattle.grade.specs.AnswerLaws.{list-refused, claim-refused, claim-graded}
 use Rattle.grade.proofs.grade.Statement.{statement}
@@ -50,8 +50,8 @@ grade-words-requires c κs =
     let start = judged .before .before in
     let list = start .args .list .now in
     let v = list-when doubles true true list Good .0 (sym (judged .judge .ensures) ∙ told .enum-told .given .1) in
-    let l = sum-below-limit (list-passed v .few) (list-allowed v) in
-    let w = sum-whole (sumOf (doubles .format) list) l (summed .total .ensures) in
+    let l = sum-below-limit sums-doubles (list-passed v .few) (list-allowed v) in
+    let w = sum-whole (doubles .format) (sumOf (doubles .format) list) l (summed .total .ensures) in
     (search needs, rw w l, rw (is-finite (start .args .claim) (finite .if1 .left)) tt)
 
 returns-2 : tie.Need-returns-2
@@ -71,8 +71,8 @@ returns-3 c =
     let list = start .args .list .now in
     let e = sym (judged .judge .ensures) ∙ told .enum-told .given .1 in
     let v = list-when doubles true true list Good .0 e in
-    let l = sum-below-limit (list-passed v .few) (list-allowed v) in
-    let w = sum-whole (sumOf (doubles .format) list) l (summed .total .ensures) in
+    let l = sum-below-limit sums-doubles (list-passed v .few) (list-allowed v) in
+    let w = sum-whole (doubles .format) (sumOf (doubles .format) list) l (summed .total .ensures) in
     graded .grade-words .ensures
     ∙ ap (λ (S : ℤ). gradeAt binary64 S (ofBits binary64 (start .args .claim))) w
     ∙ sym (claim-graded doubles list (start .args .claim) e (is-finite (start .args .claim) (finite .if1 .left)))

@@ -4,7 +4,9 @@ use borrow.Author.Needs.{needs}
 use native.Mathlib.Omega.{arith}
 use Rattle.kinds.specs.Limits.{doubles}
 use Rattle.walk.specs.Walk.{Walked}
+use Rattle.sums.specs.SumLaws.{sums-doubles}
 use Rattle.sums.specs.AnswerNumbers.{nearest-no-nan, nearest-refusal}
+use Rattle.rounds.specs.Instances.{doubles-fit}
 use Rattle.runs.specs.AnswerNumbers.{faithful-no-nan, faithful-rounds, faithful-refusal}
 use Rattle.numerals.specs.TextLaws.{nothing}
 use Rattle.lines.specs.SumLaws.{lines-more, lines-refused, lines-near-refused, lines-three}
@@ -25,7 +27,8 @@ refused-requires c κs =
     let k = c .before .before in
     let f = k .before .before .before .before in
     let a = f .before .before .before .before .before .args in
-    (faithful-refusal (a .list .now) (a .work .now) _ _ (ap (λ (w : Walked). w .answer) (sym (f .faithful .ensures)) ∙ k .k .given .1), search needs)
+    let answered = ap (λ (w : Walked). w .answer) (sym (f .faithful .ensures)) in
+    (faithful-refusal doubles-fit (a .list .now) (a .work .now) _ _ (answered ∙ k .k .given .1), search needs)
 
 enum-known-sum : tie.Need-enum-known-sum
 enum-known-sum c = search needs
@@ -52,14 +55,14 @@ float-to-bits-three c =
     let d = c .before .before .before .before .before .before in
     let f = d .before .before .before .before in
     let a = f .before .before .before .before .before .args in
-    faithful-no-nan (a .list .now) (a .work .now) (ap (λ (w : Walked). w .answer) (sym (f .faithful .ensures)) ∙ d .sum .given .1)
+    faithful-no-nan doubles-fit (a .list .now) (a .work .now) (ap (λ (w : Walked). w .answer) (sym (f .faithful .ensures)) ∙ d .sum .given .1)
 
 float-to-bits-three-2 : tie.Need-float-to-bits-three-2
 float-to-bits-three-2 c =
     let y = c .before .before in
     let n = y .before .before in
     let f = n .before .before .before .before .before .before in
-    nearest-no-nan (f .before .before .before .before .before .args .list .now) (sym (n .nearest .ensures) ∙ y .near .given .1)
+    nearest-no-nan sums-doubles (f .before .before .before .before .before .args .list .now) (sym (n .nearest .ensures) ∙ y .near .given .1)
 
 three-requires : tie.Need-three-requires
 three-requires c κs =
@@ -67,7 +70,7 @@ three-requires c κs =
     let f = d .before .before .before .before in
     let s = f .before .before .before .before .before in
     let e = ap (λ (w : Walked). w .answer) (sym (f .faithful .ensures)) ∙ d .sum .given .1 in
-    (s .pre .0, omega (arith, faithful-rounds (s .args .list .now) (s .args .work .now) e), search needs)
+    (s .pre .0, omega (arith, faithful-rounds doubles-fit (s .args .list .now) (s .args .work .now) e), search needs)
 
 same-length : tie.Need-same-length
 same-length c = search needs

@@ -13,7 +13,7 @@ use Rattle.kinds.specs.declared.Nearest.the-variants.{Sum}
 use Rattle.judge.specs.JudgeLaws.{list-passed, list-allowed}
 use Rattle.words.specs.Words.{wholeOf}
 use Rattle.sums.specs.Sums.{sumOf}
-use Rattle.sums.specs.SumLaws.{sum-below-limit, total-whole}
+use Rattle.sums.specs.SumLaws.{sums-doubles, sum-below-limit, total-whole}
 use Rattle.pairs.specs.Limits.{doublePairs}
 use Rattle.pairs.specs.Pairs.{productsOf}
 use Rattle.pairs.specs.Table.{PairsWhen}
@@ -52,8 +52,8 @@ summed t =
     let S = sumOf (doubles .format) (productsOf (doubles .format) (zip (a .a .now) (a .b .now))) in
     let G = products-taken doublePairs (each-pair doublePairs roomy-doubles) (a .a .now) (a .b .now) (when-matching W) (when-allowed W) (roomy-doubles .twice)
     true true tt tt in
-    let l = sum-below-limit (list-passed G .few) (list-allowed G) in
-    let w = total-whole S l (t .total .ensures) in
+    let l = sum-below-limit sums-doubles (list-passed G .few) (list-allowed G) in
+    let w = total-whole (doubles .format) S l (t .total .ensures) in
     record { below = rw w l; whole = w }
 
 nearest-double-requires : tie.Need-nearest-double-requires

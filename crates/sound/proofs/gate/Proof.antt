@@ -13,7 +13,8 @@ use Rattle.kinds.specs.Limits.{doubles, exponentOf, blocksOf}
 use Rattle.sound.specs.Sound.{soundNumbers, soundPending, badPlace, sound}
 use Rattle.sound.specs.Places.{firstAbove}
 use Rattle.sound.specs.Numbers.{Numbers}
-use Rattle.sound.specs.DoublesLaws.{magnitude-units, sigma-room}
+use Rattle.judge.specs.FaultLaws.{most-doubles}
+use Rattle.sound.specs.LimitLaws.{room-doubles}
 use Rattle.sound.specs.PlacesLaws.{bad-within}
 use Rattle.sound.specs.SoundLaws.{numbers-hold, sound-all}
 use Rattle.sound.specs.GateLaws.{gated-4, gated-21, gated-8, gated-18, gated-19, gated-6, gated-7, gated-good, limit-number, limit-negative, limit-places}
@@ -43,7 +44,7 @@ good : (c : tie.Else3) → soundNumbers doubles (c .before .before .before .befo
 good c = sym (c .before .numbers .ensures) ∙ not-false _ (c .if3 .left)
 
 numbers : (c : tie.Else3) → Numbers doubles (c .before .before .before .before .before .before .before .args .s)
-numbers c = numbers-hold doubles 2074 magnitude-units (c .before .before .before .before .before .before .before .args .s) (good c)
+numbers c = numbers-hold doubles 2074 most-doubles (c .before .before .before .before .before .before .before .args .s) (good c)
 
 -- ---- the pending set
 pending-requires : tie.Need-pending-requires
@@ -62,14 +63,14 @@ limit-requires : tie.Need-limit-requires
 limit-requires c κs = good (c .before .before)
 
 room : (c : tie.Else3) → exponentOf (c .before .before .before .before .before .before .before .args .s .n) + 2074 < powers binary64
-room c = sigma-room (c .before .before .before .before .before .before .before .args .s .n) (numbers c .counts .few)
+room c = room-doubles (c .before .before .before .before .before .before .before .args .s .n) (numbers c .counts .few)
 
 bad-place-requires : tie.Need-bad-place-requires
 bad-place-requires c κs =
     let g = c .before .before .before in
     let s = g .before .before .before .before .before .before .before .args .s in
     rw (c .limit .ensures)
-    (limit-number doubles 2074 magnitude-units s (numbers g) (room g) .fini, limit-negative doubles 2074 magnitude-units s (numbers g) (room g))
+    (limit-number doubles 2074 most-doubles s (numbers g) (room g) .fini, limit-negative doubles 2074 most-doubles s (numbers g) (room g))
 
 place : (c : tie.After-bad-place) → let a = c .before .before .before .before .before .before .before .before .before .before .before .args in
     c .bad-place .result ≡ badPlace doubles (a .s) (a .work .now)
@@ -79,7 +80,7 @@ place c =
     let a = g .before .before .before .before .before .before .before .args in
     c .bad-place .ensures
     ∙ ap (λ (x : Float). firstAbove doubles (magnitude binary64 x) (a .work .now)) (l .limit .ensures)
-    ∙ limit-places doubles 2074 magnitude-units (a .s) (numbers g) (room g) (a .work .now)
+    ∙ limit-places doubles 2074 most-doubles (a .s) (numbers g) (room g) (a .work .now)
 
 cast-t10 : tie.Need-cast-t10
 cast-t10 c = let g = c .before .before .before .before .before in omega (arith, numbers g .counts .few)

@@ -5,7 +5,9 @@ use native.Mathlib.Omega.{arith}
 use borrow.Author.Needs.{needs}
 use Rattle.kinds.specs.Limits.{doubles}
 use Rattle.kinds.specs.declared.State.{State}
+use Rattle.rounds.specs.Instances.{doubles-fit}
 use Rattle.walk.specs.Walk.{Walked, stepped}
+use Rattle.step_calls.specs.StepArraysLaws.{doubles-called}
 use Rattle.step_calls.specs.StepArraysLaws.{step-other, step-walked, step-length, step-stranger, step-unreadable, walk-returned, step-refusal}
 use Rattle.step_calls.specs.Inner.{StepRefusal}
 use Rattle.step_calls.proofs.kewohiata_walk_step.Statement.{statement}
@@ -14,7 +16,7 @@ use Rattle.step_calls.proofs.kewohiata_walk_step.Tie as tie
 returns : tie.Need-returns
 returns c =
     let a = c .before .before .before .args in
-    sym (step-other (a .state .now) (a .work .now) (a .ensemble) (a .block) (c .if1 .taken))
+    sym (step-other doubles (a .state .now) (a .work .now) (a .ensemble) (a .block) (c .if1 .taken))
 
 state-requires : tie.Need-state-requires
 state-requires c κs =
@@ -29,7 +31,7 @@ told-requires c κs =
     let after-if2 = after-step .before .before .before .before in
     let after-if1 = after-if2 .before .before .before in
     let answered = ap (λ (w : Walked). w .answer) (after-step .step .ensures) in
-    (after-if1 .if1 .left, subst StepRefusal (sym answered) (step-refusal _ _ _ _))
+    (after-if1 .if1 .left, subst StepRefusal (sym answered) (step-refusal doubles-called doubles-fit _ _ _ _))
 
 returns-2 : tie.Need-returns-2
 returns-2 c =
@@ -40,14 +42,14 @@ returns-2 c =
     let after-if1 = after-if2 .before .before .before in
     let a = after-if1 .before .before .before .args in
     let walked = after-step .step .ensures ∙ ap (λ (s : State). stepped doubles s (a .ensemble) (a .block) (a .work .now)) (after-state .state .ensures) in
-    walk-returned (a .state .now) (after-told .told .ensures) walked
-    ∙ sym (step-walked (a .state .now) (a .work .now) (a .ensemble) (a .block) (after-if1 .if1 .left))
+    walk-returned doubles (a .state .now) (after-told .told .ensures) walked
+    ∙ sym (step-walked doubles (a .state .now) (a .work .now) (a .ensemble) (a .block) (after-if1 .if1 .left))
 
 returns-3 : tie.Need-returns-3
 returns-3 c =
     let after-if1 = c .before .before .before .before .before in
     let a = after-if1 .before .before .before .args in
-    step-length (a .state .now) (a .work .now) (a .ensemble) (a .block) (after-if1 .if1 .left) (c .if3 .taken)
+    step-length doubles-fit (a .state .now) (a .work .now) (a .ensemble) (a .block) (after-if1 .if1 .left) (c .if3 .taken)
 
 returns-4 : tie.Need-returns-4
 returns-4 c =
@@ -56,7 +58,7 @@ returns-4 c =
     let after-readable = after-if2 .before in
     let after-if1 = after-readable .before .before in
     let a = after-if1 .before .before .before .args in
-    step-stranger (a .state .now) (a .work .now) (a .ensemble) (a .block) (after-if1 .if1 .left) (after-if3 .if3 .left) (c .if4 .taken)
+    step-stranger doubles-fit (a .state .now) (a .work .now) (a .ensemble) (a .block) (after-if1 .if1 .left) (after-if3 .if3 .left) (c .if4 .taken)
 
 returns-5 : tie.Need-returns-5
 returns-5 c =
@@ -65,7 +67,8 @@ returns-5 c =
     let after-readable = after-if2 .before in
     let after-if1 = after-readable .before .before in
     let a = after-if1 .before .before .before .args in
-    step-unreadable (a .state .now) (a .work .now) (a .ensemble) (a .block) (after-if1 .if1 .left) (after-if3 .if3 .left) (c .if4 .left) (search needs)
+    step-unreadable doubles-fit (a .state .now) (a .work .now) (a .ensemble) (a .block) (after-if1 .if1 .left) doubles-called (after-if3 .if3 .left)
+    (c .if4 .left) (search needs)
     (sym (after-readable .readable .ensures) ∙ after-if2 .if2 .left)
 
 pub kewohiata-walk-step-spec : {M : Type 1} → statement M

@@ -2,6 +2,7 @@
 use mathlib.Core.Path.{sym, ap, subst, _∙_}
 use Prim.Native.Nat.{ℕ}
 use borrow.Author.Needs.{needs}
+use lib.Dec.{lit≤}
 use Rattle.kinds.specs.Limits.{doubles}
 use Rattle.kinds.specs.Outcome.{outcome}
 use Rattle.kinds.specs.Heard.{nearestHeard}
@@ -16,14 +17,14 @@ returns : tie.Need-returns
 returns c =
     let after-if1 = c .before in
     let a = after-if1 .before .before .before .args in
-    ap (λ (n : ℕ). outcome n (a .out .now)) (c .too-many-or-4 .ensures) ∙ sym (nearest-other (a .list .now) (a .out .now) (after-if1 .if1 .taken))
+    ap (λ (n : ℕ). outcome n (a .out .now)) (c .too-many-or-4 .ensures) ∙ sym (nearest-other doubles (a .list .now) (a .out .now) (after-if1 .if1 .taken))
 
 nearest-requires-2 : tie.Need-nearest-requires-2
 nearest-requires-2 c κs =
     let after-nearest = c .before in
     let after-if1 = after-nearest .before in
     let a = after-if1 .before .before .before .args in
-    (after-if1 .if1 .left, subst NearestRefusal (sym (after-nearest .nearest .ensures)) (nearest-refusal (a .list .now)))
+    (after-if1 .if1 .left, subst NearestRefusal (sym (after-nearest .nearest .ensures)) (nearest-refusal doubles (lit≤ tt) (a .list .now)))
 
 returns-2 : tie.Need-returns-2
 returns-2 c =
@@ -33,7 +34,7 @@ returns-2 c =
     let a = after-if1 .before .before .before .args in
     after-told .nearest2 .ensures
     ∙ ap (λ (n : Nearest). outcome (codeOf (nearestHeard doubles n)) (valuesOf (nearestHeard doubles n) (a .out .now))) (after-nearest .nearest .ensures)
-    ∙ sym (nearest-summed (a .list .now) (a .out .now) (after-if1 .if1 .left))
+    ∙ sym (nearest-summed doubles (a .list .now) (a .out .now) (after-if1 .if1 .left))
 
 pub kewohiata-list-nearest-spec : {M : Type 1} → statement M
 kewohiata-list-nearest-spec = tie.close (tie.spec (λ c κs. search needs) returns (λ c κs. search needs) nearest-requires-2 (λ c. search needs) returns-2)

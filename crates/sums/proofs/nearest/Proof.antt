@@ -8,7 +8,7 @@ use Rattle.kinds.specs.declared.Nearest.the-variants.{Sum}
 use Rattle.judge.specs.JudgeLaws.{list-when, list-passed, list-allowed}
 use Rattle.kinds.specs.declared.Verdict.the-variants.{Good}
 use Rattle.sums.specs.Sums.{sumOf}
-use Rattle.sums.specs.SumLaws.{sum-below-limit, sum-whole}
+use Rattle.sums.specs.SumLaws.{sums-doubles, sum-below-limit, sum-whole}
 use Rattle.sums.specs.AnswerLaws.{nearest-good, nearest-refused}
 use Rattle.sums.proofs.nearest.Statement.{statement}
 use Rattle.sums.proofs.nearest.Tie as tie
@@ -44,8 +44,8 @@ nearest-double-requires c κs =
     let j = t .before .before .before .before in
     let ps = j .before .before .args .list .now in
     let v = list-when doubles true true ps Good .0 (sym (j .judge .ensures) ∙ t .before .before .enum-told .given .1) in
-    let l = sum-below-limit (list-passed v .few) (list-allowed v) in
-    (search needs, rw (sum-whole (sumOf (doubles .format) ps) l (t .total .ensures)) l)
+    let l = sum-below-limit sums-doubles (list-passed v .few) (list-allowed v) in
+    (search needs, rw (sum-whole (doubles .format) (sumOf (doubles .format) ps) l (t .total .ensures)) l)
 
 returns : tie.Need-returns
 returns c =
@@ -61,8 +61,8 @@ returns-2 c =
     let ps = j .before .before .args .list .now in
     let e = sym (j .judge .ensures) ∙ t .before .before .enum-told .given .1 in
     let v = list-when doubles true true ps Good .0 e in
-    let l = sum-below-limit (list-passed v .few) (list-allowed v) in
-    let w = sum-whole (sumOf (doubles .format) ps) l (t .total .ensures) in
+    let l = sum-below-limit sums-doubles (list-passed v .few) (list-allowed v) in
+    let w = sum-whole (doubles .format) (sumOf (doubles .format) ps) l (t .total .ensures) in
     ap Sum (c .nearest-double .ensures ∙ (λ i. nearestFloat (doubles .format) (z .zero-sign .ensures i) (w i))) ∙ sym (nearest-good doubles ps e)
 
 pub nearest-spec : {M : Type 1} → statement M

@@ -9,7 +9,7 @@ use Rattle.kinds.specs.declared.Verdict.the-variants.{Good}
 use Rattle.judge.specs.JudgeLaws.{list-when, list-passed, list-allowed}
 use Rattle.sums.specs.Sums.{sumOf, parts}
 use Rattle.sums.specs.PartsLaws.{remaining}
-use Rattle.sums.specs.SumLaws.{sum-below-limit, sum-whole}
+use Rattle.sums.specs.SumLaws.{sums-doubles, sum-below-limit, sum-whole}
 use Rattle.sums.specs.AnswerLaws.{parts-refused, parts-answer}
 use Rattle.sums.proofs.parts.Statement.{statement}
 use Rattle.sums.proofs.parts.Tie as tie
@@ -45,8 +45,8 @@ split-requires c κs =
     let j = t .before .before .before .before in
     let ps = j .before .before .before .args .list .now in
     let v = list-when doubles true _ ps Good .0 (sym (j .judge .ensures) ∙ t .before .before .enum-told .given .1) in
-    let l = sum-below-limit (list-passed v .few) (list-allowed v) in
-    (search needs, rw (sum-whole (sumOf (doubles .format) ps) l (t .total .ensures)) l)
+    let l = sum-below-limit sums-doubles (list-passed v .few) (list-allowed v) in
+    (search needs, rw (sum-whole (doubles .format) (sumOf (doubles .format) ps) l (t .total .ensures)) l)
 
 slice-aggregate-is-zero : tie.Need-slice-aggregate-is-zero
 slice-aggregate-is-zero c = search needs
@@ -74,8 +74,8 @@ returns-2 c =
     let area = g .args .area .now in
     let e = sym (j .judge .ensures) ∙ t .before .before .enum-told .given .1 in
     let v = list-when doubles true _ ps Good .0 e in
-    let l = sum-below-limit (list-passed v .few) (list-allowed v) in
-    let w = sum-whole (sumOf (doubles .format) ps) l (t .total .ensures) in
+    let l = sum-below-limit sums-doubles (list-passed v .few) (list-allowed v) in
+    let w = sum-whole (doubles .format) (sumOf (doubles .format) ps) l (t .total .ensures) in
     let zero = z .zero-sign .result in
     parts-answer doubles ps (s .split .last .0) area (s .split .last .1 .0) zero (c .is-zero .result) e (z .zero-sign .ensures)
     (s .split .ensures .0 ∙ ap (λ (y : ℤ). parts (doubles .format) (length area) zero y) w)

@@ -5,6 +5,7 @@ use native.Mathlib.Omega.{arith}
 use Prim.Native.Nat.{ℕ, _/_, _^_, _≤_, _<_}
 use lib.ListN.{length}
 use Rattle.lists.specs.Carry.{Carried}
+use Rattle.kinds.specs.Limits.{doubles}
 use Rattle.words.specs.Words.{wordBits}
 use Rattle.addend.specs.SidesLaws.{side-at}
 use Rattle.addend.proofs.sides.add.Statement.{statement}
@@ -32,7 +33,7 @@ returns c =
     let g = at .before .before in
     let p = g .args .p in
     let e = at .place .ensures in
-    let s = side-at (g .pre .1) e (p / 2 ^ 63) (λ (h : p < 2 ^ 63). omega arith) (λ (h : 2 ^ 63 ≤ p). omega (arith, g .fits .p .fits)) in
+    let s = side-at doubles (g .pre .1) e (p / 2 ^ 63) (λ (h : p < 2 ^ 63). omega arith) (λ (h : 2 ^ 63 ≤ p). omega (arith, g .fits .p .fits)) in
     rw s at (a .add-at .ensures)
 
 pub add-spec : {M : Type 1} → statement M

@@ -8,6 +8,7 @@ use Rattle.kinds.specs.Limits.{doubles}
 use Rattle.kinds.specs.Outcome.{outcome}
 use Rattle.kinds.specs.Heard.{Heard, stepHeard}
 use Rattle.walk.specs.Walk.{Walked}
+use Rattle.rounds.specs.Instances.{doubles-fit}
 use Rattle.runs.specs.AnswerNumbers.{faithful-no-nan, faithful-not-more, faithful-refusal}
 use Rattle.calls.specs.Calls.{answered}
 use Rattle.calls.specs.CallsLaws.{answered-done, answered-refused}
@@ -26,7 +27,8 @@ float-to-bits-answer c =
     let after-faithful = after-x .before .before .before .before in
     let start = after-faithful .before .before .before .before .before in
     let a = start .args in
-    faithful-no-nan (a .numbers .now) (a .work .now) (sym (ap (λ (w : Walked). w .answer) (after-faithful .faithful .ensures)) ∙ after-x .x .given .1)
+    faithful-no-nan doubles-fit (a .numbers .now) (a .work .now)
+    (sym (ap (λ (w : Walked). w .answer) (after-faithful .faithful .ensures)) ∙ after-x .x .given .1)
 
 cast-answer : tie.Need-cast-answer
 cast-answer c = search needs
@@ -44,7 +46,7 @@ refusal-requires c κs =
     let start = after-faithful .before .before .before .before .before in
     let a = start .args in
     let e = sym (ap (λ (w : Walked). w .answer) (after-faithful .faithful .ensures)) ∙ after-number .number .given .1 in
-    faithful-refusal (a .numbers .now) (a .work .now) _ _ e
+    faithful-refusal doubles-fit (a .numbers .now) (a .work .now) _ _ e
 
 enum-told : tie.Need-enum-told
 enum-told c = search needs
@@ -89,7 +91,7 @@ returns-3 c =
     let start = after-faithful .before .before .before .before .before in
     let a = start .args in
     let e = sym (ap (λ (w : Walked). w .answer) (after-faithful .faithful .ensures)) ∙ c .enum-told .given .1 in
-    absurd (faithful-not-more (a .numbers .now) (a .work .now) _ _ e)
+    absurd (faithful-not-more doubles-fit (a .numbers .now) (a .work .now) _ _ e)
 
 pub answer-spec : {M : Type 1} → statement M
 answer-spec =

@@ -6,6 +6,7 @@ use borrow.Author.Needs.{needs}
 use Rattle.kinds.specs.Limits.{doubles}
 use Rattle.kinds.specs.Outcome.{outcome}
 use Rattle.kinds.specs.Heard.{Heard, nearestHeard}
+use Rattle.sums.specs.SumLaws.{sums-doubles}
 use Rattle.sums.specs.AnswerNumbers.{nearest-no-nan, nearest-refusal}
 use Rattle.calls.specs.Calls.{answered}
 use Rattle.calls.specs.CallsLaws.{answered-nearest, answered-refused}
@@ -23,7 +24,7 @@ float-to-bits-answer c =
     let after-x = c .before in
     let after-nearest = after-x .before .before in
     let start = after-nearest .before .before .before in
-    nearest-no-nan (start .args .numbers .now) (sym (after-nearest .nearest .ensures) ∙ after-x .x .given .1)
+    nearest-no-nan sums-doubles (start .args .numbers .now) (sym (after-nearest .nearest .ensures) ∙ after-x .x .given .1)
 
 answer-requires : tie.Need-answer-requires
 answer-requires c κs = search needs

@@ -20,7 +20,7 @@ use Rattle.grade.proofs.near.nearest_pattern.Tie as tie
 abbrev joined : Bits → ℕ
 joined b = boolByte (b .negative) * 2 ^ 63 % 2 ^ 64 + b .magnitude
 
-module _ (b : Bits) (S : ℤ) (l : natAbs S < limit binary64) (e : b ≡ bitsOf false S) where
+module _ (b : Bits) (S : ℤ) (l : natAbs S < limit binary64) (e : b ≡ bitsOf binary64 false S) where
   room : joined b < 2 ^ 64
   room = rw e (under (signOf false S) (roundedBits binary64 false (natAbs S)) (bits-finite binary64 (natAbs S) .1 l))
     where

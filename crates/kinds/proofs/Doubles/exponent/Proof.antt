@@ -19,7 +19,7 @@ sub-result c = leading-le 64 _
 returns : tie.Need-returns
 returns c =
     let e : c .args .self .n + 1 + 1 ≡ c .args .self .n + 2 = omega arith in
-    size-is (c .args .self .n + 1) (omega (arith, c .pre)) ∙ ceil-next (c .args .self .n + 1) ∙ ap ceil e
+    size-is 64 (c .args .self .n + 1) (omega (arith, c .pre)) ∙ ceil-next (c .args .self .n + 1) ∙ ap ceil e
 
 pub exponent-spec : {M : Type 1} → statement M
 exponent-spec = tie.close (tie.spec add-result sub-result returns)

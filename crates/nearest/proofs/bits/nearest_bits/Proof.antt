@@ -3,12 +3,13 @@ use borrow.Author.Needs.{needs}
 use mathlib.Core.Path.{sym, ap, _∙_}
 use Prim.Native.Nat.{_-_, _<_}
 use lib.Pow.{pow-sub-lt}
+use lib.Ieee.{binary64}
 use Rattle.lists.specs.Digits.{number, Digits}
 use Rattle.lists.specs.DigitLaws.{number-lt}
 use Rattle.words.specs.Words.{wordBits, wordCount, registerBits}
 use Rattle.nearest.specs.HeadLaws.{below-most}
 use Rattle.nearest.specs.Bits.{headBits}
-use Rattle.nearest.proofs.RegisterBits.{bits-positive, not-zero, bits-negative}
+use Rattle.nearest.specs.RegisterBits.{bits-positive, not-zero, bits-negative}
 use Rattle.nearest.proofs.bits.nearest_bits.Statement.{statement}
 use Rattle.nearest.proofs.bits.nearest_bits.Tie as tie
 
@@ -37,14 +38,14 @@ returns : tie.Need-returns
 returns c =
     let k = c .before .before .before in
     let g = k .before .before in
-    bits-positive (g .args .register .now) (g .pre) (digits k) (g .args .zero) (c .pattern .result) (c .before .before .if1 .taken)
-    (c .pattern .ensures ∙ ap headBits (c .before .leading .ensures))
+    bits-positive binary64 (g .args .register .now) (g .pre) (digits k) (g .args .zero) (c .pattern .result) (c .before .before .if1 .taken)
+    (c .pattern .ensures ∙ ap (headBits binary64) (c .before .leading .ensures))
 
 slice-aggregate-negate : tie.Need-slice-aggregate-negate
 slice-aggregate-negate c = search needs
 
 above-zero : (c : tie.Else1) → 0 < number wordBits (c .before .before .before .args .register .now)
-above-zero c = let g = c .before .before .before in not-zero (g .args .register .now) (g .pre) (digits (c .before)) (c .if1 .left)
+above-zero c = let g = c .before .before .before in not-zero binary64 (g .args .register .now) (g .pre) (digits (c .before)) (c .if1 .left)
 
 negate-requires : tie.Need-negate-requires
 negate-requires c κs = (sym (c .before .before .before .before .pre), above-zero (c .before))
@@ -66,8 +67,9 @@ returns-2 c =
     let n = c .before .before .before .before in
     let k = n .before .before .before in
     let g = k .before .before in
-    bits-negative (g .args .register .now) (g .pre) (digits k) (n .before .before .if1 .left) (g .args .zero) (c .pattern2 .result) _ (n .negate .ensures)
-    (c .pattern2 .ensures ∙ ap headBits (c .before .leading2 .ensures))
+    bits-negative binary64 (g .args .register .now) (g .pre) (digits k) (n .before .before .if1 .left) (g .args .zero) (c .pattern2 .result) _
+    (n .negate .ensures)
+    (c .pattern2 .ensures ∙ ap (headBits binary64) (c .before .leading2 .ensures))
 
 pub nearest-bits-spec : {M : Type 1} → statement M
 nearest-bits-spec =

@@ -12,7 +12,7 @@ cast-result : tie.Need-cast-result
 cast-result c = search needs
 
 returns : tie.Need-returns
-returns c = size-is (c .args .x) (c .fits .x .fits)
+returns c = size-is 64 (c .args .x) (c .fits .x .fits)
 
 pub size-spec : {M : Type 1} → statement M
 size-spec = tie.close (tie.spec sub-result cast-result returns)

@@ -5,7 +5,7 @@ use native.Mathlib.Omega.{arith}
 use borrow.Author.Needs.{needs}
 use lib.Ieee.{binary64}
 use Rattle.kinds.specs.Limits.{doubles, exponentOf}
-use Rattle.kinds.specs.LimitsLaws.{exponent-most}
+use Rattle.kinds.specs.LimitsLaws.{exponent-doubles}
 use Rattle.rounds.specs.ClosedLaws.{tau1Of, enough, ends-not, ends-further}
 use Rattle.rounds.proofs.ClosableLaws.{closable-power}
 use Rattle.rounds.proofs.close.ends.Statement.{statement}
@@ -22,7 +22,7 @@ exponent-requires c κs = search needs
 
 enough-requires : tie.Need-enough-requires
 enough-requires c κs = (
-  rw (c .exponent .ensures) (exponent-most (c .before .of .result .n) (search needs)),
+  rw (c .exponent .ensures) (exponent-doubles (c .before .of .result .n) (search needs)),
   closable-power (c .before .before .before .before .pre),
 )
 

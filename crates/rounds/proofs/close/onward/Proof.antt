@@ -6,7 +6,7 @@ use borrow.Author.Needs.{needs}
 use lib.Dec.{T}
 use lib.Ieee.{binary64}
 use Rattle.kinds.specs.Limits.{doubles}
-use Rattle.kinds.specs.LimitsLaws.{exponent-most}
+use Rattle.kinds.specs.LimitsLaws.{exponent-doubles}
 use Rattle.rounds.specs.ClosedLaws.{not-finishes, closed-zero, closed-further, ends-further}
 use Rattle.rounds.specs.PatternLaws.{power-above}
 use Rattle.rounds.proofs.ClosableLaws.{closable-power}
@@ -34,7 +34,7 @@ scaled-requires : tie.Need-scaled-requires
 scaled-requires c κs =
     let o = c .before .before in
     let g = o .before .before .before in
-    let few : c .exponent .result ≤ 12 = rw (c .exponent .ensures) (exponent-most (c .before .of .result .n) (search needs)) in
+    let few : c .exponent .result ≤ 12 = rw (c .exponent .ensures) (exponent-doubles (c .before .of .result .n) (search needs)) in
     let h = not-finishes doubles (g .args .s) (sym (ends-further doubles (g .args .s) (o .if1 .left)) ∙ g .pre .1) .0 in (
       omega (arith, few),
       power-above binary64 (closable-power (g .pre .0)) (subst T (sym (g .good .0 .1 .1 .0 .1)) tt) h,

@@ -14,7 +14,7 @@ use Rattle.lists.specs.Each.{each-take, each-drop}
 use Rattle.extract.specs.Extract.{remainderOf, remainders, gathered, largestWith}
 use Rattle.kinds.specs.Limits.{doubles}
 use Rattle.rounds.specs.Round.{blockOf, turned, inRound}
-use Rattle.rounds.proofs.CutLaws.{take-cut, drop-cut}
+use Rattle.rounds.specs.CutLaws.{take-cut, drop-cut}
 use Rattle.rounds.proofs.round.take.Statement.{statement}
 use Rattle.rounds.proofs.round.take.Tie as tie
 

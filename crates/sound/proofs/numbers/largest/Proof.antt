@@ -12,7 +12,8 @@ use Rattle.exponent.specs.PowerLaws.{power-number, power-negative, power-magnit
 use Rattle.kinds.specs.Limits.{doubles}
 use Rattle.sound.specs.Sound.{atMost}
 use Rattle.sound.specs.SigmaLaws.{Sigma, sigma-holds, sigma-exponent}
-use Rattle.sound.specs.DoublesLaws.{limit-at, magnitude-units, sigma-room}
+use Rattle.judge.specs.FaultLaws.{most-doubles}
+use Rattle.sound.specs.LimitLaws.{limit-at, room-doubles}
 use Rattle.sound.specs.SoundLaws.{largest-above, largest-below}
 use Rattle.sound.proofs.numbers.largest.Statement.{statement}
 use Rattle.sound.proofs.numbers.largest.Tie as tie
@@ -22,7 +23,7 @@ sigma c = sigma-holds doubles (c .args .n) (c .args .sigma) (c .pre .1)
 
 -- sigma's exponent is one of the format's
 room : (c : tie.Start) → ceil (magnitude binary64 (c .args .sigma)) < powers binary64
-room c = omega (arith, sigma-exponent doubles 2074 magnitude-units (c .args .n) (sigma c), sigma-room (c .args .n) (c .pre .0))
+room c = omega (arith, sigma-exponent doubles 2074 most-doubles (c .args .n) (sigma c), room-doubles (c .args .n) (c .pre .0))
 
 ceiling-requires : tie.Need-ceiling-requires
 ceiling-requires c κs = (sigma c .fini, sigma c .positive)

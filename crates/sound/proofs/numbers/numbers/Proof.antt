@@ -9,7 +9,7 @@ use lib.Ieee.{binary64}
 use Rattle.kinds.specs.Limits.{doubles}
 use Rattle.sound.specs.Sound.{soundSigma}
 use Rattle.sound.specs.SoundLaws.{numbers-none, numbers-many, numbers-sigma, numbers-are}
-use Rattle.sound.specs.DoublesLaws.{limit-at}
+use Rattle.sound.specs.LimitLaws.{limit-at}
 use Rattle.sound.proofs.numbers.numbers.Statement.{statement}
 use Rattle.sound.proofs.numbers.numbers.Tie as tie
 

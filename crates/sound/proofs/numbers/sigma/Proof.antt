@@ -14,7 +14,8 @@ use Rattle.kinds.specs.Limits.{doubles, exponentOf}
 use Rattle.sound.specs.Sound.{atMost, soundSigma}
 use Rattle.sound.specs.SigmaLaws.{isPowerFrom, sigma-is}
 use Rattle.sound.specs.SoundLaws.{at-most-holds}
-use Rattle.sound.specs.DoublesLaws.{magnitude-units, magnitude-exponent, sigma-room}
+use Rattle.judge.specs.FaultLaws.{most-doubles}
+use Rattle.sound.specs.LimitLaws.{magnitude-doubles, room-doubles}
 use Rattle.sound.proofs.numbers.sigma.Statement.{statement}
 use Rattle.sound.proofs.numbers.sigma.Tie as tie
 
@@ -28,13 +29,13 @@ low : (c : tie.After-exponent) → c .exponent .result ≡ exponentOf (c .before
 low c = c .exponent .ensures ∙ ap exponentOf (c .before .of .ensures)
 
 room : (c : tie.Start) → exponentOf (c .args .n) + 2074 < powers binary64
-room c = sigma-room (c .args .n) (c .pre)
+room c = room-doubles (c .args .n) (c .pre)
 
 top-requires : tie.Need-top-requires
 top-requires c κs = search needs
 
 high : (c : tie.After-top) → c .before .exponent .result + c .top .result ≡ exponentOf (c .before .before .before .args .n) + 2074
-high c = λ i. low (c .before) i + (c .top .ensures ∙ magnitude-exponent) i
+high c = λ i. low (c .before) i + (c .top .ensures ∙ magnitude-doubles) i
 
 add-power : tie.Need-add-power
 add-power c = omega (arith, high c, room (c .before .before .before))
@@ -69,7 +70,7 @@ decided : (c : tie.After-at-most) (b : Bool) → c .at-most .result ≡ b → le
     (b && isPowerFrom binary64 (exponentOf (a .n)) (a .sigma)) ≡ soundSigma doubles (a .n) (a .sigma)
 decided c b e =
     let a = c .before .before .before .before .before .args in
-    ap (λ (t : Bool). t && isPowerFrom binary64 (exponentOf (a .n)) (a .sigma)) (sym e ∙ test c) ∙ sigma-is doubles 2074 magnitude-units (a .n) (a .sigma)
+    ap (λ (t : Bool). t && isPowerFrom binary64 (exponentOf (a .n)) (a .sigma)) (sym e ∙ test c) ∙ sigma-is doubles 2074 most-doubles (a .n) (a .sigma)
 
 returns : tie.Need-returns
 returns c =

@@ -2,7 +2,7 @@
 use borrow.Author.Needs.{needs}
 use lib.Dec.{lit<}
 use lib.Ieee.{binary64}
-use Rattle.sound.specs.DoublesLaws.{limit-at}
+use Rattle.sound.specs.LimitLaws.{limit-at}
 use Rattle.sound.proofs.numbers.top.Statement.{statement}
 use Rattle.sound.proofs.numbers.top.Tie as tie
 

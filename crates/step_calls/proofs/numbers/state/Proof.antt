@@ -1,50 +1,52 @@
 -- `step_calls::numbers::state` meets its contract: numbers that can be read fit the fields. Assumes nothing.
 use borrow.Author.Needs.{needs}
-use Prim.Native.Nat.{ℕ, _*_, _^_, _%_, _≤_, _<_}
-use borrow.Author.Tests.{le-ltb}
-use lib.Dec.{T}
-use mathlib.Core.Bool.{not}
-use lib.Ieee.{binary64, nanBits, ones, hid, top}
-use lib.Ieee.Bits.{nanBits-above}
+use mathlib.Core.Path.{_∙_}
+use Prim.Native.Nat.{_^_, _<_}
+use lib.Ieee.{binary64}
 use lib.ListN.{getD}
+use Rattle.kinds.specs.States.{stateOf}
 use Rattle.step_calls.specs.Readable.{fields}
 use Rattle.step_calls.proofs.numbers.state.Statement.{statement}
 use Rattle.step_calls.proofs.numbers.state.Tie as tie
 
-no-nan : (p : ℕ) → p % top binary64 ≤ ones binary64 * hid binary64 → T (not (nanBits binary64 p))
-no-nan p h = rw (nanBits-above binary64 p, le-ltb (ones binary64 * hid binary64) (p % top binary64) h) tt
+float-requires : tie.Need-float-requires
+float-requires c κs = let start = c .before .before .before in fields binary64 (start .args .numbers .now) (start .pre .1) .sigma
 
-float-from-bits-of : tie.Need-float-from-bits-of
-float-from-bits-of c =
-    let start = c .before .before .before in
-    no-nan _ (fields (start .args .numbers .now) (start .pre .1) .sigma)
+float-requires-2 : tie.Need-float-requires-2
+float-requires-2 c κs = let start = c .before .before .before .before .before in fields binary64 (start .args .numbers .now) (start .pre .1) .t
 
-float-from-bits-of-2 : tie.Need-float-from-bits-of-2
-float-from-bits-of-2 c =
-    let start = c .before .before .before .before in
-    no-nan _ (fields (start .args .numbers .now) (start .pre .1) .t)
-
-float-from-bits-of-3 : tie.Need-float-from-bits-of-3
-float-from-bits-of-3 c =
-    let start = c .before .before .before .before .before in
-    no-nan _ (fields (start .args .numbers .now) (start .pre .1) .tau)
+float-requires-3 : tie.Need-float-requires-3
+float-requires-3 c κs =
+    let start = c .before .before .before .before .before .before .before in
+    fields binary64 (start .args .numbers .now) (start .pre .1) .tau
 
 cast-of : tie.Need-cast-of
 cast-of c =
-    let start = c .before .before .before .before .before .before .before in
-    let h : getD (start .args .numbers .now) 6 0 < 2 ^ 32 = fields (start .args .numbers .now) (start .pre .1) .rounds in
+    let start = c .before .before .before .before .before .before .before .before .before .before in
+    let h : getD (start .args .numbers .now) 6 0 < 2 ^ 32 = fields binary64 (start .args .numbers .now) (start .pre .1) .rounds in
     search needs
 
 cast-of-2 : tie.Need-cast-of-2
 cast-of-2 c =
-    let start = c .before .before .before .before .before .before .before .before in
-    let h : getD (start .args .numbers .now) 7 0 < 2 ^ 32 = fields (start .args .numbers .now) (start .pre .1) .ensemble in
+    let start = c .before .before .before .before .before .before .before .before .before .before .before in
+    let h : getD (start .args .numbers .now) 7 0 < 2 ^ 32 = fields binary64 (start .args .numbers .now) (start .pre .1) .ensemble in
     search needs
 
-float-from-bits-of-4 : tie.Need-float-from-bits-of-4
-float-from-bits-of-4 c =
-    let start = c .before .before .before .before .before .before .before .before .before in
-    no-nan _ (fields (start .args .numbers .now) (start .pre .1) .largest)
+float-requires-4 : tie.Need-float-requires-4
+float-requires-4 c κs =
+    let start = c .before .before .before .before .before .before .before .before .before .before .before .before in
+    fields binary64 (start .args .numbers .now) (start .pre .1) .largest
+
+returns : tie.Need-returns
+returns c =
+    let largest = c .before in
+    let tau = largest .before .before .before .before .before in
+    let t = tau .before .before in
+    let sigma = t .before .before in
+    let ns = sigma .before .before .before .before .args .numbers .now in
+    c .of .ensures
+    ∙ λ i. stateOf (getD ns 4 0) (sigma .float .ensures i) (t .float2 .ensures i) (tau .float3 .ensures i) (getD ns 5 0) (getD ns 6 0) (getD ns 7 0)
+    (largest .float4 .ensures i)
 
 pub state-spec : {M : Type 1} → statement M
 state-spec =
@@ -52,17 +54,17 @@ state-spec =
     (tie.spec
     (λ c. search needs)
     (λ c. search needs)
-    float-from-bits-of
+    float-requires
     (λ c. search needs)
-    float-from-bits-of-2
+    float-requires-2
     (λ c. search needs)
-    float-from-bits-of-3
+    float-requires-3
     (λ c. search needs)
     (λ c. search needs)
     cast-of
     (λ c. search needs)
     cast-of-2
     (λ c. search needs)
-    float-from-bits-of-4
+    float-requires-4
     (λ c κs. search needs)
-    (λ c. search needs))
+    returns)

@@ -24,7 +24,7 @@ abbrev μ-loop : tie.MeasureT-loop
 loop-holds : tie.Need-loop-holds Inv-loop μ-loop
 loop-holds c =
     let g = c .before .before in
-    (g .pre .0, search needs, total-begins (g .args .list .now) (held (g .pre .0) (c .slice-known .given)))
+    (g .pre .0, search needs, total-begins doubles (g .args .list .now) (held (g .pre .0) (c .slice-known .given)))
 
 mul-add : tie.Need-mul-add Inv-loop μ-loop
 mul-add c = search needs
@@ -52,7 +52,7 @@ loop-again c =
     let h = a .before .before .before .loop-test .taken in (
       a .add .kept .0 ∙ l .loop .inv .0,
       search needs,
-      a .add .ensures ∙ total-goes-on (wholeOf (g .args .words .now)) (g .args .list .now) (l .loop .i) h (l .loop .inv .2),
+      a .add .ensures ∙ total-goes-on doubles (wholeOf (g .args .words .now)) (g .args .list .now) (l .loop .i) h (l .loop .inv .2),
     )
 
 same-length : tie.Need-same-length Inv-loop μ-loop

@@ -10,6 +10,7 @@ use Rattle.lists.specs.Digits.{number, Digits}
 use Rattle.words.specs.Words.{wordBits, wordCount}
 use Rattle.addend.specs.Sides.{sideBySide}
 use Rattle.sums.specs.ListSides.{listSides}
+use Rattle.sums.specs.SumLaws.{sums-doubles}
 use Rattle.sums.specs.SideSums.{gathers}
 use Rattle.sums.proofs.short.gather.Statement.{statement}
 use Rattle.sums.proofs.short.gather.Tie as tie
@@ -52,7 +53,7 @@ loop-again c =
     let h = a .before .before .before .loop-test .taken in (
       a .add .kept .0 ∙ l .loop .inv .0,
       search needs,
-      gathers (g .pre .3) (g .pre .2) (l .loop .i) h (l .loop .inv .0) (l .loop .inv .2) (a .add .ensures),
+      gathers sums-doubles (g .pre .3) (g .pre .2) (l .loop .i) h (l .loop .inv .0) (l .loop .inv .2) (a .add .ensures),
       record { below = λ i. c .slice-known2 .given i .fits },
     )
 

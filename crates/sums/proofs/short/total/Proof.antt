@@ -2,6 +2,7 @@
 use borrow.Author.Needs.{needs}
 use mathlib.Core.Path.{ap, _∙_}
 use Rattle.words.specs.Words.{wordsOf}
+use Rattle.sums.specs.SumLaws.{sums-doubles}
 use Rattle.sums.specs.SideSums.{nothing, settled-sides}
 use Rattle.sums.proofs.short.total.Statement.{statement}
 use Rattle.sums.proofs.short.total.Tie as tie
@@ -29,7 +30,7 @@ returns c =
     let k = s .before .before .before in
     let t = k .before in
     let g = t .before .before .before .before in
-    s .settle .ensures ∙ ap wordsOf (settled-sides (g .pre .2) (g .pre .1) (k .both2 .given) (t .gather .ensures .1) (t .gather .ensures .0))
+    s .settle .ensures ∙ ap wordsOf (settled-sides sums-doubles (g .pre .2) (g .pre .1) (k .both2 .given) (t .gather .ensures .1) (t .gather .ensures .0))
 
 pub total-spec : {M : Type 1} → statement M
 total-spec =

@@ -1,4 +1,4 @@
--- The bits of the double nearest to a register, from the sign of its top word and the head of its magnitude. Assumes nothing.
+-- The bits of the float nearest to a register, from the sign of its top word and the head of its magnitude. Assumes nothing.
 use mathlib.Core.Path.{_≡_, refl, sym, ap, _∙_}
 use mathlib.Core.Logic.{inl, inr}
 use mathlib.Core.Bool.{Bool, true, false, _&&_}
@@ -11,7 +11,7 @@ use lib.Dec.{eqb, lit<}
 use lib.IntN.{pos, natAbs}
 use lib.Pow.{pow-pos}
 use lib.ListN.{length, getD}
-use lib.Ieee.{binary64}
+use lib.Ieee.{Format}
 use Rattle.units.specs.Powers.{le-or-lt}
 use Rattle.ieee.specs.Units.{signOf, roundedBits}
 use Rattle.nearest.specs.NearestBits.{bits-zero}
@@ -30,16 +30,16 @@ sign-positive true zero = refl
 sign-positive false (suc u) = refl
 sign-positive true (suc u) = sym (ne-eqb (suc u) 0 (λ e. omega (arith, e)))
 
-module _ (ds : List ℕ) (l : length ds ≡ wordCount) (D : Digits wordBits ds) where
-  pub bits-positive : (z : Bool) (p : ℕ) → getD ds (wordCount - 1) 0 < 2 ^ (wordBits - 1) → p ≡ headBits (headOf (number wordBits ds))
-      → record { negative = z && eqb p 0; magnitude = p } ≡ bitsOf z (wholeOf ds)
-  bits-positive z p h e = rw (whole, sign-positive z (number wordBits ds), ← (bits-zero binary64 (number wordBits ds)), ← rounded)
+module _ (f : Format) (ds : List ℕ) (l : length ds ≡ wordCount) (D : Digits wordBits ds) where
+  pub bits-positive : (z : Bool) (p : ℕ) → getD ds (wordCount - 1) 0 < 2 ^ (wordBits - 1) → p ≡ headBits f (headOf (number wordBits ds))
+      → record { negative = z && eqb p 0; magnitude = p } ≡ bitsOf f z (wholeOf ds)
+  bits-positive z p h e = rw (whole, sign-positive z (number wordBits ds), ← (bits-zero f (number wordBits ds)), ← rounded)
     where
       whole : wholeOf ds ≡ pos (number wordBits ds)
       whole = signed-low registerBits (top-digit ds (wordCount - 1) (lit< tt) l D .0 h)
 
-      rounded : p ≡ roundedBits binary64 false (number wordBits ds)
-      rounded = e ∙ head-bits (number wordBits ds)
+      rounded : p ≡ roundedBits f false (number wordBits ds)
+      rounded = e ∙ head-bits f (number wordBits ds)
 
   module _ (h : 2 ^ (wordBits - 1) ≤ getD ds (wordCount - 1) 0) where
     half-or-more : 2 ^ (registerBits - 1) ≤ number wordBits ds
@@ -51,9 +51,9 @@ module _ (ds : List ℕ) (l : length ds ≡ wordCount) (D : Digits wordBits ds) 
     pub not-zero : 0 < number wordBits ds
     not-zero = lt-of-lt-of-le (pow-pos (registerBits - 1)) half-or-more
 
-    pub bits-negative : (z : Bool) (p v : ℕ) → v ≡ 2 ^ (wordBits * length ds) - number wordBits ds → p ≡ headBits (headOf v)
-        → record { negative = true; magnitude = p } ≡ bitsOf z (wholeOf ds)
-    bits-negative z p v e f = λ i. record { negative = sign i; magnitude = rounded i }
+    pub bits-negative : (z : Bool) (p v : ℕ) → v ≡ 2 ^ (wordBits * length ds) - number wordBits ds → p ≡ headBits f (headOf v)
+        → record { negative = true; magnitude = p } ≡ bitsOf f z (wholeOf ds)
+    bits-negative z p v e g = λ i. record { negative = sign i; magnitude = rounded i }
       where
         sign : true ≡ signOf z (wholeOf ds)
         sign = sym (ap (signOf z) (signed-high registerBits half-or-more))
@@ -67,5 +67,5 @@ module _ (ds : List ℕ) (l : length ds ≡ wordCount) (D : Digits wordBits ds) 
             ∙ ap (λ (n : ℕ). 2 ^ (wordBits * n) - number wordBits ds) l
             ∙ sym (magnitude-negative registerBits (number wordBits ds) half-or-more below)
 
-        rounded : p ≡ roundedBits binary64 false (natAbs (wholeOf ds))
-        rounded = f ∙ head-bits v ∙ ap (roundedBits binary64 false) magnitude
+        rounded : p ≡ roundedBits f false (natAbs (wholeOf ds))
+        rounded = g ∙ head-bits f v ∙ ap (roundedBits f false) magnitude

@@ -1,2 +1,0 @@
--- What the proof of one function cites.
-pub mod RegisterBits
