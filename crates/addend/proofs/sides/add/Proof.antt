@@ -34,7 +34,8 @@ returns c =
     let p = g .args .p in
     let e = at .place .ensures in
     let s = side-at doubles (g .pre .1) e (p / 2 ^ 63) (λ (h : p < 2 ^ 63). omega arith) (λ (h : 2 ^ 63 ≤ p). omega (arith, g .fits .p .fits)) in
-    rw s at (a .add-at .ensures)
+    let ws = g .args .words .now in
+    subst (λ (n : ℕ). Carried wordBits ws n (a .add-at .last .0) (length ws) (a .add-at .result)) s (a .add-at .ensures)
 
 pub add-spec : {M : Type 1} → statement M
 add-spec = tie.close (tie.spec place-requires mul-add-at add-add-at add-at-requires same-length returns)

@@ -1,12 +1,12 @@
 -- `judge::greatest::greatest` meets its contract: the quarters and what is left are the list. Assumes nothing.
 use mathlib.Core.Path.{_≡_, _∙_}
-use Prim.Native.Nat.{_+_, _-_, _*_, _/_}
+use Prim.Native.Nat.{_+_, _-_, _*_, _/_, max}
 use native.Mathlib.Omega.{arith}
 use borrow.Author.Needs.{needs}
-use lib.ListN.{length, drop, length-drop}
+use lib.ListN.{length, take, drop, length-drop}
 use lib.Seq.{take-all}
 use Rattle.kinds.specs.Limits.{doubles}
-use Rattle.judge.specs.GreatestLaws.{greatest-quarters}
+use Rattle.judge.specs.GreatestLaws.{greatest, greatestOfFour, greatest-quarters}
 use Rattle.judge.proofs.greatest.greatest.Statement.{statement}
 use Rattle.judge.proofs.greatest.greatest.Tie as tie
 
@@ -92,7 +92,9 @@ returns c =
     let third : 3 * k - 2 * k ≡ k = omega arith in
     let fourth : 4 * k - 3 * k ≡ k = omega arith in
     let left = take-all (length ps - 4 * k) (drop (4 * k) ps) (rw (length-drop (4 * k) ps) (omega arith)) in
-    c .with .ensures ∙ rw (f .of-four .ensures, first, second, third, fourth, left) (greatest-quarters doubles k ps)
+    let four = f .of-four .ensures
+    ∙ (λ i. greatestOfFour doubles (take (first i) ps) (take (second i) (drop k ps)) (take (third i) (drop (2 * k) ps)) (take (fourth i) (drop (3 * k) ps))) in
+    c .with .ensures ∙ (λ i. max (four i) (greatest doubles (left i))) ∙ greatest-quarters doubles k ps
 
 pub greatest-spec : {M : Type 1} → statement M
 greatest-spec =

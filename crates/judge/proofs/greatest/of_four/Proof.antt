@@ -1,6 +1,6 @@
 -- `judge::greatest::of_four` meets its contract: the pattern kept is the greatest of the places passed in all four. Assumes nothing.
 use mathlib.Core.Path.{_≡_, refl, _∙_}
-use Prim.Native.Nat.{_+_, _-_, _<_}
+use Prim.Native.Nat.{_+_, _-_, _<_, max}
 use native.Mathlib.Omega.{arith}
 use borrow.Author.Needs.{needs}
 use lib.ListN.{length, take, getD}
@@ -79,9 +79,10 @@ loop-again c =
     let b-in : i < length b = omega (arith, s .pre) in
     let u-in : i < length u = omega (arith, s .pre) in
     let v-in : i < length v = omega (arith, s .pre) in
-    rw (c .larger4 .ensures, l .loop .inv, c .before .larger3 .ensures, r .larger2 .ensures, f .larger .ensures)
-    (four-next doubles (take i a) (take i b) (take i u) (take i v) (getD a i 0) (getD b i 0) (getD u i 0) (getD v i 0)
-    ∙ rw (take-next 0 a i, take-next 0 b i, take-next 0 u i, take-next 0 v i))
+    c .larger4 .ensures
+    ∙ (λ k. max (l .loop .inv k) ((c .before .larger3 .ensures ∙ (λ m. max (f .larger .ensures m) (r .larger2 .ensures m))) k))
+    ∙ four-next doubles (take i a) (take i b) (take i u) (take i v) (getD a i 0) (getD b i 0) (getD u i 0) (getD v i 0)
+    ∙ rw (take-next 0 a i, take-next 0 b i, take-next 0 u i, take-next 0 v i)
 
 returns : tie.Need-returns Inv-loop μ-loop
 returns c =

@@ -1,13 +1,13 @@
 -- scripts/singles writes this file, from crates/judge/proofs/greatest/greatest/Proof.antt.
 -- `single_judge::greatest::greatest` meets its contract: the quarters and what is left are the list. Assumes nothing.
 use mathlib.Core.Path.{_≡_, _∙_}
-use Prim.Native.Nat.{_+_, _-_, _*_, _/_}
+use Prim.Native.Nat.{_+_, _-_, _*_, _/_, max}
 use native.Mathlib.Omega.{arith}
 use borrow.Author.Needs.{needs}
-use lib.ListN.{length, drop, length-drop}
+use lib.ListN.{length, take, drop, length-drop}
 use lib.Seq.{take-all}
 use Rattle.kinds.specs.Limits.{singles}
-use Rattle.judge.specs.GreatestLaws.{greatest-quarters}
+use Rattle.judge.specs.GreatestLaws.{greatest, greatestOfFour, greatest-quarters}
 use Rattle.single_judge.proofs.greatest.greatest.Statement.{statement}
 use Rattle.single_judge.proofs.greatest.greatest.Tie as tie
 
@@ -93,7 +93,9 @@ returns c =
     let third : 3 * k - 2 * k ≡ k = omega arith in
     let fourth : 4 * k - 3 * k ≡ k = omega arith in
     let left = take-all (length ps - 4 * k) (drop (4 * k) ps) (rw (length-drop (4 * k) ps) (omega arith)) in
-    c .with .ensures ∙ rw (f .of-four .ensures, first, second, third, fourth, left) (greatest-quarters singles k ps)
+    let four = f .of-four .ensures
+    ∙ (λ i. greatestOfFour singles (take (first i) ps) (take (second i) (drop k ps)) (take (third i) (drop (2 * k) ps)) (take (fourth i) (drop (3 * k) ps))) in
+    c .with .ensures ∙ (λ i. max (four i) (greatest singles (left i))) ∙ greatest-quarters singles k ps
 
 pub greatest-spec : {M : Type 1} → statement M
 greatest-spec =

@@ -1,10 +1,10 @@
 -- scripts/singles writes this file, from crates/judge/proofs/greatest/with/Proof.antt.
 -- `single_judge::greatest::with` meets its contract: the pattern kept is the greatest of the one handed in and the places passed. Assumes nothing.
-use mathlib.Core.Path.{_≡_, refl, _∙_}
+use mathlib.Core.Path.{_≡_, ap, _∙_}
 use Prim.Native.Nat.{_+_, _-_, _<_, max}
 use native.Mathlib.Omega.{arith}
 use borrow.Author.Needs.{needs}
-use lib.ListN.{length, take}
+use lib.ListN.{length, take, getD}
 use lib.Seq.{take-all}
 use Rattle.lists.specs.Front.{take-next}
 use Rattle.kinds.specs.Limits.{singles}
@@ -20,7 +20,7 @@ abbrev μ-loop : tie.MeasureT-loop
 μ-loop pattern list most₀ j₀ most j = length list - j
 
 loop-holds : tie.Need-loop-holds Inv-loop μ-loop
-loop-holds c = rw (greatest-none singles) (omega arith)
+loop-holds c = omega (arith, greatest-none singles)
 
 mul-larger : tie.Need-mul-larger Inv-loop μ-loop
 mul-larger c = search needs
@@ -43,7 +43,8 @@ loop-again c =
     let s = l .before .before in
     let ps = s .args .list .now in
     let h : l .loop .j < length ps = omega arith in
-    rw (c .larger .ensures, l .loop .inv, take-next 0 ps (l .loop .j), greatest-next singles) (omega arith)
+    let e = ap (greatest singles) (take-next 0 ps (l .loop .j) h) ∙ greatest-next singles (take (l .loop .j) ps) (getD ps (l .loop .j) 0) in
+    omega (arith, c .larger .ensures, l .loop .inv, e)
 
 returns : tie.Need-returns Inv-loop μ-loop
 returns c =
