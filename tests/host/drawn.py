@@ -11,7 +11,7 @@ from sheets import sheet
 from widths import blocks_of
 
 LISTS = 250  # in a batch
-ENDS = [0, 1, 2, 63, 64, 65, 128, 129, 511, 512, 513]  # lengths at the ends of blocks
+ENDS = [0, 1, 2, 31, 32, 33, 63, 64, 65, 127, 128, 129, 511, 512, 513]  # lengths at the ends of blocks, and where the exact sum takes another form
 LIMIT = 2**2098 - 2**2044  # units from which on a register isn't rounded
 TOP = 1 << exact.BITS - 1  # one unit more than the largest register
 

@@ -6,13 +6,11 @@ use mathlib.Core.Bool.{Bool, true, false, cond, not}
 use Prim.Native.Nat.{ℕ, _*_, _%_, _^_, _≤_, _<_}
 use native.Mathlib.Nat.{lt-of-not-le, not-le-of-lt}
 use native.Mathlib.Omega.{arith}
-use borrow.Author.Tests.{le-ltb, lt-ltb, eq-eqb, ne-eqb}
-use lib.Dec.{T, leb, ltb, eqb, leb→le, le→leb, nleb→lt, lt→ltb, lit<}
+use lib.Dec.{T, leb, leb→le, le→leb, nleb→lt, lt→ltb, lit<}
 use lib.Arith.{le→nltb, lt→nleb}
 use lib.Ieee.{ones, hid, top, nanBits}
 use lib.Ieee.Bits.{is-true, is-false, ofBits-fits, nanBits-is}
 use lib.Ieee.Scale.{finite}
-use Rattle.units.specs.Powers.{le-or-lt}
 use Rattle.ieee.specs.Units.{Number, patternUnits}
 use Rattle.ieee.specs.Finite.{is-units, finite-no-nan}
 use Rattle.ieee.specs.Pattern.{pattern-positive, pattern-finite, pattern-within}
@@ -99,13 +97,6 @@ module _ (W : Width) (proper : W .magnitude < ones (W .format) * hid (W .format)
     pattern-3 l h =
         let t : T (finite (floatOf W p)) = rw (pattern-finite (W .format) p) (lt→ltb _ _ l) in
         fault-3 W p .1 (t, lt-of-not-le (λ k. not-le-of-lt h (within .1 (t, k))))
-
-    -- one comparison tells whether there is a fault
-    pub pattern-test : not (ltb (W .magnitude) (p % top (W .format))) ≡ eqb (faultOf W p) 0
-    pattern-test = elim (le-or-lt (p % top (W .format)) (W .magnitude)) [
-      | inl h ↦ rw (le-ltb (W .magnitude) (p % top (W .format)) h, eq-eqb (faultOf W p) 0 (pattern-0 h))
-      | inr h ↦ rw (lt-ltb (W .magnitude) (p % top (W .format)) h, ne-eqb (faultOf W p) 0 (λ e. not-le-of-lt h (within .1 (fault-0 W p .0 e))))
-    ]
 
 -- ---- rule L5's limit, 2 ^ 1000, and at binary32 2 ^ 100
 pub proper-doubles : doubles .magnitude < ones (doubles .format) * hid (doubles .format)

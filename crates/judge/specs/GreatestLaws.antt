@@ -35,7 +35,7 @@ module _ (W : Width) where
   unfolding greatest
   greatest-none = refl
 
-  pub greatest-join : (ps qs : List ℕ) → greatest W (ps ++ qs) ≡ max (greatest W ps) (greatest W qs)
+  greatest-join : (ps qs : List ℕ) → greatest W (ps ++ qs) ≡ max (greatest W ps) (greatest W qs)
   unfolding greatest
   greatest-join [] qs = omega arith
   greatest-join (p ∷ ps) qs = rw (greatest-join ps qs) (omega arith)
