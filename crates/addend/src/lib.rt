@@ -1,4 +1,6 @@
 // Additions and withdrawals of any finite number, also above 2^1000, as the parts of a sum need them: what leaves 2112 bits is cut off.
+#![tactic(auto)]
+
 use crate::place::place;
 use kinds::SIGN;
 use words::ripple::{add_at, sub_at};

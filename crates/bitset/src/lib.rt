@@ -1,4 +1,6 @@
 // A set of small numbers as the bits of one 64-bit number: rules WS2 and F9.
+#![tactic(auto)]
+
 ghost use Rattle.std.specs.Prelude.{◌≡◌, ◌≤◌, ◌<◌};
 ghost use Rattle.lists.specs.Bitset.{has, without, full};
 

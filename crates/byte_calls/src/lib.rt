@@ -1,4 +1,6 @@
 // The calls on bytes, for a host program: rules C1 and F7.
+#![tactic(auto)]
+
 ghost use Rattle.std.specs.Prelude.{◌≡◌};
 ghost use Rattle.kinds.specs.Outcome.{outcome};
 ghost use Rattle.calls.specs.Calls.{faithful_call, nearest_call, add_call, withdraw_call};

@@ -1,4 +1,6 @@
 // What the calls have in common: the code of a refusal, the judgement of the lengths, and the 16 bytes of a sum.
+#![tactic(auto)]
+
 ghost use Rattle.std.specs.Prelude.{◌≡◌, [], ◌∷◌, ◌+◌, length};
 ghost use Rattle.kinds.specs.Heard.{Refusal, place_of};
 ghost use Rattle.kinds.specs.Limits.{doubles};

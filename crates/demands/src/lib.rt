@@ -1,1 +1,2 @@
 // The scope's demands (rules D1 to D3) as theorems about the definitions that the public contracts cite.
+#![tactic(auto)]

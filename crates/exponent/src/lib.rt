@@ -1,4 +1,6 @@
 // Powers of two: the least one at or above a number, and the float of one. All is read off patterns, and no double is scaled (rule E5).
+#![tactic(auto)]
+
 ghost use Rattle.std.specs.Prelude.{◌≡◌, false, ◌*◌, ◌<◌, T};
 ghost use Rattle.std.specs.Float.{binary64};
 ghost use Rattle.std.specs.Float.Ieee.{hid, ones};

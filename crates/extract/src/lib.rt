@@ -1,4 +1,6 @@
 // One area of the faithful walk: taking its numbers, with the largest of their remainders, and adding them up. Rules WB2 and F8: on f64, rounded once each.
+#![tactic(auto)]
+
 use kinds::SIGN;
 
 pub mod first;

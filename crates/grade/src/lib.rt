@@ -1,4 +1,6 @@
 // The grade of a sum that came from elsewhere.
+#![tactic(auto)]
+
 use crate::claim::{other_side, same_number};
 use crate::near::{is_negative, nearest_pattern};
 use kinds::{INFINITY, SIGN, Verdict};

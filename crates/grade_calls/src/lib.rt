@@ -1,4 +1,6 @@
 // The grade of a claimed sum, for C.
+#![tactic(auto)]
+
 ghost use Rattle.std.specs.Prelude.{◌≡◌, ◌<◌, length, [], ◌∷◌};
 ghost use Rattle.kinds.specs.Outcome.{outcome};
 ghost use Rattle.grade_calls.specs.GradeArrays.{grade_arrays};

@@ -1,4 +1,6 @@
 // Which lists are allowed: the fault of one pattern, and the first refusal of a list; and the sign of a zero sum.
+#![tactic(auto)]
+
 use kinds::{Doubles, INFINITY, SIGN, Verdict};
 
 mod greatest;

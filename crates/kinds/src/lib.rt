@@ -1,4 +1,6 @@
 // The types that the library's calls share: what describes a list, the walk's state, and every answer.
+#![tactic(auto)]
+
 ghost use Rattle.std.specs.Prelude.{◌≡◌, ◌≤◌};
 ghost use Rattle.kinds.specs.Limits.{doubles, exponent_of, blocks_of, Tied};
 ghost use Rattle.kinds.specs.States.{state_of};
@@ -96,7 +98,7 @@ impl Doubles {
 
 // Rules WS1 and F1: the state of a walk, a value with f64 fields. Rule WS12: the ensemble's number is the one given at the opening. Rule WS13: the largest
 // magnitude among the remainders of the round so far.
-#[derive(Drop)]
+#[derive(Clone, Copy)]
 pub struct State {
     pub sigma: f64,
     pub t: f64,

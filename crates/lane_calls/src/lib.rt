@@ -1,4 +1,6 @@
 // A register that carries later, for C: an addition, a withdrawal, and a settling.
+#![tactic(auto)]
+
 ghost use Rattle.std.specs.Prelude.{◌≡◌, length};
 ghost use Rattle.kinds.specs.Outcome.{outcome};
 ghost use Rattle.lanes.specs.Lanes.{laid_heard};

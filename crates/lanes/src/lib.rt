@@ -1,4 +1,6 @@
 // A register that carries later: 66 lent lanes, each a signed number of 64 bits that stands for 32 bits of the unit count.
+#![tactic(auto)]
+
 use words::WORDS;
 
 mod carries;

@@ -1,4 +1,6 @@
 // What the sheet program prints: the lines of a sheet, made in a lent area.
+#![tactic(auto)]
+
 use kinds::{Nearest, Sheet, Step};
 
 mod line;

@@ -1,4 +1,6 @@
 // The double nearest to a register.
+#![tactic(auto)]
+
 use crate::bits::{double, nearest_bits};
 
 pub mod bits;

@@ -1,4 +1,6 @@
 // Bytes, words and numbers, put behind a text in a lent area.
+#![tactic(auto)]
+
 ghost use Rattle.std.specs.Prelude.{◌≡◌, ◌++◌, ◌+◌, ◌≤◌, ◌<◌, length};
 ghost use Rattle.numerals.specs.Text.{Placed};
 ghost use Rattle.numerals.specs.Numerals.{decimal_of, capital_of, capitals_of, hex_of};

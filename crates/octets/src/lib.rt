@@ -1,4 +1,6 @@
 // Numbers in bytes.
+#![tactic(auto)]
+
 pub mod little;
 
 ghost use Rattle.std.specs.Prelude.{◌≡◌, ◌++◌, ◌+◌, ◌≤◌, ◌<◌, length, take, drop};

@@ -1,4 +1,6 @@
 // Products of pairs and the nearest weighted sum, for C.
+#![tactic(auto)]
+
 ghost use Rattle.std.specs.Prelude.{◌≡◌};
 ghost use Rattle.kinds.specs.Outcome.{outcome};
 ghost use Rattle.pair_calls.specs.PairArrays.{products_arrays, weighted_arrays, other_length};

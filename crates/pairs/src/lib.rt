@@ -1,4 +1,6 @@
 // Products of pairs, each with its exact error, and weighted sums.
+#![tactic(auto)]
+
 use crate::two::multiply;
 use kinds::{Nearest, Verdict};
 use words::WORDS;

@@ -1,4 +1,6 @@
 // The sum of a list in parts, for C.
+#![tactic(auto)]
+
 ghost use Rattle.std.specs.Prelude.{◌≡◌};
 ghost use Rattle.arrays.specs.Arrays.{returned};
 ghost use Rattle.part_calls.specs.PartArrays.{parts_arrays};

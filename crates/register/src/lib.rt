@@ -1,4 +1,6 @@
 // The exact register: 33 lent words that count units in two's complement.
+#![tactic(auto)]
+
 use kinds::{Entry, INFINITY, Nearest};
 use words::WORDS;
 

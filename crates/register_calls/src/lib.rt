@@ -1,4 +1,6 @@
 // A register's words, for C: an addition, a withdrawal, a merge, and the double nearest to them.
+#![tactic(auto)]
+
 ghost use Rattle.std.specs.Prelude.{◌≡◌};
 ghost use Rattle.kinds.specs.Heard.{entry_heard};
 ghost use Rattle.kinds.specs.Outcome.{outcome};

@@ -1,4 +1,6 @@
 // What can be saved of a damaged sheet: rules H7 to H11. What is saved is a good sheet (rule H12).
+#![tactic(auto)]
+
 use crate::entries::{count_kept, write_kept, write_marks};
 use kinds::Doubles;
 use sheet::layout::header;

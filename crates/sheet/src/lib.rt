@@ -1,4 +1,6 @@
 // The contribution sheet: its reader, rule H2, and its writer, rule H4.
+#![tactic(auto)]
+
 use kinds::{Doubles, Sheet};
 use octets::big_endian;
 

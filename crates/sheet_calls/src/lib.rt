@@ -1,4 +1,6 @@
 // A sheet, for C: read to a lent array of patterns, written to lent bytes, and rescued.
+#![tactic(auto)]
+
 ghost use Rattle.std.specs.Prelude.{◌≡◌};
 ghost use Rattle.arrays.specs.Arrays.{returned};
 ghost use Rattle.sheet_calls.specs.SheetArrays.{read_arrays, unread_code, write_arrays};

@@ -1,5 +1,7 @@
 // scripts/singles writes this file, from crates/addend/src/lib.rt.
 // Additions of any finite number: what leaves 2112 bits is cut off.
+#![tactic(auto)]
+
 use crate::place::place;
 use single_kinds::SIGN;
 use words::ripple::{add_at, sub_at};

@@ -1,5 +1,7 @@
 // scripts/singles writes this file, from crates/exponent/src/lib.rt.
 // Powers of two: the least one at or above a number, and the float of one. All is read off patterns, and no single is scaled (rule E5).
+#![tactic(auto)]
+
 ghost use Rattle.std.specs.Prelude.{◌≡◌, false, ◌*◌, ◌<◌, T};
 ghost use Rattle.std.specs.Float.{binary32};
 ghost use Rattle.std.specs.Float.Ieee.{hid, ones};

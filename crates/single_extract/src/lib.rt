@@ -1,5 +1,7 @@
 // scripts/singles writes this file, from crates/extract/src/lib.rt.
 // One area of the faithful walk: taking its numbers, with the largest of their remainders, and adding them up. Rules WB2 and F8: on f32, rounded once each.
+#![tactic(auto)]
+
 use single_kinds::SIGN;
 
 pub mod first;

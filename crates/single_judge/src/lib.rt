@@ -1,5 +1,7 @@
 // scripts/singles writes this file, from crates/judge/src/lib.rt.
 // Which lists are allowed: the fault of one pattern, and the first refusal of a list; and the sign of a zero sum.
+#![tactic(auto)]
+
 use kinds::Verdict;
 use single_kinds::{INFINITY, SIGN, Singles};
 

@@ -1,5 +1,7 @@
 // scripts/singles writes this file, from crates/kinds/src/lib.rt.
 // What describes a list, the walk's state, and the answers that hold floats.
+#![tactic(auto)]
+
 ghost use Rattle.std.specs.Prelude.{◌≡◌, ◌≤◌};
 ghost use Rattle.kinds.specs.Limits.{singles, exponent_of, blocks_of, Tied};
 ghost use Rattle.kinds.specs.States.{state_of};
@@ -88,7 +90,7 @@ impl Singles {
 
 // Rules WS1 and F1: the state of a walk, a value with f32 fields. Rule WS12: the ensemble's number is the one given at the opening. Rule WS13: the largest
 // magnitude among the remainders of the round so far.
-#[derive(Drop)]
+#[derive(Clone, Copy)]
 pub struct State {
     pub sigma: f32,
     pub t: f32,

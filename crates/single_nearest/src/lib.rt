@@ -1,5 +1,7 @@
 // scripts/singles writes this file, from crates/nearest/src/lib.rt.
 // The single nearest to a register.
+#![tactic(auto)]
+
 use crate::bits::{nearest_bits, single};
 
 pub mod bits;

@@ -1,5 +1,7 @@
 // scripts/singles writes this file, from crates/sound/src/lib.rt.
 // Sound states, and the gate of a block step.
+#![tactic(auto)]
+
 use crate::numbers::{numbers, pending};
 use crate::places::{bad_place, limit};
 use kinds::Verdict;

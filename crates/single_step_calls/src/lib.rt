@@ -1,5 +1,7 @@
 // scripts/singles writes this file, from crates/step_calls/src/lib.rt.
 // The walk by blocks, for C: a state is ten numbers (rule C11).
+#![tactic(auto)]
+
 ghost use Rattle.std.specs.Prelude.{◌≡◌};
 ghost use Rattle.arrays.specs.Arrays.{returned};
 ghost use Rattle.step_calls.specs.StepArrays.{open_singles, step_singles};

@@ -1,5 +1,7 @@
 // scripts/singles writes this file, from crates/sum_calls/src/lib.rt.
 // The sums of a list in one call, for C.
+#![tactic(auto)]
+
 ghost use Rattle.std.specs.Prelude.{◌≡◌};
 ghost use Rattle.kinds.specs.Outcome.{outcome};
 ghost use Rattle.arrays.specs.Arrays.{returned};

@@ -1,5 +1,7 @@
 // scripts/singles writes this file, from crates/sums/src/lib.rt.
 // The nearest sum of a list.
+#![tactic(auto)]
+
 use kinds::Verdict;
 use single_kinds::Nearest;
 use words::WORDS;

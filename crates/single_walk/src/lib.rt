@@ -1,5 +1,7 @@
 // scripts/singles writes this file, from crates/walk/src/lib.rt.
 // The faithful walk: the opening of a list, block steps, and the undivided call.
+#![tactic(auto)]
+
 use kinds::Verdict;
 use single_kinds::{State, Step};
 

@@ -1,4 +1,6 @@
 // Sound states, and the gate of a block step.
+#![tactic(auto)]
+
 use crate::numbers::{numbers, pending};
 use crate::places::{bad_place, limit};
 use kinds::{Doubles, State, Verdict};

@@ -1,4 +1,6 @@
 // The walk by blocks, for C: a state is ten numbers (rule C11).
+#![tactic(auto)]
+
 ghost use Rattle.std.specs.Prelude.{◌≡◌};
 ghost use Rattle.arrays.specs.Arrays.{returned};
 ghost use Rattle.step_calls.specs.StepArrays.{open_arrays, step_arrays};

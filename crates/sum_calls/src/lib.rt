@@ -1,4 +1,6 @@
 // The sums of a list in one call, for C.
+#![tactic(auto)]
+
 ghost use Rattle.std.specs.Prelude.{◌≡◌};
 ghost use Rattle.kinds.specs.Outcome.{outcome};
 ghost use Rattle.arrays.specs.Arrays.{returned};

@@ -1,4 +1,6 @@
 // Reads one contribution sheet from standard input and prints its sums, or why it is refused.
+#![tactic(auto)]
+
 use kinds::Doubles;
 use libc::{STDIN_FILENO, STDOUT_FILENO};
 use lines::LONGEST;

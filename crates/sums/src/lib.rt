@@ -1,4 +1,6 @@
 // The sums of a list: nearest, and in parts.
+#![tactic(auto)]
+
 use kinds::{Doubles, Nearest, Parted, Verdict};
 use words::WORDS;
 

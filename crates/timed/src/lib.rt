@@ -1,4 +1,6 @@
 // What bench/ times and no call of the library hands out: the inner addition, of a whole list. The library has nothing of this.
+#![tactic(auto)]
+
 ghost use Rattle.std.specs.Prelude.{◌≡◌, ◌≤◌, length};
 ghost use Rattle.kinds.specs.Limits.{doubles};
 ghost use Rattle.kinds.specs.Outcome.{outcome};

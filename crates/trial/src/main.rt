@@ -1,4 +1,6 @@
 // The program of tests: the sums of lists made by a generator, a line for each answer. tests/trial.py has the lines that exact integers ask for.
+#![tactic(auto)]
+
 use kinds::Doubles;
 
 mod lists;

@@ -1,4 +1,6 @@
 // The faithful walk: the opening of a list, block steps, and the undivided call.
+#![tactic(auto)]
+
 use kinds::{State, Step, Verdict};
 
 mod accepted;

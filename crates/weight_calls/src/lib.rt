@@ -1,4 +1,6 @@
 // The leaver's weight handed on, for C.
+#![tactic(auto)]
+
 ghost use Rattle.std.specs.Prelude.{◌≡◌};
 ghost use Rattle.kinds.specs.Outcome.{outcome};
 ghost use Rattle.weight_calls.specs.WeightArrays.{hand_on_arrays};

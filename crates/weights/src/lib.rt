@@ -1,4 +1,6 @@
 // Handing on the weight of a clock that leaves the ensemble, to the last grain.
+#![tactic(auto)]
+
 use crate::grains::{GRAINS, grains_of, is_weight};
 use crate::share::{shares, write};
 use kinds::Verdict;

@@ -1,4 +1,6 @@
 // The register's words, and their sums word by word.
+#![tactic(auto)]
+
 pub mod columns;
 pub mod ripple;
 pub mod word;

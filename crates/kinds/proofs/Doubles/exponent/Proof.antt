@@ -10,10 +10,10 @@ use Rattle.lists.specs.LeadingZeros.{size_is}
 use Rattle.kinds.proofs.Doubles.exponent.Statement.{statement}
 use Rattle.kinds.proofs.Doubles.exponent.Tie as tie
 
-add-result : tie.Need-overflow-add-result
+add-result : tie.Need-overflow_add-result
 add-result c = search rules
 
-sub-result : tie.Need-overflow-sub-result
+sub-result : tie.Need-overflow_sub-result
 sub-result c = leading_le 64 _
 
 returns : tie.Need-returns

@@ -1,0 +1,38 @@
+-- `nearest::head::leading` meets its contract: the head is that of the words in use, one or two at the top. Assumes nothing.
+use Rattle.std.proofs.Common.{◌-◌, ◌^◌, ◌<◌, ◌≤◌, get_or, arith, rules}
+use Rattle.lists.specs.Digits.{Digits}
+use Rattle.lists.specs.LeadingDigits.{size_of_word}
+use Rattle.words.specs.Words.{word_bits}
+use Rattle.nearest.specs.HeadLaws.{head_one, head_two}
+use Rattle.nearest.proofs.head.leading.Goals as goal
+
+pub returns-then-n-lt2 : goal.returns-then-n-lt2
+returns-then-n-lt2 c =
+    let ws = c.args.words.now in
+    head_one ws c.used-n.result (record { below = λ i. (c.shared_slice_known-then-n-lt2-1.given i).fits }) c.used-n.ensures (omega arith)
+
+-- the digits of the upper word
+upper : (c : goal.After-size-y) → (0 < c.size-y.result) × (c.size-y.result ≤ 64)
+    × (get_or c.args.words.now (c.used-n.result - 1) 0 < 2 ^ c.size-y.result)
+upper c =
+    let u = c.used-n in
+    rw c.size-y.ensures (size_of_word (u.ensures.last (omega arith)) (c.shared_slice_known-3-1.given (u.result - 1)).fits)
+
+pub across-requires : goal.across-requires
+across-requires c = upper c
+
+pub overflow_add-result : goal.overflow_add-result
+overflow_add-result c = omega (arith, upper c.before)
+
+pub overflow_sub-y : goal.overflow_sub-y
+overflow_sub-y c = (upper c.before).1
+
+pub overflow_shl-b : goal.overflow_shl-b
+overflow_shl-b c = omega (arith, upper c.before)
+
+pub returns : goal.returns
+returns c =
+    let ws = c.args.words.now in
+    let D : Digits word_bits ws = record { below = λ i. (c.shared_slice_known-3-1.given i).fits } in
+    rw (c.across.ensures, c.rest.ensures)
+    (head_two ws c.used-n.result D c.used-n.ensures c.if-n-lt2.false c.size-y.result c.size-y.ensures)

@@ -1,0 +1,14 @@
+-- `words::ripple::carry_up` meets its contract: at each turn the words are what came in and the carry, but for a carry into the word i.
+-- Assumes nothing.
+use Rattle.std.proofs.Common.{◌≡◌, ◌-◌, ◌*◌, ◌^◌, ◌≤◌, length, arith, rules}
+use Rattle.lists.specs.Carry.{Carried}
+use Rattle.lists.specs.CarryLaws.{carried_up}
+use Rattle.words.specs.Words.{word_bits}
+use Rattle.words.proofs.ripple.carry_up.Given as goal
+
+abbrev pub invariant-loop-c : goal.invariant-loop-c
+invariant-loop-c l =
+    (length l.words ≡ length l.initial.words) × (l.i ≤ length l.initial.words) × Carried word_bits l.initial.words (l.carry * 2 ^ (word_bits * l.from)) l.words l.i l.c
+
+abbrev pub decreases-loop-c : goal.decreases-loop-c
+decreases-loop-c l = length l.initial.words - l.i
