@@ -24,36 +24,38 @@ returns-then-list-gt-LENGTH c =
 pub returns-then-not-area : goal.returns-then-not-area
 returns-then-not-area c =
     let a = c.args in
-    (c.beside-then-not-area.ensures.0 ∙ sym (judged_4 doubles a.area a.parts a.list.now (omega arith) (is_so c.if-not-area.true)), λ e. apart (cc))
+    (c.beside-then-not-area.ensures.0 ∙ sym (judged_4 doubles a.area a.parts a.list.now (omega arith) (rw c.if-not-area.true tt)), λ e. apart (cc))
 
 pub returns-then-not-parts : goal.returns-then-not-parts
 returns-then-not-parts c =
     let a = c.args in (
       c.beside-then-not-parts.ensures.0
-          ∙ sym (judged_5 doubles a.area a.parts a.list.now (omega arith) (rw (not-false a.area c.if-not-area.false) tt) (is_so c.if-not-parts.true)),
+          ∙ sym (judged_5 doubles a.area a.parts a.list.now (omega arith) (rw c.if-not-area.false tt) (rw c.if-not-parts.true tt)),
       λ e. apart (cc),
     )
 
--- none of 1, 4 and 5 is given
-passed : (c : goal.Else-not-parts)
-    → let a = c.args in
-    judged doubles a.area a.parts a.list.now ≡ first_fault doubles a.list.now 0
-passed c =
-    let a = c.args in
-    judged_passed doubles a.area a.parts a.list.now (record {
-      few = omega arith;
-      right_area = rw (not-false a.area c.if-not-area.false) tt;
-      right_parts = rw (not-false a.parts c.if-not-parts.false) tt;
-    })
-
 pub returns-then-most-le-MAGNITUDE : goal.returns-then-most-le-MAGNITUDE
 returns-then-most-le-MAGNITUDE c =
+    let passed : (let a = c.args in
+    judged doubles a.area a.parts a.list.now ≡ first_fault doubles a.list.now 0) = let a = c.args in
+    judged_passed doubles a.area a.parts a.list.now (record {
+      few = omega arith;
+      right_area = rw c.if-not-area.false tt;
+      right_parts = rw c.if-not-parts.false tt;
+    }) in
     let a = c.args in (
       c.beside-then-most-le-MAGNITUDE.ensures.0
-          ∙ sym (passed c.before.before.before ∙ greatest_good doubles proper_doubles a.list.now 0 (omega (arith, c.greatest-most.ensures))),
+          ∙ sym (passed ∙ greatest_good doubles proper_doubles a.list.now 0 (omega (arith, c.greatest-most.ensures))),
       λ e. c.beside-then-most-le-MAGNITUDE.ensures.1 ∙ c.greatest-most.ensures,
     )
 
 pub returns : goal.returns
 returns c =
-    (c.beside-2.ensures.0 ∙ c.first_fault.ensures ∙ sym (passed c.before.before.before.before), λ e. c.beside-2.ensures.1 ∙ c.greatest-most.ensures)
+    let passed : (let a = c.args in
+    judged doubles a.area a.parts a.list.now ≡ first_fault doubles a.list.now 0) = let a = c.args in
+    judged_passed doubles a.area a.parts a.list.now (record {
+      few = omega arith;
+      right_area = rw c.if-not-area.false tt;
+      right_parts = rw c.if-not-parts.false tt;
+    }) in
+    (c.beside-2.ensures.0 ∙ c.first_fault.ensures ∙ sym passed, λ e. c.beside-2.ensures.1 ∙ c.greatest-most.ensures)

@@ -10,31 +10,32 @@ use Rattle.nearest.specs.Bits.{head_bits}
 use Rattle.nearest.specs.RegisterBits.{bits_positive, not_zero, bits_negative}
 use Rattle.nearest.proofs.bits.nearest_bits.Goals as goal
 
--- words are digits
-digits : (c : goal.After-shared_slice_known-2-1) → Digits word_bits c.args.register.now
-digits c = record { below = λ i. (c.shared_slice_known-2-1.given i).fits }
-
 pub pattern-p-requires : goal.pattern-p-requires
 pattern-p-requires c =
-    rw c.leading.ensures (below_most word_bits (word_count - 1) (rw c.requires at (number_lt word_bits c.args.register.now (digits c.before.before))))
+    let digits : Digits word_bits c.args.register.now = record { below = λ i. (c.shared_slice_known-2-1.given i).fits } in
+    rw c.leading.ensures (below_most word_bits (word_count - 1) (rw c.requires at (number_lt word_bits c.args.register.now digits)))
 
 pub returns-then-register-lt-TOP : goal.returns-then-register-lt-TOP
 returns-then-register-lt-TOP c =
-    bits_positive binary64 c.args.register.now c.requires (digits c.before.before.before) c.args.zero c.pattern-p.result c.if-register-lt-TOP.true
+    let digits : Digits word_bits c.args.register.now = record { below = λ i. (c.shared_slice_known-2-1.given i).fits } in
+    bits_positive binary64 c.args.register.now c.requires digits c.args.zero c.pattern-p.result c.if-register-lt-TOP.true
     (c.pattern-p.ensures ∙ ap (head_bits binary64) c.leading.ensures)
 
-above_zero : (c : goal.Else-register-lt-TOP) → 0 < number word_bits c.args.register.now
-above_zero c = not_zero binary64 c.args.register.now c.requires (digits c.before) c.if-register-lt-TOP.false
-
 pub negate-requires : goal.negate-requires
-negate-requires c = (sym c.requires, above_zero c.before)
+negate-requires c =
+    let digits : Digits word_bits c.args.register.now = record { below = λ i. (c.shared_slice_known-2-1.given i).fits } in
+    let above_zero : 0 < number word_bits c.args.register.now = not_zero binary64 c.args.register.now c.requires digits c.if-register-lt-TOP.false in
+    (sym c.requires, above_zero)
 
 pub pattern-requires : goal.pattern-requires
 pattern-requires c =
-    rw (c.leading-2.ensures, c.negate.ensures, c.requires) (below_most word_bits (word_count - 1) (pow-sub-lt register_bits (above_zero c.before.before.before.before.before)))
+    let digits : Digits word_bits c.args.register.now = record { below = λ i. (c.shared_slice_known-2-1.given i).fits } in
+    let above_zero : 0 < number word_bits c.args.register.now = not_zero binary64 c.args.register.now c.requires digits c.if-register-lt-TOP.false in
+    rw (c.leading-2.ensures, c.negate.ensures, c.requires) (below_most word_bits (word_count - 1) (pow-sub-lt register_bits above_zero))
 
 pub returns : goal.returns
 returns c =
-    bits_negative binary64 c.args.register.now c.requires (digits c.before.before.before.before.before.before.before) c.if-register-lt-TOP.false c.args.zero c.pattern.result _
+    let digits : Digits word_bits c.args.register.now = record { below = λ i. (c.shared_slice_known-2-1.given i).fits } in
+    bits_negative binary64 c.args.register.now c.requires digits c.if-register-lt-TOP.false c.args.zero c.pattern.result _
     c.negate.ensures
     (c.pattern.ensures ∙ ap (head_bits binary64) c.leading-2.ensures)

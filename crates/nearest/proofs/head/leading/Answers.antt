@@ -11,24 +11,33 @@ returns-then-n-lt2 c =
     let ws = c.args.words.now in
     head_one ws c.used-n.result (record { below = λ i. (c.shared_slice_known-then-n-lt2-1.given i).fits }) c.used-n.ensures (omega arith)
 
--- the digits of the upper word
-upper : (c : goal.After-size-y) → (0 < c.size-y.result) × (c.size-y.result ≤ 64)
-    × (get_or c.args.words.now (c.used-n.result - 1) 0 < 2 ^ c.size-y.result)
-upper c =
-    let u = c.used-n in
-    rw c.size-y.ensures (size_of_word (u.ensures.last (omega arith)) (c.shared_slice_known-3-1.given (u.result - 1)).fits)
-
 pub across-requires : goal.across-requires
-across-requires c = upper c
+across-requires c =
+    let upper : (0 < c.size-y.result) × (c.size-y.result ≤ 64)
+    × (get_or c.args.words.now (c.used-n.result - 1) 0 < 2 ^ c.size-y.result) = let u = c.used-n in
+    rw c.size-y.ensures (size_of_word (u.ensures.last (omega arith)) (c.shared_slice_known-3-1.given (u.result - 1)).fits) in
+    upper
 
 pub overflow_add-result : goal.overflow_add-result
-overflow_add-result c = omega (arith, upper c.before)
+overflow_add-result c =
+    let upper : (0 < c.size-y.result) × (c.size-y.result ≤ 64)
+    × (get_or c.args.words.now (c.used-n.result - 1) 0 < 2 ^ c.size-y.result) = let u = c.used-n in
+    rw c.size-y.ensures (size_of_word (u.ensures.last (omega arith)) (c.shared_slice_known-3-1.given (u.result - 1)).fits) in
+    omega (arith, upper)
 
 pub overflow_sub-y : goal.overflow_sub-y
-overflow_sub-y c = (upper c.before).1
+overflow_sub-y c =
+    let upper : (0 < c.size-y.result) × (c.size-y.result ≤ 64)
+    × (get_or c.args.words.now (c.used-n.result - 1) 0 < 2 ^ c.size-y.result) = let u = c.used-n in
+    rw c.size-y.ensures (size_of_word (u.ensures.last (omega arith)) (c.shared_slice_known-3-1.given (u.result - 1)).fits) in
+    upper.1
 
 pub overflow_shl-b : goal.overflow_shl-b
-overflow_shl-b c = omega (arith, upper c.before)
+overflow_shl-b c =
+    let upper : (0 < c.size-y.result) × (c.size-y.result ≤ 64)
+    × (get_or c.args.words.now (c.used-n.result - 1) 0 < 2 ^ c.size-y.result) = let u = c.used-n in
+    rw c.size-y.ensures (size_of_word (u.ensures.last (omega arith)) (c.shared_slice_known-3-1.given (u.result - 1)).fits) in
+    omega (arith, upper)
 
 pub returns : goal.returns
 returns c =

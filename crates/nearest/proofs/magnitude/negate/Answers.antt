@@ -26,7 +26,7 @@ loop-i-preserved c =
     let ds = c.args.register.now in
     let i = c.loop-i.i in
     let t = c.wrapping_add_u64-t in
-    let s = carried (get_or ds i 0) c.loop-i.carry t.result (c.shared_slice_known-in-loop-i-1.given i).fits c.loop-i.invariant.2.carry t.ensures in
+    let s = carried (get_or ds i 0) c.loop-i.carry t.result (c.shared_slice_known-in-loop-i-1.given i).fits c.loop-i.invariant.2.carry t.ensures.value in
     let next =
     negated_next word_bits ds c.loop-i.words i c.loop-i.carry t.result (bool_byte (ltb t.result c.loop-i.carry))
     c.loop-i-test.true (c.loop-i.invariant.0 ∙ c.requires.0) c.loop-i.invariant.2 s.0 s.1 in

@@ -19,10 +19,6 @@ byte_le true = omega arith
 small : {d : ℕ} (x : ℕ) → d < 64 → x % 2 ^ d * 2 + 1 < 2 ^ 64
 small {d} x h = omega (arith, mod-lt x (pow_pos d), pow_mono {i = d} {j = 63} (omega arith))
 
--- LEFT nonzero-rem-twice
-rem-twice : tie.Need-nonzero-rem-twice
-rem-twice c = rw (unit c.requires.0) (pow_pos c.args.d)
-
 pub overflow_mul-twice : goal.overflow_mul-twice
 overflow_mul-twice c = rw (unit c.requires.0) (omega (arith, small c.args.x c.requires.0))
 

@@ -1,0 +1,37 @@
+-- `exponent::exponent` meets its contract: a field of 0 has its digits as units, and any other is a power of two or lies between two. Assumes nothing.
+use borrow.Author.Rules.{rules}
+use mathlib.Core.Path.{◌≡◌, sym, ◌∙◌}
+use Prim.Native.Nat.{suc, ◌+◌, ◌-◌, ◌/◌}
+use native.Mathlib.Omega.{arith}
+use lib.Count.{leading_le}
+use lib.Ieee.{binary64, size, hid}
+use Rattle.lists.specs.LeadingZeros.{size_is}
+use Rattle.ieee.specs.Exponent.{exponent_power, exponent_between}
+use Rattle.exponent.specs.CeilingLaws.{subnormal_ceiling}
+use Rattle.exponent.proofs.exponent.Goals as goal
+
+pub returns-then-p-eq0 : goal.returns-then-p-eq0
+unfolding size
+returns-then-p-eq0 c = rw c.if-p-eq0.true (sym (subnormal_ceiling binary64 {r = 0} (omega arith)))
+
+pub overflow_sub-result-then-p-lt-LEAST_NORMAL : goal.overflow_sub-result-then-p-lt-LEAST_NORMAL
+overflow_sub-result-then-p-lt-LEAST_NORMAL c = leading_le 64 _
+
+pub returns-then-p-lt-LEAST_NORMAL : goal.returns-then-p-lt-LEAST_NORMAL
+returns-then-p-lt-LEAST_NORMAL c =
+    let p = c.args.p in
+    size_is 64 (p - 1) (omega (arith, c.requires)) ∙ sym (subnormal_ceiling binary64 {r = p} (omega arith))
+
+pub returns-then-p-eq0-2 : goal.returns-then-p-eq0-2
+returns-then-p-eq0-2 c =
+    let p = c.args.p in
+    let e : p / hid binary64 ≡ suc (p / hid binary64 - 1) = omega arith in
+    let s : p / hid binary64 + 52 - 1 ≡ 52 + (p / hid binary64 - 1) = omega arith in
+    s ∙ sym (exponent_power binary64 p (p / hid binary64 - 1) e (omega arith))
+
+pub returns : goal.returns
+returns c =
+    let p = c.args.p in
+    let e : p / hid binary64 ≡ suc (p / hid binary64 - 1) = omega arith in
+    let s : p / hid binary64 + 52 ≡ suc (52 + (p / hid binary64 - 1)) = omega arith in
+    s ∙ sym (exponent_between binary64 p (p / hid binary64 - 1) e (omega arith))

@@ -1,0 +1,35 @@
+-- `extract::extract` meets its contract: the places passed hold their remainders, their high parts are gathered, and the greatest pattern stands for the
+-- largest magnitude among those remainders and the one that was handed in. Assumes nothing.
+use mathlib.Core.Path.{◌≡◌, refl, sym, subst, ◌∙◌}
+use mathlib.Core.Logic.{inl, inr}
+use mathlib.Core.List.{List, [], ◌++◌}
+use Prim.Native.Nat.{ℕ, ◌+◌, ◌-◌, ◌%◌, ◌<◌, max}
+use native.Mathlib.Omega.{arith}
+use borrow.Author.Rules.{rules}
+use lib.Dec.{T}
+use lib.Ieee.{Float, nan, binary64, top, to_bits, add}
+use lib.Ieee.Fits.{sub-fits}
+use lib.Ieee.Scale.{finite}
+use lib.ListN.{length, take, drop, get_or}
+use lib.Seq.{take_all}
+use Rattle.lists.specs.Each.{each_at}
+use Rattle.lists.specs.Front.{end_map, take_next}
+use Rattle.ieee.specs.Units.{Number, magnitude}
+use Rattle.ieee.specs.Finite.{finite_no_nan}
+use Rattle.ieee.specs.Pattern.{pattern_no_nan}
+use Rattle.extract.specs.Extract.{high_part, remainder_of, remainders, gathered, largest}
+use Rattle.extract.specs.ExtractLaws.{remainders_next, gathered_next, largest_none, largest_next}
+use Rattle.extract.specs.TurnLaws.{turn_read, turn_stored}
+use Rattle.extract.specs.LargestLaws.{Positive, Stands, number_stands, larger, kept}
+use Rattle.extract.specs.LargestWithLaws.{positive_stands, remainders_numbers, stands_with}
+use Rattle.extract.proofs.extract.Given as goal
+
+abbrev pub invariant-loop-i : goal.invariant-loop-i
+invariant-loop-i l =
+    (length l.block ≡ length l.initial.block)
+    × (l.block ≡ remainders binary64 l.sigma (take l.i l.initial.block) ++ drop l.i l.initial.block)
+    × (l.sum ≡ gathered binary64 l.sigma l.tau (take l.i l.initial.block))
+    × Stands binary64 l.most (max (magnitude binary64 l.largest) (largest binary64 (remainders binary64 l.sigma (take l.i l.initial.block))))
+
+abbrev pub decreases-loop-i : goal.decreases-loop-i
+decreases-loop-i l = length l.initial.block - l.i

@@ -1,0 +1,19 @@
+-- `octets::little::pack` meets its contract: the bytes passed are those of the first i numbers. Assumes nothing.
+use mathlib.Core.Path.{◌≡◌, refl, ◌∙◌}
+use mathlib.Core.List.{◌++◌, append-nil}
+use Prim.Native.Nat.{◌+◌, ◌*◌, ◌-◌, ◌≤◌}
+use native.Mathlib.Omega.{arith}
+use borrow.Author.Rules.{rules}
+use lib.ListN.{length, take, drop}
+use lib.Seq.{take_all, drop-length}
+use Rattle.octets.specs.Octets.{little_endian, packed}
+use Rattle.octets.specs.OctetsLaws.{little_length}
+use Rattle.octets.specs.EightsLaws.{joined_none, joined_next}
+use Rattle.octets.proofs.little.pack.Given as goal
+
+abbrev pub invariant-loop-i : goal.invariant-loop-i
+invariant-loop-i l =
+    (length l.bytes ≡ length l.initial.bytes) × (l.i ≤ length l.numbers) × (l.bytes ≡ packed (take l.i l.numbers) ++ drop (8 * l.i) l.initial.bytes)
+
+abbrev pub decreases-loop-i : goal.decreases-loop-i
+decreases-loop-i l = length l.numbers - l.i
