@@ -1,2 +1,4 @@
 -- What the proof of one function cites.
 pub mod TwoDigits
+pub mod RegisterWords
+pub mod SidesLaws

@@ -2,6 +2,4 @@
 pub mod Addend
 pub mod PatternFields
 pub mod OppositePattern
-pub mod RegisterWords
 pub mod Sides
-pub mod SidesLaws

@@ -8,9 +8,9 @@ use Rattle.std.proofs.Math.IntN.{neg_ℤ-neg_ℤ}
 use Rattle.std.specs.Float.{Format}
 use Rattle.std.specs.Float.Ieee.{top, of_bits}
 use Rattle.std.specs.Float.Ieee.Scale.{finite}
-use Rattle.units.specs.Powers.{le_or_lt}
+use Rattle.units.proofs.Powers.{le_or_lt}
 use Rattle.ieee.specs.Units.{magnitude, value, pattern_units}
-use Rattle.ieee.specs.Pattern.{pattern_finite}
+use Rattle.ieee.proofs.Pattern.{pattern_finite}
 use Rattle.addend.specs.PatternFields.{pattern_plus, pattern_minus, pattern_magnitude}
 
 -- a pattern is below twice the sign's weight, and its sign turns by adding that

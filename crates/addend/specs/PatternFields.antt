@@ -7,10 +7,10 @@ use borrow.Author.Tests.{le-leb, lt-leb}
 use Rattle.std.specs.Float.{Format}
 use Rattle.std.specs.Float.Ieee.{prec, hid, ones, top, of_bits}
 use Rattle.std.specs.Float.Ieee.Scale.{finite}
-use Rattle.units.specs.Powers.{le_or_lt}
+use Rattle.units.proofs.Powers.{le_or_lt}
 use Rattle.ieee.specs.Units.{negative, magnitude, value, signed, field_units, pattern_units}
-use Rattle.ieee.specs.Finite.{is_units}
-use Rattle.ieee.specs.Pattern.{pattern_is, pattern_finite}
+use Rattle.ieee.proofs.Finite.{is_units}
+use Rattle.ieee.proofs.Pattern.{pattern_is, pattern_finite}
 
 module _ (f : Format) (b : ℕ) (F : T (finite (of_bits f b))) where
   known : (negative (of_bits f b) ≡ leb (top f) b) × (magnitude f (of_bits f b) ≡ pattern_units f (b % top f))

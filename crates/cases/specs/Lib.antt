@@ -6,10 +6,4 @@ pub mod Faults
 pub mod PairRows
 pub mod Largest
 pub mod Lanes
-pub mod FromC
-pub mod LanesFromC
-pub mod Singles
-pub mod BytesFromC
-pub mod Holds
 pub mod Example
-pub mod Orders

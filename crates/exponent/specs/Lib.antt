@@ -1,4 +1,2 @@
 -- Powers of two as floats, and the least one at or above a float.
 pub mod Power
-pub mod PowerLaws
-pub mod CeilingLaws

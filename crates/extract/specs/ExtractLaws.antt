@@ -7,7 +7,7 @@ use native.Mathlib.Omega.{arith}
 use Rattle.std.proofs.Math.ListN.{length-map}
 use Rattle.std.specs.Float.{Format}
 use Rattle.std.specs.Float.Ieee.{add}
-use Rattle.units.specs.Powers.{le_or_lt}
+use Rattle.units.proofs.Powers.{le_or_lt}
 use Rattle.lists.specs.Each.{Each, each_weaker}
 use Rattle.ieee.specs.Units.{magnitude}
 use Rattle.extract.specs.Extract.{high_part, remainder_of, remainders, gathered, last_sum, plus_zero, largest}

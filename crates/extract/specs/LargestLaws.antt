@@ -5,10 +5,10 @@ use Rattle.std.proofs.Math.Nat.{zero-div, zero-mod, mul-pos}
 use Rattle.std.specs.Float.{Format}
 use Rattle.std.specs.Float.Ieee.{prec, top, ones, hid, of_bits, to_bits, neg, lt}
 use Rattle.ieee.specs.Units.{Is, Number, negative, magnitude, signed_whole, whole, pattern_units}
-use Rattle.ieee.specs.Finite.{facts, is_units}
-use Rattle.ieee.specs.Pattern.{pattern_number, pattern_positive, pattern_lt, pattern_le, bits_below, bits_units}
-use Rattle.ieee.specs.Compare.{lt_units}
-use Rattle.ieee.specs.Sum.{neg_negative, neg_magnitude, neg_number}
+use Rattle.ieee.proofs.Finite.{facts, is_units}
+use Rattle.ieee.proofs.Pattern.{pattern_number, pattern_positive, pattern_lt, pattern_le, bits_below, bits_units}
+use Rattle.ieee.proofs.Compare.{lt_units}
+use Rattle.ieee.proofs.Sum.{neg_negative, neg_magnitude, neg_number}
 use Rattle.extract.specs.Extract.{plus_zero, absolute}
 
 -- x is n units with the sign of +0

@@ -12,16 +12,16 @@ use lib.IntN.{ℤ, nat_abs, ◌-ℤ◌}
 use lib.Ieee.{Float, Format, binary64, top, of_bits, to_bits}
 use lib.Ieee.Scale.{finite}
 use Rattle.ieee.specs.Units.{Number, magnitude, value, sign_of, limit, pattern_units}
-use Rattle.ieee.specs.Nearest.{nearest_number}
-use Rattle.ieee.specs.Pattern.{no_units, bits_units}
+use Rattle.ieee.proofs.Nearest.{nearest_number}
+use Rattle.ieee.proofs.Pattern.{no_units, bits_units}
 use Rattle.lists.specs.Digits.{number}
 use Rattle.kinds.specs.Limits.{doubles}
 use Rattle.words.specs.Words.{word_bits, whole_of, words_of}
 use Rattle.addend.specs.Addend.{units_of}
 use Rattle.grade.specs.Grade.{near, other_side, grade_at}
-use Rattle.grade.specs.Distances.{not_apart, apart_none}
-use Rattle.grade.specs.CaseLaws.{grade_exact, grade_missed, grade_near, grade_side, grade_off}
-use Rattle.grade.specs.SideLaws.{near_zero, no_number}
+use Rattle.grade.proofs.Distances.{not_apart, apart_none}
+use Rattle.grade.proofs.CaseLaws.{grade_exact, grade_missed, grade_near, grade_side, grade_off}
+use Rattle.grade.proofs.SideLaws.{near_zero, no_number}
 use Rattle.grade.specs.declared.Graded.TheVariants.{Exact, Nearest, Faithful, Wrong}
 use Rattle.grade.proofs.PatternLaws.{number_of, bits_of}
 use Rattle.grade.proofs.WordLaws.{near_back, nothing_left, something_left, side_is}

@@ -2,3 +2,13 @@
 pub mod PatternLaws
 pub mod WordLaws
 pub mod CaseWords
+pub mod Amid
+pub mod AnswerLaws
+pub mod CaseLaws
+pub mod Distances
+pub mod GradeLaws
+pub mod Neighbours
+pub mod Promised
+pub mod Reordered
+pub mod SideLaws
+pub mod TableLaws

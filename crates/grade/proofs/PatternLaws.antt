@@ -12,13 +12,13 @@ use lib.Ieee.Fits.{eq→eqb}
 use lib.Ieee.Bits.{of_bits-fits, to_bits-of_bits}
 use lib.Ieee.Scale.{finite}
 use Rattle.ieee.specs.Units.{Number, magnitude, value, pattern_units}
-use Rattle.ieee.specs.Finite.{finite_no_nan, same_float}
-use Rattle.ieee.specs.Fractions.{same_test}
-use Rattle.ieee.specs.Pattern.{no_units, bits_units, pattern_finite}
-use Rattle.ieee.specs.Sum.{value_mag}
-use Rattle.grade.specs.Distances.{not_apart, apart_none}
-use Rattle.grade.specs.Neighbours.{bare_none}
-use Rattle.grade.specs.GradeLaws.{zero_value}
+use Rattle.ieee.proofs.Finite.{finite_no_nan, same_float}
+use Rattle.ieee.proofs.Fractions.{same_test}
+use Rattle.ieee.proofs.Pattern.{no_units, bits_units, pattern_finite}
+use Rattle.ieee.proofs.Sum.{value_mag}
+use Rattle.grade.proofs.Distances.{not_apart, apart_none}
+use Rattle.grade.proofs.Neighbours.{bare_none}
+use Rattle.grade.proofs.GradeLaws.{zero_value}
 
 pub above_finite : {p : ℕ} → p < 2 ^ 64 → T (finite (of_bits binary64 p)) → p + 1 < 2 ^ 64
 above_finite {p} h t =

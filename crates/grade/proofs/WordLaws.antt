@@ -17,26 +17,26 @@ use lib.Ieee.Nearest.{closest}
 use lib.Ieee.Scale.{finite}
 use Rattle.units.specs.Whole.{Whole, nat, ◌⊖◌, ◌≈◌, ◌≼◌, ◌≺◌, difference}
 use Rattle.units.specs.Rounding.{dropped}
-use Rattle.units.specs.Powers.{le_or_lt}
-use Rattle.units.specs.Integers.{mag_difference}
+use Rattle.units.proofs.Powers.{le_or_lt}
+use Rattle.units.proofs.Integers.{mag_difference}
 use Rattle.ieee.specs.Units.{Number, negative, magnitude, signed_whole, value, whole, sign_of, nearest_float, limit, rounded_bits}
-use Rattle.ieee.specs.Write.{round_bits}
-use Rattle.ieee.specs.Overflow.{rnd_finite, nearest_round, nearest_negative}
-use Rattle.ieee.specs.Nearest.{nearest_number}
-use Rattle.ieee.specs.Pattern.{bits_units}
+use Rattle.ieee.proofs.Write.{round_bits}
+use Rattle.ieee.proofs.Overflow.{rnd_finite, nearest_round, nearest_negative}
+use Rattle.ieee.proofs.Nearest.{nearest_number}
+use Rattle.ieee.proofs.Pattern.{bits_units}
 use Rattle.lists.specs.Digits.{number, Digits}
-use Rattle.lists.specs.TwosComplement.{signed_low, signed_high}
-use Rattle.lists.specs.Magnitude.{top_digit_lem}
+use Rattle.lists.proofs.TwosComplement.{signed_low, signed_high}
+use Rattle.lists.proofs.Magnitude.{top_digit_lem}
 use Rattle.kinds.specs.Limits.{doubles}
 use Rattle.words.specs.Words.{word_bits, word_count, register_bits, whole_of, words_of}
 use Rattle.addend.specs.Addend.{units_of}
 use Rattle.sums.specs.PartsLaws.{left_smaller}
-use Rattle.sums.specs.SumLaws.{whole_words}
-use Rattle.sums.specs.AnswerLaws.{whole_zero}
+use Rattle.sums.proofs.SumLaws.{whole_words}
+use Rattle.sums.proofs.AnswerLaws.{whole_zero}
 use Rattle.grade.specs.Grade.{near, other_side}
-use Rattle.grade.specs.Distances.{what_is_left, is_sum, sum_is}
-use Rattle.grade.specs.CaseLaws.{side_away, side_back}
-use Rattle.grade.specs.SideLaws.{near_signed, near_sum}
+use Rattle.grade.proofs.Distances.{what_is_left, is_sum, sum_is}
+use Rattle.grade.proofs.CaseLaws.{side_away, side_back}
+use Rattle.grade.proofs.SideLaws.{near_signed, near_sum}
 
 -- ---- the sign of words, from the top one
 sign_positive : (n : ℕ) → sign_of false (pos n) ≡ false

@@ -1,4 +1,2 @@
 -- The grade of a claimed sum, for C.
 pub mod GradeArrays
-pub mod GradeArraysLaws
-pub mod GradeCodes

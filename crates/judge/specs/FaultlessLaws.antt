@@ -1,22 +1,9 @@
--- A list without a fault: its first fault is none exactly then. Assumes nothing.
-use Rattle.std.specs.Prelude.{◌≡◌, refl, ◌↔◌, Bool, true, false, cond, ◌&&◌, List, [], ◌∷◌, ℕ, ◌+◌, eqb}
-use Rattle.lists.specs.Apart.{apart}
+-- What the theorems of proofs/FaultlessLaws.antt speak of. Definitions only.
+use Rattle.std.specs.Prelude.{Bool, List, ℕ}
 use Rattle.lists.specs.Every.{every}
 use Rattle.kinds.specs.Limits.{Width}
-use Rattle.kinds.specs.declared.Verdict.TheVariants.{Good, Refused}
-use Rattle.judge.specs.Judge.{fault_of, fault_free, first_fault}
+use Rattle.judge.specs.Judge.{fault_free}
 
 -- no pattern of a list has a fault
 abbrev pub faultless : Width → List ℕ → Bool
 faultless W ps = every (fault_free W) ps
-
--- ---- the first fault, places counted from k
-pub faultless_good : (W : Width) (ps : List ℕ) (k : ℕ) → (faultless W ps ≡ true) ↔ (first_fault W ps k ≡ Good)
-unfolding every first_fault
-faultless_good W [] k = (λ e. refl, λ e. refl)
-faultless_good W (p ∷ ps) k = go (eqb (fault_of W p) 0) (faultless_good W ps (k + 1))
-  where
-    go : (t : Bool) → (faultless W ps ≡ true) ↔ (first_fault W ps (k + 1) ≡ Good)
-        → ((t && faultless W ps) ≡ true) ↔ (cond t (first_fault W ps (k + 1)) (Refused (fault_of W p) k) ≡ Good)
-    go true h = h
-    go false h = (λ e. apart (cc), λ e. apart (cc))

@@ -4,9 +4,4 @@ pub mod Table
 pub mod FaultLaws
 pub mod FaultlessLaws
 pub mod GreatestLaws
-pub mod FirstBadLaws
-pub mod FirstFaultLaws
-pub mod AllowedLaws
-pub mod JudgeLaws
-pub mod ZeroLaws
 pub mod IeeeZero

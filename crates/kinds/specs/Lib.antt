@@ -4,6 +4,3 @@ pub mod States
 pub mod Outcome
 pub mod Heard
 pub mod HeardLaws
-pub mod Hearing
-pub mod LimitsLaws
-pub mod OutcomeLaws

@@ -13,9 +13,9 @@ use mir.Syntax.{w64}
 use mir.Val.{to_z, of_z}
 use Rattle.lanes.specs.Lanes.{lane_bits, lane_count, most_calls, lane_limit}
 use Rattle.lanes.specs.Settle.{lane_digit, handed_on, lane_digits, carry_into}
-use Rattle.lanes.specs.SettleLaws.{lane_at, carry_next, digits_next, digits_count, digit_lt}
+use Rattle.lanes.proofs.SettleLaws.{lane_at, carry_next, digits_next, digits_count, digit_lt}
 use Rattle.lanes.specs.Table.{Roomy}
-use Rattle.lanes.specs.RoomLaws.{lane_bound, carry_bound, lane_carry_bound}
+use Rattle.lanes.proofs.RoomLaws.{lane_bound, carry_bound, lane_carry_bound}
 use Rattle.lanes.proofs.Signed64.{mag_abs, back}
 
 module _ {zs : List ℤ} (R : Roomy most_calls zs) {i : ℕ} (h : i < length zs) (c : ℕ) (e : to_z w64 c ≡ carry_into zs i) where

@@ -13,7 +13,7 @@ use lib.Signed.{mag, le_z, lt_z}
 use mir.Syntax.{w64}
 use mir.Val.{to_z, of_z}
 use mir.ValLaws.{to_z-of_z}
-use Rattle.units.specs.Powers.{le_or_lt}
+use Rattle.units.proofs.Powers.{le_or_lt}
 use Rattle.lists.specs.Digits.{residue, inside}
 use Rattle.lanes.specs.Three.{with_sign}
 

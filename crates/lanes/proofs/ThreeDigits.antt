@@ -4,7 +4,7 @@ use Prim.Native.Nat.{ℕ, ◌+◌, ◌-◌, ◌*◌, ◌/◌, ◌%◌, ◌^◌, 
 use native.Mathlib.Nat.{mod-lt, mod-add-div}
 use native.Mathlib.Omega.{arith}
 use lib.Pow.{pow-add, split}
-use Rattle.lists.specs.WordShifts.{shifted_above}
+use Rattle.lists.proofs.WordShifts.{shifted_above}
 
 module _ (w m : ℕ) where
   pub lowest_and_above : (e : ℕ) → 0 < w → (m * 2 ^ (e % w) % 2 ^ w + m / 2 ^ (w - e % w) * 2 ^ w) * 2 ^ (w * (e / w)) ≡ m * 2 ^ e

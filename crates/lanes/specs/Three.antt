@@ -10,7 +10,7 @@ use Rattle.std.specs.Float.Ieee.{of_bits, top}
 use Rattle.std.specs.Float.Ieee.Scale.{finite}
 use Rattle.std.proofs.Math.IntN.{+ℤ_idr}
 use Rattle.std.proofs.Math.ListN.{length-replicate}
-use Rattle.units.specs.Powers.{le_or_lt}
+use Rattle.units.proofs.Powers.{le_or_lt}
 use Rattle.ieee.specs.Units.{magnitude}
 use Rattle.lists.specs.Digits.{number, digits, Digits}
 use Rattle.lists.specs.DigitLaws.{number_nil, number_cons, number_append, digits_more, digits_number}

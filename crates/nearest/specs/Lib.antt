@@ -1,8 +1,4 @@
 -- The leading digits of a number of words, and the bits of the double nearest to it. Definitions first, then laws.
 pub mod Head
 pub mod Bits
-pub mod HeadLaws
 pub mod Sticky
-pub mod NearestBits
-pub mod BitsLaws
-pub mod RegisterBits

@@ -1,4 +1,2 @@
 -- Products of pairs and the nearest weighted sum, for C.
 pub mod PairArrays
-pub mod PairArraysLaws
-pub mod PairCodes

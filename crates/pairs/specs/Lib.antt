@@ -4,14 +4,6 @@ pub mod Pairs
 pub mod Table
 pub mod Promise
 pub mod FaultLaws
-pub mod ZipLaws
-pub mod JudgedLaws
-pub mod TableLaws
-pub mod ProductLaws
-pub mod WriteLaws
 pub mod TotalLaws
 pub mod PairLaws
 pub mod ListLaws
-pub mod Instances
-pub mod Reordered
-pub mod Promised

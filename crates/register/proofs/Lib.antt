@@ -1,3 +1,12 @@
 -- What the proofs of single functions cite.
 pub mod TopBits
 pub mod ThreeBits
+pub mod AnyHistory
+pub mod EnterLaws
+pub mod Farewell
+pub mod MergeLaws
+pub mod RegisterLaws
+pub mod Rooms
+pub mod RoundedLaws
+pub mod RunLaws
+pub mod SitesLaws

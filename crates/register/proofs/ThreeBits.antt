@@ -6,14 +6,14 @@ use Prim.Native.Nat.{ℕ, ◌-◌}
 use lib.Dec.{lit<}
 use lib.IntN.{◌+ℤ◌}
 use Rattle.lists.specs.Digits.{inside}
-use Rattle.lists.specs.SignedSums.{cut_sum_inside}
+use Rattle.lists.proofs.SignedSums.{cut_sum_inside}
 use Rattle.kinds.specs.Outcome.{outcome}
 use Rattle.kinds.specs.declared.Entry.TheVariants.{Refused, Entered}
 use Rattle.words.specs.Words.{word_bits, word_count, register_bits, whole_of, words_of}
 use Rattle.addend.specs.Addend.{Held}
 use Rattle.register.specs.Signs.{sign_bit, crosses}
 use Rattle.register.specs.Merge.{merged, ThreeRegisters}
-use Rattle.register.specs.MergeLaws.{merged_out, merged_in}
+use Rattle.register.proofs.MergeLaws.{merged_out, merged_in}
 
 -- ss has the words of the sum
 module _ {us vs out ss : List ℕ} (U : Held us) (W : Held vs) (T : ThreeRegisters us vs out) (s : ss ≡ words_of (whole_of us +ℤ whole_of vs)) where

@@ -10,10 +10,10 @@ use borrow.Author.Tests.{lt-ltb, le-ltb}
 use lib.Dec.{lit<, lit≤}
 use lib.IntN.{ℤ, neg_ℤ, ◌+ℤ◌, ◌-ℤ◌, +ℤ-neg_ℤ_cancel}
 use lib.Ieee.{top}
-use Rattle.units.specs.Powers.{le_or_lt}
+use Rattle.units.proofs.Powers.{le_or_lt}
 use Rattle.addend.specs.PatternFields.{pattern_plus, pattern_minus}
 use Rattle.lists.specs.Digits.{inside}
-use Rattle.lists.specs.SignedDigits.{cut_plus, cut_whole, cut_plus_inside, cut_minus_inside}
+use Rattle.lists.proofs.SignedDigits.{cut_plus, cut_whole, cut_plus_inside, cut_minus_inside}
 use Rattle.kinds.specs.Limits.{doubles}
 use Rattle.kinds.specs.Outcome.{outcome}
 use Rattle.kinds.specs.declared.Entry.TheVariants.{Refused, Entered}
@@ -24,7 +24,7 @@ use Rattle.words.specs.Words.{word_bits, word_count, register_bits, whole_of, wo
 use Rattle.addend.specs.Addend.{units_of, Held}
 use Rattle.register.specs.Register.{added}
 use Rattle.register.specs.Signs.{sign_bit, leaves}
-use Rattle.register.specs.EnterLaws.{enter_out, enter_in}
+use Rattle.register.proofs.EnterLaws.{enter_out, enter_in}
 
 module _ {ws : List ℕ} (W : Held ws) where
   pub undone : (u : ℤ) → words_of (whole_of (words_of (whole_of ws +ℤ u)) -ℤ u) ≡ ws

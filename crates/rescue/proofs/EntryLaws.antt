@@ -9,7 +9,7 @@ use lib.ListN.{length, drop, get_or}
 use Rattle.kinds.specs.Limits.{doubles}
 use Rattle.judge.specs.Judge.{fault_of, fault_free}
 use Rattle.octets.specs.Octets.{big, bytes_at}
-use Rattle.octets.specs.EightsLaws.{eights_length, eights_at}
+use Rattle.octets.proofs.EightsLaws.{eights_length, eights_at}
 use Rattle.sheet.specs.Sheet.{patterns_of}
 
 module _ (bytes : List ℕ) (n i : ℕ) (h : i < n) where

@@ -1,2 +1,6 @@
 -- What the proofs of the loops over entries cite.
 pub mod EntryLaws
+pub mod Good
+pub mod Marks
+pub mod RescueLaws
+pub mod Saved

@@ -4,7 +4,7 @@ use native.Mathlib.Omega.{arith}
 use lib.Ieee.{binary64}
 use Rattle.kinds.specs.Limits.{doubles}
 use Rattle.kinds.specs.declared.State.{State}
-use Rattle.sound.specs.LimitLaws.{magnitude_doubles, room_doubles}
+use Rattle.sound.proofs.LimitLaws.{magnitude_doubles, room_doubles}
 use Rattle.rounds.specs.Closable.{PowerFrom, Closable}
 
 pub closable_power : {s : State} → Closable doubles s → PowerFrom binary64 0 s.sigma

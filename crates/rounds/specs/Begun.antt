@@ -3,17 +3,17 @@ use Rattle.std.specs.Prelude.{◌≡◌, List, ℕ, suc, ◌+◌, ◌-◌, ◌*�
 use Rattle.std.proofs.Common.{ap, mul-le-mul_left, mul-le-mul_right, lt_of_mul-lt-mul_right, arith, length-take, take_all, pow-add, pow_mono}
 use Rattle.std.specs.Float.Ieee.{prec}
 use Rattle.std.specs.Float.Ieee.Scale.{finite}
-use Rattle.units.specs.Ceiling.{ceil_ge}
-use Rattle.units.specs.Turns.{tau_zero}
+use Rattle.units.proofs.Ceiling.{ceil_ge}
+use Rattle.units.proofs.Turns.{tau_zero}
 use Rattle.ieee.specs.Units.{Number, whole}
-use Rattle.ieee.specs.Sum.{whole_mag}
+use Rattle.ieee.proofs.Sum.{whole_mag}
 use Rattle.lists.specs.Bitset.{full}
 use Rattle.lists.specs.Each.{Each, each_take, each_weaker}
 use Rattle.kinds.specs.Limits.{Width, exponent_of, blocks_of}
 use Rattle.kinds.specs.declared.State.{State}
 use Rattle.extract.specs.Extract.{plus_zero, gathered, remainder_of, remainders, largest, largest_with}
 use Rattle.extract.specs.LargestLaws.{Positive, zero_positive}
-use Rattle.extract.specs.LargestWithLaws.{with_positive}
+use Rattle.extract.proofs.LargestWithLaws.{with_positive}
 use Rattle.rounds.specs.Round.{all_taken, all_left, closed_by, closed}
 use Rattle.rounds.specs.Fitting.{Fitting}
 use Rattle.rounds.specs.InUnits.{Small, Scale, Tau, gathers, left_small, remainders_small}

@@ -6,7 +6,7 @@ use Rattle.std.proofs.Math.Bool.{true, false}
 use Rattle.std.proofs.Math.Dec.{eqb}
 use Rattle.std.specs.Float.{Format}
 use Rattle.std.specs.Float.Ieee.{add, sub, le, eq}
-use Rattle.lists.specs.Apart.{apart}
+use Rattle.lists.proofs.Apart.{apart}
 use Rattle.extract.specs.Extract.{plus_zero, absolute, last_sum}
 use Rattle.kinds.specs.Limits.{Width, exponent_of}
 use Rattle.kinds.specs.declared.State.{State}

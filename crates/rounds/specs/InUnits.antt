@@ -10,18 +10,18 @@ use Rattle.std.proofs.Math.ListN.{length}
 use Rattle.std.specs.Float.{Format}
 use Rattle.std.specs.Float.Ieee.{prec, emax, low, add}
 use Rattle.units.specs.Whole.{Whole, nat, ◌⊕◌, ◌⊖◌, ◌≈◌, mag, Within, int, All}
-use Rattle.units.specs.Powers.{le_or_lt, pow_split}
+use Rattle.units.proofs.Powers.{le_or_lt, pow_split}
 use Rattle.units.specs.Rounding.{fl}
-use Rattle.units.specs.SignedRounding.{fl_zero}
-use Rattle.units.specs.Integers.{int_same, int_difference, int_plus, int_minus}
+use Rattle.units.proofs.SignedRounding.{fl_zero}
+use Rattle.units.proofs.Integers.{int_same, int_difference, int_plus, int_minus}
 use Rattle.units.specs.Walk as units
-use Rattle.units.specs.Extraction.{extract}
-use Rattle.units.specs.Turns.{tau_under, turn_left, turn_exact, turn_tau}
+use Rattle.units.proofs.Extraction.{extract}
+use Rattle.units.proofs.Turns.{tau_under, turn_left, turn_exact, turn_tau}
 use Rattle.ieee.specs.Units.{Number, RoundedTo, magnitude, negative, value, whole, sign_of}
-use Rattle.ieee.specs.Rounded.{prec_pos}
-use Rattle.ieee.specs.Sum.{value_int, whole_mag}
-use Rattle.ieee.specs.Nearest.{number_rep}
-use Rattle.ieee.specs.InRange.{add_rounds, high_rounds, remainder_rounds}
+use Rattle.ieee.proofs.Rounded.{prec_pos}
+use Rattle.ieee.proofs.Sum.{value_int, whole_mag}
+use Rattle.ieee.proofs.Nearest.{number_rep}
+use Rattle.ieee.proofs.InRange.{add_rounds, high_rounds, remainder_rounds}
 use Rattle.lists.specs.Each.{Each, each_map}
 use Rattle.extract.specs.Extract.{high_part, remainder_of, remainders, gathered, largest}
 use Rattle.extract.specs.ExtractLaws.{largest_scaled}

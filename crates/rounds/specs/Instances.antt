@@ -5,7 +5,7 @@ use Rattle.std.proofs.Common.{lit<, lit≤}
 use Rattle.std.specs.Float.Ieee.{of_bits}
 use Rattle.ieee.specs.Units.{magnitude}
 use Rattle.kinds.specs.Limits.{doubles, singles}
-use Rattle.kinds.specs.LimitsLaws.{exponent_doubles, exponent_singles}
+use Rattle.kinds.proofs.LimitsLaws.{exponent_doubles, exponent_singles}
 use Rattle.rounds.specs.Fitting.{Fitting}
 
 unfoldable pub doubles_fit : Fitting doubles

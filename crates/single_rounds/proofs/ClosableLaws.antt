@@ -5,7 +5,7 @@ use native.Mathlib.Omega.{arith}
 use lib.Ieee.{binary32}
 use Rattle.kinds.specs.Limits.{singles}
 use Rattle.kinds.specs.declared.State.{State}
-use Rattle.sound.specs.LimitLaws.{magnitude_singles, room_singles}
+use Rattle.sound.proofs.LimitLaws.{magnitude_singles, room_singles}
 use Rattle.rounds.specs.Closable.{PowerFrom, Closable}
 
 pub closable_power : {s : State} → Closable singles s → PowerFrom binary32 0 s.sigma

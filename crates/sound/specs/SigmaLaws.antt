@@ -10,15 +10,15 @@ use Rattle.std.specs.Float.Ieee.Fits.{eq→eqb}
 use Rattle.std.specs.Float.Ieee.Bits.{is_true}
 use Rattle.std.specs.Float.Ieee.Scale.{finite}
 use Rattle.units.specs.Rounding.{ceil}
-use Rattle.units.specs.Ceiling.{ceil_ge, ceil_least, ceil_power}
-use Rattle.units.specs.Powers.{pow_le_back}
+use Rattle.units.proofs.Ceiling.{ceil_ge, ceil_least, ceil_power}
+use Rattle.units.proofs.Powers.{pow_le_back}
 use Rattle.ieee.specs.Units.{Number, negative, magnitude, pattern_units}
-use Rattle.ieee.specs.Fractions.{same_test}
-use Rattle.ieee.specs.Finite.{facts}
-use Rattle.lists.specs.Apart.{apart}
+use Rattle.ieee.proofs.Fractions.{same_test}
+use Rattle.ieee.proofs.Finite.{facts}
+use Rattle.lists.proofs.Apart.{apart}
 use Rattle.exponent.specs.Power.{powers, power_of}
-use Rattle.exponent.specs.PowerLaws.{power_number, power_negative, power_magnitude, power_same}
-use Rattle.exponent.specs.CeilingLaws.{positive_units}
+use Rattle.exponent.proofs.PowerLaws.{power_number, power_negative, power_magnitude, power_same}
+use Rattle.exponent.proofs.CeilingLaws.{positive_units}
 use Rattle.kinds.specs.Limits.{Width, exponent_of}
 use Rattle.judge.specs.Table.{size_of}
 use Rattle.sound.specs.Sound.{at_most, sound_sigma}

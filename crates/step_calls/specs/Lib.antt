@@ -2,6 +2,3 @@
 pub mod StepArrays
 pub mod Inner
 pub mod Readable
-pub mod StepArraysLaws
-pub mod StepCodes
-pub mod OpenZeros

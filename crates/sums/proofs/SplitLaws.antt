@@ -14,14 +14,14 @@ use lib.Ieee.{Float, of_bits, to_bits, is_nan}
 use lib.Ieee.Bits.{of_bits-to_bits}
 use lib.Ieee.Scale.{finite}
 use Rattle.ieee.specs.Units.{value, nearest_float, limit}
-use Rattle.ieee.specs.Finite.{finite_no_nan}
-use Rattle.ieee.specs.Nearest.{nearest_number}
+use Rattle.ieee.proofs.Finite.{finite_no_nan}
+use Rattle.ieee.proofs.Nearest.{nearest_number}
 use Rattle.kinds.specs.Limits.{doubles}
 use Rattle.words.specs.Words.{word_count, whole_of, words_of}
 use Rattle.addend.specs.Addend.{units_of}
 use Rattle.sums.specs.Sums.{parts}
 use Rattle.sums.specs.PartsLaws.{left_smaller, remaining, remaining_none, remaining_next, parts_none, parts_next}
-use Rattle.sums.specs.SumLaws.{whole_words}
+use Rattle.sums.proofs.SumLaws.{whole_words}
 
 module _ {part : Float} (z : Bool) (S : ℤ) (l : nat_abs S < limit doubles.format) (e : part ≡ nearest_float doubles.format z S) where
   pub part_no_nan : T (not (is_nan part))

@@ -5,10 +5,10 @@ use Rattle.std.specs.Float.Ieee.{size}
 use Rattle.std.specs.Float.Ieee.Digits.{size_reaches}
 use Rattle.units.specs.Whole.{Whole, ◌⊖◌, ◌⊗◌, Within, mag}
 use Rattle.units.specs.Rounding.{dropped, ufp, fl}
-use Rattle.units.specs.Powers.{pow_pred}
-use Rattle.units.specs.Ceiling.{size_gt}
-use Rattle.units.specs.NaturalRounding.{dropped_lt, reach}
-use Rattle.units.specs.SignedRounding.{rep_zero, rep_pow, fl_half, fl_mag, fl_within}
+use Rattle.units.proofs.Powers.{pow_pred}
+use Rattle.units.proofs.Ceiling.{size_gt}
+use Rattle.units.proofs.NaturalRounding.{dropped_lt, reach}
+use Rattle.units.proofs.SignedRounding.{rep_zero, rep_pow, fl_half, fl_mag, fl_within}
 
 pub ufp_le : (n : ℕ) → ufp n ≤ n
 unfolding ufp

@@ -6,16 +6,8 @@ pub mod Reordering
 pub mod NonOverlapping
 pub mod FirstPlace
 pub mod PartsLaws
-pub mod SumLaws
-pub mod SideSums
 pub mod SignLanesLaws
 pub mod SettleLaws
-pub mod AnswerLaws
 pub mod PartsMeaning
 pub mod Promised
-pub mod ZeroSums
-pub mod AnswerNumbers
-pub mod Farewell
-pub mod Reordered
 pub mod Merged
-pub mod Settled

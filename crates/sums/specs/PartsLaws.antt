@@ -12,12 +12,12 @@ use Rattle.std.specs.Float.{Format}
 use Rattle.std.specs.Float.Ieee.{prec}
 use Rattle.units.specs.Whole.{Whole, nat, ◌⊖◌, ◌≈◌, Within, mag, int, difference, exact_sum}
 use Rattle.units.specs.Rounding.{fl}
-use Rattle.units.specs.SignedRounding.{rep_zero, fl_same, fl_best}
-use Rattle.units.specs.Integers.{int_back, int_minus, int_difference, mag_difference}
+use Rattle.units.proofs.SignedRounding.{rep_zero, fl_same, fl_best}
+use Rattle.units.proofs.Integers.{int_back, int_minus, int_difference, mag_difference}
 use Rattle.ieee.specs.Units.{magnitude, value, nearest_float, limit}
-use Rattle.ieee.specs.Sum.{value_int, whole_mag}
-use Rattle.ieee.specs.Rounded.{prec_pos}
-use Rattle.ieee.specs.Overflow.{nearest_whole}
+use Rattle.ieee.proofs.Sum.{value_int, whole_mag}
+use Rattle.ieee.proofs.Rounded.{prec_pos}
+use Rattle.ieee.proofs.Overflow.{nearest_whole}
 use Rattle.sums.specs.FirstPlace.{rounding_apart}
 use Rattle.sums.specs.Sums.{parts}
 use Rattle.sums.specs.NonOverlapping.{Apart, NonOverlapping}

@@ -1,3 +1,2 @@
 -- A list in lanes. Definitions first, then laws.
 pub mod Timed
-pub mod TimedLaws

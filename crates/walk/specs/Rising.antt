@@ -7,7 +7,7 @@ use Prim.Native.Nat.{ℕ, zero, suc, ◌-◌, ◌*◌, ◌^◌, ◌<◌}
 use Rattle.std.proofs.Math.Nat.{sub_self}
 use borrow.Author.Tests.{eq-eqb, ne_eqb}
 use Rattle.std.proofs.Math.Pow.{pow-lt, pow_pos}
-use Rattle.lists.specs.BitsetLaws.{has_from}
+use Rattle.lists.proofs.BitsetLaws.{has_from}
 use Rattle.kinds.specs.Limits.{Width, blocks_of}
 use Rattle.kinds.specs.Outcome.{outcome}
 use Rattle.kinds.specs.declared.State.{State}
@@ -18,7 +18,7 @@ use Rattle.sound.specs.Sound.{gated}
 use Rattle.rounds.specs.Round.{all_taken, all_left, closed}
 use Rattle.rounds.specs.Fitting.{Fitting}
 use Rattle.rounds.specs.Begun.{Begun}
-use Rattle.rounds.specs.Blocks.{tau_at, largest_at, state_at, work_at, next_state, next_work, first_state, first_work, covers, last_state, last_work}
+use Rattle.rounds.proofs.Blocks.{tau_at, largest_at, state_at, work_at, next_state, next_work, first_state, first_work, covers, last_state, last_work}
 use Rattle.walk.specs.Walk.{Walked, taken, stepped, stepped_after, onward, rising}
 use Rattle.walk.specs.Stepping.{stepping, stepping_accepted}
 

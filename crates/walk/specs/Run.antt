@@ -5,7 +5,7 @@ use Rattle.std.proofs.Math.Path.{refl, ap}
 use Rattle.std.proofs.Common.{sym, ◌∙◌, subst, le_trans, arith, pow_mono}
 use mathlib.Core.List.{List, [], ◌∷◌, foldl}
 use Prim.Native.Nat.{ℕ, zero, suc, ◌+◌, ◌-◌, ◌^◌, ◌≤◌, ◌<◌}
-use Rattle.lists.specs.Apart.{apart}
+use Rattle.lists.proofs.Apart.{apart}
 use Rattle.lists.specs.Each.{each_weaker}
 use Rattle.kinds.specs.Limits.{Width, exponent_of, blocks_of}
 use Rattle.kinds.specs.Outcome.{outcome}
@@ -21,7 +21,8 @@ use Rattle.rounds.specs.InUnits.{remainders_small}
 use Rattle.rounds.specs.Closable.{Closable}
 use Rattle.rounds.specs.Fitting.{Fitting}
 use Rattle.rounds.specs.Begun.{Begun, begun_rounds, largest_left, closes_by}
-use Rattle.rounds.specs.Closes.{Next, ends, goes, falls}
+use Rattle.rounds.specs.Closes.{Next}
+use Rattle.rounds.proofs.Closes.{ends, goes, falls}
 use Rattle.walk.specs.Walk.{Walked, onward, rising, rounds_from}
 use Rattle.walk.specs.Rising.{round_closes}
 

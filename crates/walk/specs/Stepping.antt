@@ -19,8 +19,8 @@ use Rattle.extract.specs.LargestLaws.{Positive}
 use Rattle.sound.specs.Sound.{sound_pending, bad_place, sound, gated}
 use Rattle.sound.specs.Numbers.{SigmaBetween, Numbers}
 use Rattle.sound.specs.SigmaLaws.{limit_is}
-use Rattle.sound.specs.SoundLaws.{numbers_true, sound_all}
-use Rattle.sound.specs.GateLaws.{gated_good}
+use Rattle.sound.proofs.SoundLaws.{numbers_true, sound_all}
+use Rattle.sound.proofs.GateLaws.{gated_good}
 use Rattle.rounds.specs.Round.{in_round}
 use Rattle.rounds.specs.Fitting.{Fitting}
 use Rattle.rounds.specs.InUnits.{Small, remainders_small, largest_eps}

@@ -1,3 +1,2 @@
 -- The leaver's weight handed on, for C.
 pub mod WeightArrays
-pub mod WeightCodes

@@ -2,7 +2,7 @@
 use borrow.Author.Rules.{rules}
 use mathlib.Core.Path.{◌∙◌}
 use Rattle.kinds.specs.Limits.{doubles}
-use Rattle.addend.specs.RegisterWords.{held, rises, falls, units_plus, units_minus}
+use Rattle.addend.proofs.RegisterWords.{held, rises, falls, units_plus, units_minus}
 use Rattle.addend.proofs.add.Goals as goal
 
 pub returns-then-p-lt-SIGN : goal.returns-then-p-lt-SIGN

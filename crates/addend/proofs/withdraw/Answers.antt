@@ -9,7 +9,7 @@ use Rattle.addend.specs.OppositePattern.{opposite_finite}
 use Rattle.kinds.specs.Limits.{doubles}
 use Rattle.words.specs.Words.{whole_of, words_of}
 use Rattle.addend.specs.Addend.{units_of}
-use Rattle.addend.specs.RegisterWords.{opposite_units}
+use Rattle.addend.proofs.RegisterWords.{opposite_units}
 use Rattle.addend.proofs.withdraw.Goals as goal
 
 pub returns : goal.returns

@@ -1,6 +1,6 @@
 -- `bitset::full` meets its contract: the leading digits of a number of 64 ones. Assumes nothing.
 use borrow.Author.Rules.{rules}
-use Rattle.lists.specs.BitsetLaws.{full_shift}
+use Rattle.lists.proofs.BitsetLaws.{full_shift}
 use Rattle.bitset.proofs.full.Goals as goal
 
 pub returns : goal.returns

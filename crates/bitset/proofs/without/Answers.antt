@@ -1,6 +1,6 @@
 -- `bitset::without` meets its contract: a mask of all digits but one. Assumes nothing.
 use borrow.Author.Rules.{rules}
-use Rattle.lists.specs.BitsetLaws.{shift_mask}
+use Rattle.lists.proofs.BitsetLaws.{shift_mask}
 use Rattle.bitset.proofs.without.Goals as goal
 
 pub returns : goal.returns

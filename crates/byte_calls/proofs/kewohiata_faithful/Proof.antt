@@ -7,7 +7,7 @@ use borrow.Author.Rules.{rules}
 use lib.ListN.{length}
 use Rattle.kinds.specs.Outcome.{outcome}
 use Rattle.calls.specs.Calls.{length_fault, faithful_heard}
-use Rattle.calls.specs.CallsLaws.{fitting, sixteen, sum_refused, sum_summed}
+use Rattle.calls.proofs.CallsLaws.{fitting, sixteen, sum_refused, sum_summed}
 use Rattle.byte_calls.proofs.kewohiata_faithful.Statement.{statement}
 use Rattle.byte_calls.proofs.kewohiata_faithful.Tie as tie
 

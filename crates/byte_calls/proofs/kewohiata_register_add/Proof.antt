@@ -7,8 +7,8 @@ use Rattle.kinds.specs.Heard.{entry_heard}
 use Rattle.register.specs.Register.{Changed, added}
 use Rattle.calls.specs.Calls.{answered}
 use Rattle.calls.specs.Inner.{EntryRefusal}
-use Rattle.calls.specs.CallsLaws.{register_refused, register_registered}
-use Rattle.calls.specs.RefusalLaws.{entry_refusal}
+use Rattle.calls.proofs.CallsLaws.{register_refused, register_registered}
+use Rattle.calls.proofs.RefusalLaws.{entry_refusal}
 use Rattle.byte_calls.proofs.kewohiata_register_add.Statement.{statement}
 use Rattle.byte_calls.proofs.kewohiata_register_add.Tie as tie
 

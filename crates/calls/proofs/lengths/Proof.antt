@@ -2,7 +2,7 @@
 use mathlib.Core.Path.{sym}
 use borrow.Author.Rules.{rules}
 use lib.ListN.{length}
-use Rattle.calls.specs.CallsLaws.{fault_1, fault_list, fault_out, fault_0}
+use Rattle.calls.proofs.CallsLaws.{fault_1, fault_list, fault_out, fault_0}
 use Rattle.calls.proofs.lengths.Statement.{statement}
 use Rattle.calls.proofs.lengths.Tie as tie
 

@@ -3,7 +3,7 @@ use native.Mathlib.Nat.{add-zero}
 use mathlib.Core.Path.{sym, ap, ◌∙◌}
 use Prim.Native.Nat.{ℕ, ◌+◌}
 use borrow.Author.Rules.{rules}
-use Rattle.calls.specs.CallsLaws.{code_told, code_silent}
+use Rattle.calls.proofs.CallsLaws.{code_told, code_silent}
 use Rattle.calls.proofs.refusal.Statement.{statement}
 use Rattle.calls.proofs.refusal.Tie as tie
 

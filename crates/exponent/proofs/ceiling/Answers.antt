@@ -4,8 +4,8 @@ use lib.Dec.{T}
 use lib.Ieee.{binary64}
 use Rattle.units.specs.Rounding.{ceil}
 use Rattle.ieee.specs.Units.{Number}
-use Rattle.ieee.specs.Finite.{finite_no_nan}
-use Rattle.exponent.specs.CeilingLaws.{positive_bits, positive_units}
+use Rattle.ieee.proofs.Finite.{finite_no_nan}
+use Rattle.exponent.proofs.CeilingLaws.{positive_bits, positive_units}
 use Rattle.exponent.proofs.ceiling.Goals as goal
 
 pub float_to_bits-mu : goal.float_to_bits-mu

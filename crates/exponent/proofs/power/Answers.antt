@@ -8,8 +8,8 @@ use native.Mathlib.Omega.{arith}
 use lib.Pow.{pow-lt}
 use lib.Dec.{T}
 use lib.Ieee.{binary64, nan_bits}
-use Rattle.ieee.specs.Pattern.{pattern_no_nan}
-use Rattle.exponent.specs.PowerLaws.{low_power, high_power}
+use Rattle.ieee.proofs.Pattern.{pattern_no_nan}
+use Rattle.exponent.proofs.PowerLaws.{low_power, high_power}
 use Rattle.exponent.proofs.power.Goals as goal
 
 one : {k : ℕ} → k < 52 → 1 * 2 ^ k % 2 ^ 64 ≡ 2 ^ k

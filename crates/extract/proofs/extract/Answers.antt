@@ -13,15 +13,15 @@ use lib.Ieee.Scale.{finite}
 use lib.ListN.{length, take, drop, get_or}
 use lib.Seq.{take_all}
 use Rattle.lists.specs.Each.{each_at}
-use Rattle.lists.specs.Front.{end_map, take_next}
+use Rattle.lists.proofs.Front.{end_map, take_next}
 use Rattle.ieee.specs.Units.{Number, magnitude}
-use Rattle.ieee.specs.Finite.{finite_no_nan}
-use Rattle.ieee.specs.Pattern.{pattern_no_nan}
+use Rattle.ieee.proofs.Finite.{finite_no_nan}
+use Rattle.ieee.proofs.Pattern.{pattern_no_nan}
 use Rattle.extract.specs.Extract.{high_part, remainder_of, remainders, gathered, largest}
 use Rattle.extract.specs.ExtractLaws.{remainders_next, gathered_next, largest_none, largest_next}
-use Rattle.extract.specs.TurnLaws.{turn_read, turn_stored}
+use Rattle.extract.proofs.TurnLaws.{turn_read, turn_stored}
 use Rattle.extract.specs.LargestLaws.{Positive, Stands, number_stands, larger, kept}
-use Rattle.extract.specs.LargestWithLaws.{positive_stands, remainders_numbers, stands_with}
+use Rattle.extract.proofs.LargestWithLaws.{positive_stands, remainders_numbers, stands_with}
 use Rattle.extract.proofs.extract.Goals as goal
 
 -- one turn: what is read at i, and what the sum and the largest magnitude are

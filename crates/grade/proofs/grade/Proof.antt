@@ -7,14 +7,14 @@ use borrow.Author.Tests.{lt-ltb, le-ltb}
 use lib.IntN.{ℤ}
 use lib.Ieee.{binary64, of_bits}
 use lib.Ieee.Scale.{finite}
-use Rattle.ieee.specs.Pattern.{pattern_finite}
+use Rattle.ieee.proofs.Pattern.{pattern_finite}
 use Rattle.kinds.specs.Limits.{doubles}
 use Rattle.kinds.specs.declared.Verdict.TheVariants.{Good}
-use Rattle.judge.specs.JudgeLaws.{list_when, list_passed, list_allowed}
+use Rattle.judge.proofs.JudgeLaws.{list_when, list_passed, list_allowed}
 use Rattle.sums.specs.Sums.{sum_of}
-use Rattle.sums.specs.SumLaws.{sums_doubles, sum_below_limit, sum_whole}
+use Rattle.sums.proofs.SumLaws.{sums_doubles, sum_below_limit, sum_whole}
 use Rattle.grade.specs.Grade.{grade_at}
-use Rattle.grade.specs.AnswerLaws.{list_refused, claim_refused, claim_graded}
+use Rattle.grade.proofs.AnswerLaws.{list_refused, claim_refused, claim_graded}
 use Rattle.grade.proofs.grade.Statement.{statement}
 use Rattle.grade.proofs.grade.Tie as tie
 

@@ -4,7 +4,7 @@ use Prim.Native.Nat.{ℕ}
 use borrow.Author.Rules.{rules}
 use Rattle.kinds.specs.Outcome.{outcome}
 use Rattle.grade.specs.declared.Graded.TheVariants.{Exact, Nearest, Faithful, Wrong, Refused}
-use Rattle.grade_calls.specs.GradeArraysLaws.{grade_other, grade_answered, grade_refusal}
+use Rattle.grade_calls.proofs.GradeArraysLaws.{grade_other, grade_answered, grade_refusal}
 use Rattle.grade_calls.proofs.kewohiata_list_grade.Statement.{statement}
 use Rattle.grade_calls.proofs.kewohiata_list_grade.Tie as tie
 

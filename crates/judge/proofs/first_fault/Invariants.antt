@@ -7,7 +7,7 @@ use borrow.Author.Rules.{rules}
 use lib.ListN.{length}
 use Rattle.kinds.specs.Limits.{doubles}
 use Rattle.judge.specs.Table.{Clean}
-use Rattle.judge.specs.FirstFaultLaws.{clean_none, clean_more, clean_fewer, first_good, first_refused}
+use Rattle.judge.proofs.FirstFaultLaws.{clean_none, clean_more, clean_fewer, first_good, first_refused}
 use Rattle.judge.proofs.first_fault.Given as goal
 
 abbrev pub invariant-loop-place : goal.invariant-loop-place

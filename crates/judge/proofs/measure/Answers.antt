@@ -5,12 +5,12 @@ use native.Mathlib.Omega.{arith}
 use borrow.Author.Rules.{rules}
 use borrow.Author.Tests.{not-false}
 use lib.Dec.{T}
-use Rattle.lists.specs.Apart.{apart}
+use Rattle.lists.proofs.Apart.{apart}
 use Rattle.kinds.specs.Limits.{doubles}
 use Rattle.judge.specs.Judge.{first_fault, judged}
 use Rattle.judge.specs.FaultLaws.{proper_doubles}
 use Rattle.judge.specs.GreatestLaws.{greatest_good}
-use Rattle.judge.specs.JudgeLaws.{judged_1, judged_4, judged_5, judged_passed}
+use Rattle.judge.proofs.JudgeLaws.{judged_1, judged_4, judged_5, judged_passed}
 use Rattle.judge.proofs.measure.Goals as goal
 
 is_so : {b : Bool} → b ≡ true → T b

@@ -11,7 +11,7 @@ use lib.ListN.{length}
 use Rattle.lists.specs.Every.{Looked, looked_none, looked_next}
 use Rattle.kinds.specs.Limits.{doubles}
 use Rattle.judge.specs.Judge.{minus_pattern}
-use Rattle.judge.specs.ZeroLaws.{sign_stops, sign_ends}
+use Rattle.judge.proofs.ZeroLaws.{sign_stops, sign_ends}
 use Rattle.judge.proofs.zero_sign.Given as goal
 
 abbrev pub invariant-loop-at : goal.invariant-loop-at

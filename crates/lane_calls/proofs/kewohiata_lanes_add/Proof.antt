@@ -3,7 +3,7 @@ use mathlib.Core.Path.{sym, ap, subst}
 use borrow.Author.Rules.{rules}
 use Rattle.lanes.specs.Lanes.{Laying}
 use Rattle.lane_calls.specs.LaneArrays.{LaidRefusal}
-use Rattle.lane_calls.specs.LaneArraysLaws.{laid_other, laid_answered, lay_laid}
+use Rattle.lane_calls.proofs.LaneArraysLaws.{laid_other, laid_answered, lay_laid}
 use Rattle.lane_calls.proofs.kewohiata_lanes_add.Statement.{statement}
 use Rattle.lane_calls.proofs.kewohiata_lanes_add.Tie as tie
 

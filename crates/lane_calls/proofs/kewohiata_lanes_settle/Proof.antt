@@ -3,7 +3,7 @@ use mathlib.Core.Path.{sym, ap, subst}
 use borrow.Author.Rules.{rules}
 use Rattle.lanes.specs.Lanes.{Settling}
 use Rattle.lane_calls.specs.LaneArrays.{LaidRefusal}
-use Rattle.lane_calls.specs.LaneArraysLaws.{settle_other, settle_answered, settle_laid}
+use Rattle.lane_calls.proofs.LaneArraysLaws.{settle_other, settle_answered, settle_laid}
 use Rattle.lane_calls.proofs.kewohiata_lanes_settle.Statement.{statement}
 use Rattle.lane_calls.proofs.kewohiata_lanes_settle.Tie as tie
 

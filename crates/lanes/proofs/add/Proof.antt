@@ -13,8 +13,8 @@ use Rattle.judge.specs.Judge.{fault_of}
 use Rattle.judge.specs.FaultLaws.{fault_0}
 use Rattle.lanes.specs.declared.Laid.TheVariants.{Counted}
 use Rattle.lanes.specs.Lanes.{roomy}
-use Rattle.lanes.specs.RoomLaws.{roomy_when, roomy_most}
-use Rattle.lanes.specs.LayLaws.{lay_long, lay_tight, lay_bad, lay_full, lay_in}
+use Rattle.lanes.proofs.RoomLaws.{roomy_when, roomy_most}
+use Rattle.lanes.proofs.LayLaws.{lay_long, lay_tight, lay_bad, lay_full, lay_in}
 use Rattle.lanes.proofs.add.Statement.{statement}
 use Rattle.lanes.proofs.add.Tie as tie
 

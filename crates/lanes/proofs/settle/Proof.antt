@@ -12,10 +12,10 @@ use Rattle.lists.specs.Digits.{inside}
 use Rattle.words.specs.Words.{register_bits}
 use Rattle.lanes.specs.declared.Laid.TheVariants.{Counted}
 use Rattle.lanes.specs.Lanes.{lane_bits, lane_sum, roomy, settling}
-use Rattle.lanes.specs.RoomLaws.{roomy_when, roomy_most, lane_carry_bound}
+use Rattle.lanes.proofs.RoomLaws.{roomy_when, roomy_most, lane_carry_bound}
 use Rattle.lanes.specs.Settle.{top_lane}
-use Rattle.lanes.specs.TopLaws.{lanes_inside}
-use Rattle.lanes.specs.LayLaws.{settled_lanes_long, settled_words_long, settled_tight, settled_out, settled_in}
+use Rattle.lanes.proofs.TopLaws.{lanes_inside}
+use Rattle.lanes.proofs.LayLaws.{settled_lanes_long, settled_words_long, settled_tight, settled_out, settled_in}
 use Rattle.lanes.proofs.Signed64.{mag_abs, back}
 use Rattle.lanes.proofs.settle.Statement.{statement}
 use Rattle.lanes.proofs.settle.Tie as tie

@@ -1,6 +1,6 @@
 -- `lanes::withdraw` meets its contract: a withdrawal is the addition of the opposite number. Assumes nothing.
 use borrow.Author.Rules.{rules}
-use Rattle.lanes.specs.LayLaws.{lane_withdrawn_added}
+use Rattle.lanes.proofs.LayLaws.{lane_withdrawn_added}
 use Rattle.lanes.proofs.withdraw.Statement.{statement}
 use Rattle.lanes.proofs.withdraw.Tie as tie
 

@@ -3,7 +3,7 @@ use mathlib.Core.Path.{◌≡◌}
 use Prim.Native.Nat.{◌-◌}
 use native.Mathlib.Omega.{arith}
 use lib.ListN.{length-take}
-use Rattle.lines.specs.LinesLaws.{sheet_refused, read_refusal, sheet_accepted, read_few, read_room}
+use Rattle.lines.proofs.LinesLaws.{sheet_refused, read_refusal, sheet_accepted, read_few, read_room}
 use borrow.Author.Rules.{rules}
 use Rattle.lines.proofs.lines.Statement.{statement}
 use Rattle.lines.proofs.lines.Tie as tie

@@ -4,12 +4,12 @@ use borrow.Author.Rules.{rules}
 use native.Mathlib.Omega.{arith}
 use Rattle.kinds.specs.Limits.{doubles}
 use Rattle.walk.specs.Walk.{Walked}
-use Rattle.sums.specs.SumLaws.{sums_doubles}
-use Rattle.sums.specs.AnswerNumbers.{nearest_no_nan, nearest_refusal}
+use Rattle.sums.proofs.SumLaws.{sums_doubles}
+use Rattle.sums.proofs.AnswerNumbers.{nearest_no_nan, nearest_refusal}
 use Rattle.rounds.specs.Instances.{doubles_fit}
-use Rattle.runs.specs.AnswerNumbers.{faithful_no_nan, faithful_rounds, faithful_refusal}
-use Rattle.numerals.specs.TextLaws.{nothing}
-use Rattle.lines.specs.SumLaws.{lines_more, lines_refused, lines_near_refused, lines_three}
+use Rattle.runs.proofs.AnswerNumbers.{faithful_no_nan, faithful_rounds, faithful_refusal}
+use Rattle.numerals.proofs.TextLaws.{nothing}
+use Rattle.lines.proofs.SumLaws.{lines_more, lines_refused, lines_near_refused, lines_three}
 use Rattle.lines.proofs.summed.Statement.{statement}
 use Rattle.lines.proofs.summed.Tie as tie
 

@@ -1,7 +1,7 @@
 -- `nearest::nearest_double` meets its contract: below the limit the nearest double's bits are a finite one's. Assumes nothing.
 use Rattle.std.proofs.Common.{nat_abs, ◌∙◌, rules}
 use lib.Ieee.{binary64}
-use Rattle.nearest.specs.NearestBits.{bits_finite, bits_nearest}
+use Rattle.nearest.proofs.NearestBits.{bits_finite, bits_nearest}
 use Rattle.words.specs.Words.{whole_of}
 use Rattle.nearest.proofs.nearest_double.Goals as goal
 

@@ -3,7 +3,7 @@ use mathlib.Core.Path.{◌≡◌}
 use native.Mathlib.Omega.{arith}
 use borrow.Author.Rules.{rules}
 use lib.ListN.{length}
-use Rattle.numerals.specs.NumeralLaws.{Spelling, spelling_begins, spelling_goes_on, spelling_ends}
+use Rattle.numerals.proofs.NumeralLaws.{Spelling, spelling_begins, spelling_goes_on, spelling_ends}
 use Rattle.numerals.proofs.capitals.Statement.{statement}
 use Rattle.numerals.proofs.capitals.Tie as tie
 

@@ -2,8 +2,8 @@
 use Prim.Native.Nat.{◌≤◌}
 use native.Mathlib.Omega.{arith}
 use lib.ListN.{length}
-use Rattle.numerals.specs.TextLaws.{placed_behind}
-use Rattle.numerals.specs.NumeralLaws.{front_decimal}
+use Rattle.numerals.proofs.TextLaws.{placed_behind}
+use Rattle.numerals.proofs.NumeralLaws.{front_decimal}
 use borrow.Author.Rules.{rules}
 use Rattle.numerals.proofs.decimal.Statement.{statement}
 use Rattle.numerals.proofs.decimal.Tie as tie

@@ -2,7 +2,7 @@
 use Prim.Native.Nat.{◌≤◌}
 use native.Mathlib.Omega.{arith}
 use lib.ListN.{length}
-use Rattle.numerals.specs.TextLaws.{placed_behind}
+use Rattle.numerals.proofs.TextLaws.{placed_behind}
 use borrow.Author.Rules.{rules}
 use Rattle.numerals.proofs.pattern.Statement.{statement}
 use Rattle.numerals.proofs.pattern.Tie as tie

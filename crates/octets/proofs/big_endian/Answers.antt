@@ -4,7 +4,7 @@ use Prim.Native.Nat.{◌*◌, ◌-◌, ◌^◌, ◌≤◌, ◌<◌}
 use native.Mathlib.Omega.{arith}
 use borrow.Author.Rules.{rules}
 use Rattle.octets.specs.Octets.{big, bytes_at}
-use Rattle.octets.specs.OctetsLaws.{big_none, big_next, room, bound_next}
+use Rattle.octets.proofs.OctetsLaws.{big_none, big_next, room, bound_next}
 use Rattle.octets.proofs.big_endian.Goals as goal
 
 pub loop-i-init : goal.loop-i-init

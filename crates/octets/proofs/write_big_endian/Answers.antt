@@ -8,7 +8,7 @@ use native.Mathlib.Omega.{arith}
 use borrow.Author.Rules.{rules}
 use lib.ListN.{length, take, drop}
 use Rattle.octets.specs.Octets.{big_endian}
-use Rattle.octets.specs.OctetsLaws.{rest_next, big_written_none, big_written_next, big_written_all}
+use Rattle.octets.proofs.OctetsLaws.{rest_next, big_written_none, big_written_next, big_written_all}
 use Rattle.octets.proofs.write_big_endian.Goals as goal
 
 pub loop-done-init : goal.loop-done-init

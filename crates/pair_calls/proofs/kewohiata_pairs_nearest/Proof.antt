@@ -8,7 +8,7 @@ use Rattle.kinds.specs.Heard.{nearest_heard}
 use Rattle.kinds.specs.declared.Nearest.{Nearest}
 use Rattle.arrays.specs.Arrays.{code_of, values_of}
 use Rattle.arrays.specs.Inner.{NearestRefusal}
-use Rattle.pair_calls.specs.PairArraysLaws.{weighted_other, weighted_called, weighted_refusal}
+use Rattle.pair_calls.proofs.PairArraysLaws.{weighted_other, weighted_called, weighted_refusal}
 use Rattle.pair_calls.proofs.kewohiata_pairs_nearest.Statement.{statement}
 use Rattle.pair_calls.proofs.kewohiata_pairs_nearest.Tie as tie
 

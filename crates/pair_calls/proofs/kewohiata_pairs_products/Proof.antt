@@ -6,8 +6,8 @@ use Rattle.kinds.specs.Outcome.{Outcome}
 use Rattle.pairs.specs.Pairs.{paired_heard}
 use Rattle.pairs.specs.declared.Paired.{Paired}
 use Rattle.pairs.specs.declared.Paired.TheVariants.{Multiplied}
-use Rattle.arrays.specs.ArraysLaws.{code_returned}
-use Rattle.pair_calls.specs.PairArraysLaws.{products_refusal}
+use Rattle.arrays.proofs.ArraysLaws.{code_returned}
+use Rattle.pair_calls.proofs.PairArraysLaws.{products_refusal}
 use Rattle.pair_calls.proofs.kewohiata_pairs_products.Statement.{statement}
 use Rattle.pair_calls.proofs.kewohiata_pairs_products.Tie as tie
 

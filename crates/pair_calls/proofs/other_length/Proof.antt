@@ -3,9 +3,9 @@ use mathlib.Core.Path.{sym}
 use Prim.Native.Nat.{◌≤◌}
 use lib.ListN.{length}
 use Rattle.pairs.specs.Limits.{double_pairs}
-use Rattle.pairs.specs.JudgedLaws.{either_above, neither_above}
+use Rattle.pairs.proofs.JudgedLaws.{either_above, neither_above}
 use Rattle.pair_calls.specs.PairArrays.{too_many, unlike, otherwise}
-use Rattle.pair_calls.specs.PairArraysLaws.{other_when}
+use Rattle.pair_calls.proofs.PairArraysLaws.{other_when}
 use Rattle.pair_calls.proofs.other_length.Statement.{statement}
 use Rattle.pair_calls.proofs.other_length.Tie as tie
 

@@ -10,18 +10,18 @@ use Rattle.ieee.specs.Units.{nearest_float, limit}
 use Rattle.kinds.specs.Limits.{doubles}
 use Rattle.kinds.specs.declared.Verdict.TheVariants.{Good}
 use Rattle.kinds.specs.declared.Nearest.TheVariants.{Sum}
-use Rattle.judge.specs.JudgeLaws.{list_passed, list_allowed}
+use Rattle.judge.proofs.JudgeLaws.{list_passed, list_allowed}
 use Rattle.words.specs.Words.{whole_of}
 use Rattle.sums.specs.Sums.{sum_of}
-use Rattle.sums.specs.SumLaws.{sums_doubles, sum_below_limit, total_whole}
+use Rattle.sums.proofs.SumLaws.{sums_doubles, sum_below_limit, total_whole}
 use Rattle.pairs.specs.Limits.{double_pairs}
 use Rattle.pairs.specs.Pairs.{products_of}
 use Rattle.pairs.specs.Table.{PairsWhen}
-use Rattle.pairs.specs.JudgedLaws.{pairs_when, when_matching, when_allowed}
-use Rattle.pairs.specs.TableLaws.{refused_weighs}
-use Rattle.pairs.specs.PairLaws.{each_pair}
-use Rattle.pairs.specs.ListLaws.{products_taken, weighted_float}
-use Rattle.pairs.specs.Instances.{roomy_doubles}
+use Rattle.pairs.proofs.JudgedLaws.{pairs_when, when_matching, when_allowed}
+use Rattle.pairs.proofs.TableLaws.{refused_weighs}
+use Rattle.pairs.proofs.PairLaws.{each_pair}
+use Rattle.pairs.proofs.ListLaws.{products_taken, weighted_float}
+use Rattle.pairs.proofs.Instances.{roomy_doubles}
 use Rattle.pairs.proofs.nearest.Statement.{statement}
 use Rattle.pairs.proofs.nearest.Tie as tie
 

@@ -12,8 +12,8 @@ use Rattle.kinds.specs.Outcome.{outcome}
 use Rattle.pairs.specs.Limits.{double_pairs}
 use Rattle.pairs.specs.Pairs.{two_each, pairs_judged}
 use Rattle.pairs.specs.Table.{PairsWhen}
-use Rattle.pairs.specs.JudgedLaws.{pairs_when, when_matching, when_allowed, when_area}
-use Rattle.pairs.specs.TableLaws.{good_multiplies, refused_multiplies}
+use Rattle.pairs.proofs.JudgedLaws.{pairs_when, when_matching, when_allowed, when_area}
+use Rattle.pairs.proofs.TableLaws.{good_multiplies, refused_multiplies}
 use Rattle.pairs.specs.declared.Paired.TheVariants.{Multiplied}
 use Rattle.pairs.proofs.products.Statement.{statement}
 use Rattle.pairs.proofs.products.Tie as tie

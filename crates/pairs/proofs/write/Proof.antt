@@ -9,8 +9,8 @@ use lib.Ieee.{to_bits}
 use Rattle.kinds.specs.Limits.{doubles}
 use Rattle.pairs.specs.Limits.{double_pairs}
 use Rattle.pairs.specs.Pairs.{Pair, product_of, error_of, products_of}
-use Rattle.pairs.specs.ZipLaws.{zip_length, zip_at}
-use Rattle.pairs.specs.WriteLaws.{written_none, written_next, written_all}
+use Rattle.pairs.proofs.ZipLaws.{zip_length, zip_at}
+use Rattle.pairs.proofs.WriteLaws.{written_none, written_next, written_all}
 use Rattle.pairs.proofs.write.Statement.{statement}
 use Rattle.pairs.proofs.write.Tie as tie
 

@@ -11,8 +11,8 @@ use Rattle.kinds.specs.Outcome.{Outcome}
 use Rattle.kinds.specs.declared.Parted.{Parted}
 use Rattle.kinds.specs.declared.Parted.TheVariants.{Parts, Refused}
 use Rattle.arrays.specs.Arrays.{values_of, returned}
-use Rattle.arrays.specs.ArraysLaws.{heard_returned}
-use Rattle.part_calls.specs.PartArraysLaws.{parts_other, parts_parted, parts_refusal}
+use Rattle.arrays.proofs.ArraysLaws.{heard_returned}
+use Rattle.part_calls.proofs.PartArraysLaws.{parts_other, parts_parted, parts_refusal}
 use Rattle.part_calls.proofs.kewohiata_list_parts.Statement.{statement}
 use Rattle.part_calls.proofs.kewohiata_list_parts.Tie as tie
 

@@ -8,8 +8,8 @@ use Rattle.judge.specs.Judge.{fault_of}
 use Rattle.judge.specs.FaultLaws.{fault_0}
 use Rattle.addend.specs.Addend.{Held}
 use Rattle.register.specs.Signs.{sign_bit, leaves}
-use Rattle.addend.specs.RegisterWords.{held}
-use Rattle.register.specs.EnterLaws.{enter_long, enter_bad}
+use Rattle.addend.proofs.RegisterWords.{held}
+use Rattle.register.proofs.EnterLaws.{enter_long, enter_bad}
 use Rattle.register.proofs.TopBits.{left, stayed}
 use Rattle.register.proofs.add.Statement.{statement}
 use Rattle.register.proofs.add.Tie as tie

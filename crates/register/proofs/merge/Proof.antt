@@ -1,7 +1,7 @@
 -- `register::merge` meets its contract: past the test of the lengths there are three registers. Assumes nothing.
 use borrow.Author.Rules.{rules}
 use mathlib.Core.Path.{sym}
-use Rattle.register.specs.MergeLaws.{right_lengths_lem, merged_wrong}
+use Rattle.register.proofs.MergeLaws.{right_lengths_lem, merged_wrong}
 use Rattle.register.proofs.merge.Statement.{statement}
 use Rattle.register.proofs.merge.Tie as tie
 

@@ -7,10 +7,10 @@ use native.Mathlib.Omega.{arith}
 use lib.IntN.{nat_abs}
 use lib.Ieee.{binary64, hid, ones}
 use Rattle.ieee.specs.Units.{nearest_float}
-use Rattle.nearest.specs.NearestBits.{bits_finite, bits_infinite, bits_nearest}
+use Rattle.nearest.proofs.NearestBits.{bits_finite, bits_infinite, bits_nearest}
 use Rattle.kinds.specs.declared.Nearest.TheVariants.{Sum}
 use Rattle.words.specs.Words.{whole_of}
-use Rattle.register.specs.RoundedLaws.{rounded_length, rounded_beyond, rounded_sum}
+use Rattle.register.proofs.RoundedLaws.{rounded_length, rounded_beyond, rounded_sum}
 use Rattle.register.proofs.round.Statement.{statement}
 use Rattle.register.proofs.round.Tie as tie
 

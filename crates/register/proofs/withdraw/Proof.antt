@@ -1,6 +1,6 @@
 -- `register::withdraw` meets its contract: a withdrawal is the addition of the opposite number. Assumes nothing.
 use borrow.Author.Rules.{rules}
-use Rattle.register.specs.EnterLaws.{withdrawn_added}
+use Rattle.register.proofs.EnterLaws.{withdrawn_added}
 use Rattle.register.proofs.withdraw.Statement.{statement}
 use Rattle.register.proofs.withdraw.Tie as tie
 

@@ -7,7 +7,7 @@ use Rattle.kinds.specs.Heard.{nearest_heard}
 use Rattle.kinds.specs.declared.Nearest.{Nearest}
 use Rattle.arrays.specs.Arrays.{code_of, values_of}
 use Rattle.arrays.specs.Inner.{NearestRefusal}
-use Rattle.register_calls.specs.RegisterArraysLaws.{round_other, round_rounded, round_refusal}
+use Rattle.register_calls.proofs.RegisterArraysLaws.{round_other, round_rounded, round_refusal}
 use Rattle.register_calls.proofs.kewohiata_words_round.Statement.{statement}
 use Rattle.register_calls.proofs.kewohiata_words_round.Tie as tie
 

@@ -4,8 +4,8 @@ use borrow.Author.Rules.{rules}
 use Rattle.register.specs.Register.{Changed}
 use Rattle.kinds.specs.Heard.{entry_heard}
 use Rattle.calls.specs.Inner.{EntryRefusal}
-use Rattle.calls.specs.RefusalLaws.{entry_refusal}
-use Rattle.arrays.specs.ArraysLaws.{code_returned}
+use Rattle.calls.proofs.RefusalLaws.{entry_refusal}
+use Rattle.arrays.proofs.ArraysLaws.{code_returned}
 use Rattle.register_calls.proofs.kewohiata_words_withdraw.Statement.{statement}
 use Rattle.register_calls.proofs.kewohiata_words_withdraw.Tie as tie
 

@@ -5,10 +5,10 @@ use Prim.Native.Nat.{◌-◌, ◌≤◌, ◌<◌}
 use native.Mathlib.Omega.{arith}
 use borrow.Author.Rules.{rules}
 use lib.ListN.{length, drop}
-use Rattle.lists.specs.Front.{store_front}
+use Rattle.lists.proofs.Front.{store_front}
 use Rattle.sheet.specs.Sheet.{patterns_of}
 use Rattle.octets.specs.Octets.{big}
-use Rattle.octets.specs.EightsLaws.{eights_none, eights_length, eights_next}
+use Rattle.octets.proofs.EightsLaws.{eights_none, eights_length, eights_next}
 use Rattle.sheet.proofs.copy.Statement.{statement}
 use Rattle.sheet.proofs.copy.Tie as tie
 

@@ -7,7 +7,7 @@ use Rattle.kinds.specs.Limits.{doubles}
 use Rattle.kinds.specs.Outcome.{outcome}
 use Rattle.kinds.specs.declared.Sheet.TheVariants.{Read}
 use Rattle.sheet.specs.Sheet.{version_of, count_of, patterns_of}
-use Rattle.sheet.specs.SheetLaws.{read_no_header, read_version, read_many, read_short, read_long, read_no_room, read_all}
+use Rattle.sheet.proofs.SheetLaws.{read_no_header, read_version, read_many, read_short, read_long, read_no_room, read_all}
 use borrow.Author.Rules.{rules}
 use Rattle.sheet.proofs.read.Statement.{statement}
 use Rattle.sheet.proofs.read.Tie as tie

@@ -7,8 +7,8 @@ use lib.ListN.{length}
 use Rattle.kinds.specs.Limits.{doubles}
 use Rattle.kinds.specs.Outcome.{outcome}
 use Rattle.sheet.specs.declared.Written.TheVariants.{Wrote}
-use Rattle.sheet.specs.WriteLaws.{write_many, write_no_room, write_all}
-use Rattle.sheet.specs.LayoutLaws.{sheet_laid}
+use Rattle.sheet.proofs.WriteLaws.{write_many, write_no_room, write_all}
+use Rattle.sheet.proofs.LayoutLaws.{sheet_laid}
 use Rattle.sheet.proofs.write.Statement.{statement}
 use Rattle.sheet.proofs.write.Tie as tie
 

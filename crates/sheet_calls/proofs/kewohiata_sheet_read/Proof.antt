@@ -5,8 +5,8 @@ use Rattle.kinds.specs.Heard.{sheet_heard}
 use Rattle.kinds.specs.declared.Sheet.TheVariants.{Read, Refused}
 use Rattle.sheet.specs.Sheet.{Reading}
 use Rattle.arrays.specs.Arrays.{values_of, returned}
-use Rattle.arrays.specs.ArraysLaws.{heard_returned}
-use Rattle.sheet_calls.specs.SheetArraysLaws.{read_other, read_read, read_refusal}
+use Rattle.arrays.proofs.ArraysLaws.{heard_returned}
+use Rattle.sheet_calls.proofs.SheetArraysLaws.{read_other, read_read, read_refusal}
 use Rattle.sheet_calls.proofs.kewohiata_sheet_read.Statement.{statement}
 use Rattle.sheet_calls.proofs.kewohiata_sheet_read.Tie as tie
 

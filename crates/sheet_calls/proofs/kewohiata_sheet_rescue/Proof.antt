@@ -4,7 +4,7 @@ use borrow.Author.Rules.{rules}
 use Rattle.rescue.specs.Rescue.{Rescuing}
 use Rattle.rescue.specs.declared.Rescued.TheVariants.{Saved, Refused}
 use Rattle.sheet_calls.specs.RescueArrays.{rescue_returned}
-use Rattle.sheet_calls.specs.RescueCodes.{rescue_unreported, rescue_rescued, rescue_refused, heard_rescued}
+use Rattle.sheet_calls.proofs.RescueCodes.{rescue_unreported, rescue_rescued, rescue_refused, heard_rescued}
 use Rattle.sheet_calls.proofs.kewohiata_sheet_rescue.Statement.{statement}
 use Rattle.sheet_calls.proofs.kewohiata_sheet_rescue.Tie as tie
 

@@ -5,8 +5,8 @@ use borrow.Author.Rules.{rules}
 use Rattle.sheet.specs.declared.Written.TheVariants.{Wrote, Refused}
 use Rattle.sheet.specs.Write.{Writing, written_heard}
 use Rattle.arrays.specs.Arrays.{values_of, returned}
-use Rattle.arrays.specs.ArraysLaws.{heard_returned}
-use Rattle.sheet_calls.specs.WriteCodes.{write_other, write_written, write_refused}
+use Rattle.arrays.proofs.ArraysLaws.{heard_returned}
+use Rattle.sheet_calls.proofs.WriteCodes.{write_other, write_written, write_refused}
 use Rattle.sheet_calls.proofs.kewohiata_sheet_write.Statement.{statement}
 use Rattle.sheet_calls.proofs.kewohiata_sheet_write.Tie as tie
 

@@ -3,7 +3,7 @@ use mathlib.Core.Path.{sym, ap, ◌∙◌}
 use mathlib.Core.List.{[]}
 use borrow.Author.Rules.{rules}
 use Rattle.sheet.specs.Sheet.{Reading}
-use Rattle.sheet_calls.specs.SheetArraysLaws.{nothing_before, unread_read, unread_refused}
+use Rattle.sheet_calls.proofs.SheetArraysLaws.{nothing_before, unread_read, unread_refused}
 use Rattle.sheet_calls.proofs.unread.Statement.{statement}
 use Rattle.sheet_calls.proofs.unread.Tie as tie
 

@@ -2,12 +2,12 @@
 use mathlib.Core.Path.{◌≡◌, refl, sym, ap, ◌∙◌}
 use mathlib.Core.List.{[]}
 use borrow.Author.Rules.{rules}
-use Rattle.lists.specs.Apart.{apart}
+use Rattle.lists.proofs.Apart.{apart}
 use Rattle.rescue.specs.Rescue.{Rescuing}
 use Rattle.rescue.specs.declared.Rescued.TheVariants.{Saved, Refused}
 use Rattle.sheet_calls.specs.RescueArrays.{unrescued_code}
-use Rattle.sheet_calls.specs.RescueCodes.{unrescued_is}
-use Rattle.sheet_calls.specs.SheetArraysLaws.{nothing_before}
+use Rattle.sheet_calls.proofs.RescueCodes.{unrescued_is}
+use Rattle.sheet_calls.proofs.SheetArraysLaws.{nothing_before}
 use Rattle.sheet_calls.proofs.unrescued.Statement.{statement}
 use Rattle.sheet_calls.proofs.unrescued.Tie as tie
 

@@ -3,7 +3,7 @@
 use borrow.Author.Rules.{rules}
 use mathlib.Core.Path.{◌∙◌}
 use Rattle.kinds.specs.Limits.{singles}
-use Rattle.addend.specs.RegisterWords.{held, rises, falls, units_plus, units_minus}
+use Rattle.addend.proofs.RegisterWords.{held, rises, falls, units_plus, units_minus}
 use Rattle.single_addend.proofs.add.Statement.{statement}
 use Rattle.single_addend.proofs.add.Tie as tie
 

@@ -5,8 +5,8 @@ use lib.Dec.{T}
 use lib.Ieee.{binary32}
 use Rattle.units.specs.Rounding.{ceil}
 use Rattle.ieee.specs.Units.{Number}
-use Rattle.ieee.specs.Finite.{finite_no_nan}
-use Rattle.exponent.specs.CeilingLaws.{positive_bits, positive_units}
+use Rattle.ieee.proofs.Finite.{finite_no_nan}
+use Rattle.exponent.proofs.CeilingLaws.{positive_bits, positive_units}
 use Rattle.single_exponent.proofs.ceiling.Statement.{statement}
 use Rattle.single_exponent.proofs.ceiling.Tie as tie
 

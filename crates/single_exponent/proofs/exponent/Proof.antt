@@ -6,9 +6,9 @@ use Prim.Native.Nat.{suc, ◌+◌, ◌-◌, ◌/◌}
 use native.Mathlib.Omega.{arith}
 use lib.Count.{leading_le}
 use lib.Ieee.{binary32, size, hid}
-use Rattle.lists.specs.LeadingZeros.{size_is}
-use Rattle.ieee.specs.Exponent.{exponent_power, exponent_between}
-use Rattle.exponent.specs.CeilingLaws.{subnormal_ceiling}
+use Rattle.lists.proofs.LeadingZeros.{size_is}
+use Rattle.ieee.proofs.Exponent.{exponent_power, exponent_between}
+use Rattle.exponent.proofs.CeilingLaws.{subnormal_ceiling}
 use Rattle.single_exponent.proofs.exponent.Statement.{statement}
 use Rattle.single_exponent.proofs.exponent.Tie as tie
 

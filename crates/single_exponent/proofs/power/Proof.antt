@@ -9,8 +9,8 @@ use native.Mathlib.Omega.{arith}
 use lib.Pow.{pow-lt}
 use lib.Dec.{T}
 use lib.Ieee.{binary32, nan_bits}
-use Rattle.ieee.specs.Pattern.{pattern_no_nan}
-use Rattle.exponent.specs.PowerLaws.{low_power, high_power}
+use Rattle.ieee.proofs.Pattern.{pattern_no_nan}
+use Rattle.exponent.proofs.PowerLaws.{low_power, high_power}
 use Rattle.single_exponent.proofs.power.Statement.{statement}
 use Rattle.single_exponent.proofs.power.Tie as tie
 

@@ -7,7 +7,7 @@ use borrow.Author.Rules.{rules}
 use lib.Ieee.{nan, binary32}
 use lib.ListN.{length, take}
 use lib.Seq.{take_all}
-use Rattle.lists.specs.Front.{take_next}
+use Rattle.lists.proofs.Front.{take_next}
 use Rattle.extract.specs.Extract.{last_sum}
 use Rattle.extract.specs.ExtractLaws.{sum_next}
 use Rattle.single_extract.proofs.last_sum.Statement.{statement}

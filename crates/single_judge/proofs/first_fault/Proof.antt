@@ -8,7 +8,7 @@ use borrow.Author.Rules.{rules}
 use lib.ListN.{length}
 use Rattle.kinds.specs.Limits.{singles}
 use Rattle.judge.specs.Table.{Clean}
-use Rattle.judge.specs.FirstFaultLaws.{clean_none, clean_more, clean_fewer, first_good, first_refused}
+use Rattle.judge.proofs.FirstFaultLaws.{clean_none, clean_more, clean_fewer, first_good, first_refused}
 use Rattle.single_judge.proofs.first_fault.Statement.{statement}
 use Rattle.single_judge.proofs.first_fault.Tie as tie
 

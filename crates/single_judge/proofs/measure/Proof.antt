@@ -6,12 +6,12 @@ use native.Mathlib.Omega.{arith}
 use borrow.Author.Rules.{rules}
 use borrow.Author.Tests.{not-false}
 use lib.Dec.{T}
-use Rattle.lists.specs.Apart.{apart}
+use Rattle.lists.proofs.Apart.{apart}
 use Rattle.kinds.specs.Limits.{singles}
 use Rattle.judge.specs.Judge.{first_fault, judged}
 use Rattle.judge.specs.FaultLaws.{proper_singles}
 use Rattle.judge.specs.GreatestLaws.{greatest_good}
-use Rattle.judge.specs.JudgeLaws.{judged_1, judged_4, judged_5, judged_passed}
+use Rattle.judge.proofs.JudgeLaws.{judged_1, judged_4, judged_5, judged_passed}
 use Rattle.single_judge.proofs.measure.Statement.{statement}
 use Rattle.single_judge.proofs.measure.Tie as tie
 

@@ -12,7 +12,7 @@ use lib.ListN.{length}
 use Rattle.lists.specs.Every.{Looked, looked_none, looked_next}
 use Rattle.kinds.specs.Limits.{singles}
 use Rattle.judge.specs.Judge.{minus_pattern}
-use Rattle.judge.specs.ZeroLaws.{sign_stops, sign_ends}
+use Rattle.judge.proofs.ZeroLaws.{sign_stops, sign_ends}
 use Rattle.single_judge.proofs.zero_sign.Statement.{statement}
 use Rattle.single_judge.proofs.zero_sign.Tie as tie
 

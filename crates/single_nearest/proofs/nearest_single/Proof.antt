@@ -4,7 +4,7 @@ use borrow.Author.Rules.{rules}
 use mathlib.Core.Path.{◌∙◌}
 use lib.IntN.{nat_abs}
 use lib.Ieee.{binary32}
-use Rattle.nearest.specs.NearestBits.{bits_finite, bits_nearest}
+use Rattle.nearest.proofs.NearestBits.{bits_finite, bits_nearest}
 use Rattle.words.specs.Words.{whole_of}
 use Rattle.single_nearest.proofs.nearest_single.Statement.{statement}
 use Rattle.single_nearest.proofs.nearest_single.Tie as tie

@@ -15,10 +15,10 @@ use Rattle.sound.specs.Sound.{sound_numbers, sound_pending, bad_place, sound}
 use Rattle.sound.specs.Places.{first_above}
 use Rattle.sound.specs.Numbers.{Numbers}
 use Rattle.judge.specs.FaultLaws.{most_singles}
-use Rattle.sound.specs.LimitLaws.{room_singles}
-use Rattle.sound.specs.PlacesLaws.{bad_within}
-use Rattle.sound.specs.SoundLaws.{numbers_hold, sound_all}
-use Rattle.sound.specs.GateLaws.{gated_4, gated_21, gated_8, gated_18, gated_19, gated_6, gated_7, gated_good, limit_number, limit_negative, limit_places}
+use Rattle.sound.proofs.LimitLaws.{room_singles}
+use Rattle.sound.proofs.PlacesLaws.{bad_within}
+use Rattle.sound.proofs.SoundLaws.{numbers_hold, sound_all}
+use Rattle.sound.proofs.GateLaws.{gated_4, gated_21, gated_8, gated_18, gated_19, gated_6, gated_7, gated_good, limit_number, limit_negative, limit_places}
 use Rattle.single_kinds.specs.Wide.{wide_state}
 use Rattle.single_sound.proofs.gate.Statement.{statement}
 use Rattle.single_sound.proofs.gate.Tie as tie

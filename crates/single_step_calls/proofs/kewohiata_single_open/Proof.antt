@@ -6,7 +6,7 @@ use borrow.Author.Rules.{rules}
 use Rattle.kinds.specs.Limits.{singles}
 use Rattle.walk.specs.Walk.{Walked}
 use Rattle.arrays.specs.Arrays.{returned}
-use Rattle.step_calls.specs.StepArraysLaws.{open_other, open_walked, walk_returned_lem, singles_called, open_refusal}
+use Rattle.step_calls.proofs.StepArraysLaws.{open_other, open_walked, walk_returned_lem, singles_called, open_refusal}
 use Rattle.step_calls.specs.Inner.{StepRefusal}
 use Rattle.single_step_calls.proofs.kewohiata_single_open.Statement.{statement}
 use Rattle.single_step_calls.proofs.kewohiata_single_open.Tie as tie

@@ -8,8 +8,8 @@ use Rattle.kinds.specs.Limits.{singles}
 use Rattle.kinds.specs.declared.State.{State}
 use Rattle.rounds.specs.Instances.{singles_fit}
 use Rattle.walk.specs.Walk.{Walked, stepped}
-use Rattle.step_calls.specs.StepArraysLaws.{singles_called}
-use Rattle.step_calls.specs.StepArraysLaws.{step_other, step_walked, step_length, step_stranger, step_unreadable, walk_returned_lem, step_refusal}
+use Rattle.step_calls.proofs.StepArraysLaws.{singles_called}
+use Rattle.step_calls.proofs.StepArraysLaws.{step_other, step_walked, step_length, step_stranger, step_unreadable, walk_returned_lem, step_refusal}
 use Rattle.step_calls.specs.Inner.{StepRefusal}
 use Rattle.single_step_calls.proofs.kewohiata_single_step.Statement.{statement}
 use Rattle.single_step_calls.proofs.kewohiata_single_step.Tie as tie

@@ -10,7 +10,7 @@ use Rattle.kinds.specs.Heard.{nearest_heard}
 use Rattle.kinds.specs.declared.Nearest.{Nearest}
 use Rattle.arrays.specs.Arrays.{code_of, values_of}
 use Rattle.arrays.specs.Inner.{NearestRefusal}
-use Rattle.sum_calls.specs.SumArraysLaws.{nearest_other, nearest_summed, nearest_refusal}
+use Rattle.sum_calls.proofs.SumArraysLaws.{nearest_other, nearest_summed, nearest_refusal}
 use Rattle.single_sum_calls.proofs.kewohiata_single_nearest.Statement.{statement}
 use Rattle.single_sum_calls.proofs.kewohiata_single_nearest.Tie as tie
 

@@ -5,7 +5,7 @@ use borrow.Author.Rules.{rules}
 use Rattle.kinds.specs.Limits.{singles}
 use Rattle.rounds.specs.Instances.{singles_fit}
 use Rattle.walk.specs.OpeningLaws.{opened_refused}
-use Rattle.walk.specs.Undivided.{faithful_refused}
+use Rattle.walk.proofs.UndividedLaws.{faithful_refused}
 use Rattle.single_walk.proofs.faithful.Statement.{statement}
 use Rattle.single_walk.proofs.faithful.Tie as tie
 

@@ -7,8 +7,8 @@ use lib.Dec.{eqb→eq}
 use Rattle.kinds.specs.Limits.{singles}
 use Rattle.kinds.specs.declared.Verdict.{Verdict}
 use Rattle.kinds.specs.declared.Verdict.TheVariants.{Good}
-use Rattle.judge.specs.JudgeLaws.{list_when, list_passed, list_allowed}
-use Rattle.judge.specs.FirstFaultLaws.{first_good}
+use Rattle.judge.proofs.JudgeLaws.{list_when, list_passed, list_allowed}
+use Rattle.judge.proofs.FirstFaultLaws.{first_good}
 use Rattle.walk.specs.Walk.{opened_after}
 use Rattle.walk.specs.OpeningLaws.{opened_refused}
 use Rattle.single_walk.proofs.open.Statement.{statement}

@@ -6,8 +6,8 @@ use borrow.Author.Rules.{rules}
 use Rattle.kinds.specs.Limits.{singles}
 use Rattle.kinds.specs.declared.Verdict.TheVariants.{Good}
 use Rattle.sound.specs.Sound.{gated}
-use Rattle.sound.specs.GateLaws.{gated_open}
-use Rattle.walk.specs.StepLaws.{stepped_refused, stepped_good}
+use Rattle.sound.proofs.GateLaws.{gated_open}
+use Rattle.walk.proofs.StepLaws.{stepped_refused, stepped_good}
 use Rattle.single_kinds.specs.Wide.{wide_state}
 use Rattle.single_walk.proofs.step.Statement.{statement}
 use Rattle.single_walk.proofs.step.Tie as tie

@@ -5,7 +5,7 @@ use borrow.Author.Rules.{rules}
 use Rattle.kinds.specs.Limits.{doubles}
 use Rattle.walk.specs.Walk.{Walked}
 use Rattle.arrays.specs.Arrays.{returned}
-use Rattle.step_calls.specs.StepArraysLaws.{open_other, open_walked, walk_returned_lem, doubles_called, open_refusal}
+use Rattle.step_calls.proofs.StepArraysLaws.{open_other, open_walked, walk_returned_lem, doubles_called, open_refusal}
 use Rattle.step_calls.specs.Inner.{StepRefusal}
 use Rattle.step_calls.proofs.kewohiata_walk_open.Statement.{statement}
 use Rattle.step_calls.proofs.kewohiata_walk_open.Tie as tie

@@ -7,8 +7,8 @@ use Rattle.kinds.specs.Limits.{doubles}
 use Rattle.kinds.specs.declared.State.{State}
 use Rattle.rounds.specs.Instances.{doubles_fit}
 use Rattle.walk.specs.Walk.{Walked, stepped}
-use Rattle.step_calls.specs.StepArraysLaws.{doubles_called}
-use Rattle.step_calls.specs.StepArraysLaws.{step_other, step_walked, step_length, step_stranger, step_unreadable, walk_returned_lem, step_refusal}
+use Rattle.step_calls.proofs.StepArraysLaws.{doubles_called}
+use Rattle.step_calls.proofs.StepArraysLaws.{step_other, step_walked, step_length, step_stranger, step_unreadable, walk_returned_lem, step_refusal}
 use Rattle.step_calls.specs.Inner.{StepRefusal}
 use Rattle.step_calls.proofs.kewohiata_walk_step.Statement.{statement}
 use Rattle.step_calls.proofs.kewohiata_walk_step.Tie as tie

@@ -9,11 +9,11 @@ use Rattle.kinds.specs.Heard.{step_heard}
 use Rattle.kinds.specs.declared.Step.TheVariants.{Done, Refused}
 use Rattle.walk.specs.Walk.{Walked}
 use Rattle.rounds.specs.Instances.{doubles_fit}
-use Rattle.runs.specs.AnswerNumbers.{faithful_not_more}
-use Rattle.runs.specs.AnswerNumbers.{faithful_refusal}
+use Rattle.runs.proofs.AnswerNumbers.{faithful_not_more}
+use Rattle.runs.proofs.AnswerNumbers.{faithful_refusal}
 use Rattle.arrays.specs.Arrays.{values_of, returned}
-use Rattle.arrays.specs.ArraysLaws.{heard_returned, refusal_among}
-use Rattle.sum_calls.specs.SumArraysLaws.{faithful_other, faithful_walked}
+use Rattle.arrays.proofs.ArraysLaws.{heard_returned, refusal_among}
+use Rattle.sum_calls.proofs.SumArraysLaws.{faithful_other, faithful_walked}
 use Rattle.sum_calls.proofs.kewohiata_walk_faithful.Statement.{statement}
 use Rattle.sum_calls.proofs.kewohiata_walk_faithful.Tie as tie
 

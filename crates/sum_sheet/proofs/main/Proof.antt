@@ -1,5 +1,5 @@
 -- `sum_sheet::main` meets its contract: the areas are long enough, and what is printed lies in the text. Assumes nothing.
-use Rattle.lines.specs.LinesLaws.{lines_inside}
+use Rattle.lines.proofs.LinesLaws.{lines_inside}
 use borrow.Author.Rules.{rules}
 use Rattle.sum_sheet.proofs.main.Statement.{statement}
 use Rattle.sum_sheet.proofs.main.Tie as tie

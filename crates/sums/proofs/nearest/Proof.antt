@@ -5,11 +5,11 @@ use mathlib.Core.Bool.{true}
 use Rattle.ieee.specs.Units.{nearest_float}
 use Rattle.kinds.specs.Limits.{doubles}
 use Rattle.kinds.specs.declared.Nearest.TheVariants.{Sum}
-use Rattle.judge.specs.JudgeLaws.{list_when, list_passed, list_allowed}
+use Rattle.judge.proofs.JudgeLaws.{list_when, list_passed, list_allowed}
 use Rattle.kinds.specs.declared.Verdict.TheVariants.{Good}
 use Rattle.sums.specs.Sums.{sum_of}
-use Rattle.sums.specs.SumLaws.{sums_doubles, sum_below_limit, sum_whole}
-use Rattle.sums.specs.AnswerLaws.{nearest_good, nearest_refused}
+use Rattle.sums.proofs.SumLaws.{sums_doubles, sum_below_limit, sum_whole}
+use Rattle.sums.proofs.AnswerLaws.{nearest_good, nearest_refused}
 use Rattle.sums.proofs.nearest.Statement.{statement}
 use Rattle.sums.proofs.nearest.Tie as tie
 

@@ -6,11 +6,11 @@ use lib.ListN.{length}
 use lib.IntN.{ℤ}
 use Rattle.kinds.specs.Limits.{doubles}
 use Rattle.kinds.specs.declared.Verdict.TheVariants.{Good}
-use Rattle.judge.specs.JudgeLaws.{list_when, list_passed, list_allowed}
+use Rattle.judge.proofs.JudgeLaws.{list_when, list_passed, list_allowed}
 use Rattle.sums.specs.Sums.{sum_of, parts}
 use Rattle.sums.specs.PartsLaws.{remaining}
-use Rattle.sums.specs.SumLaws.{sums_doubles, sum_below_limit, sum_whole}
-use Rattle.sums.specs.AnswerLaws.{parts_refused, parts_answer}
+use Rattle.sums.proofs.SumLaws.{sums_doubles, sum_below_limit, sum_whole}
+use Rattle.sums.proofs.AnswerLaws.{parts_refused, parts_answer}
 use Rattle.sums.proofs.parts.Statement.{statement}
 use Rattle.sums.proofs.parts.Tie as tie
 

@@ -10,9 +10,9 @@ use Rattle.judge.specs.FaultLaws.{allowed_number}
 use Rattle.addend.specs.Addend.{units_of}
 use Rattle.lanes.specs.Lanes.{lane_count}
 use Rattle.lanes.specs.Table.{Roomy}
-use Rattle.lanes.specs.RoomLaws.{roomy_most, room_kept}
+use Rattle.lanes.proofs.RoomLaws.{roomy_most, room_kept}
 use Rattle.timed.specs.Timed.{put_all}
-use Rattle.timed.specs.TimedLaws.{put_none, put_next}
+use Rattle.timed.proofs.TimedLaws.{put_none, put_next}
 use Rattle.timed.proofs.put_all.Statement.{statement}
 use Rattle.timed.proofs.put_all.Tie as tie
 

@@ -7,11 +7,11 @@ use Rattle.kinds.specs.Limits.{doubles}
 use Rattle.kinds.specs.Outcome.{outcome}
 use Rattle.kinds.specs.declared.Verdict.TheVariants.{Good}
 use Rattle.judge.specs.Judge.{judged}
-use Rattle.judge.specs.JudgeLaws.{list_when, list_passed, list_allowed}
+use Rattle.judge.proofs.JudgeLaws.{list_when, list_passed, list_allowed}
 use Rattle.lanes.specs.declared.Laid.{Laid}
 use Rattle.lanes.specs.declared.Laid.TheVariants.{Counted}
 use Rattle.lanes.specs.Lanes.{lane_added}
-use Rattle.timed.specs.TimedLaws.{timed_refused, timed_tight, timed_put, looked}
+use Rattle.timed.proofs.TimedLaws.{timed_refused, timed_tight, timed_put, looked}
 use Rattle.timed.proofs.timed_lanes.Statement.{statement}
 use Rattle.timed.proofs.timed_lanes.Tie as tie
 

@@ -4,7 +4,7 @@ use borrow.Author.Rules.{rules}
 use Rattle.kinds.specs.Limits.{doubles}
 use Rattle.rounds.specs.Instances.{doubles_fit}
 use Rattle.walk.specs.OpeningLaws.{opened_refused}
-use Rattle.walk.specs.Undivided.{faithful_refused}
+use Rattle.walk.proofs.UndividedLaws.{faithful_refused}
 use Rattle.walk.proofs.faithful.Statement.{statement}
 use Rattle.walk.proofs.faithful.Tie as tie
 

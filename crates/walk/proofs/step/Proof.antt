@@ -5,8 +5,8 @@ use borrow.Author.Rules.{rules}
 use Rattle.kinds.specs.Limits.{doubles}
 use Rattle.kinds.specs.declared.Verdict.TheVariants.{Good}
 use Rattle.sound.specs.Sound.{gated}
-use Rattle.sound.specs.GateLaws.{gated_open}
-use Rattle.walk.specs.StepLaws.{stepped_refused, stepped_good}
+use Rattle.sound.proofs.GateLaws.{gated_open}
+use Rattle.walk.proofs.StepLaws.{stepped_refused, stepped_good}
 use Rattle.walk.proofs.step.Statement.{statement}
 use Rattle.walk.proofs.step.Tie as tie
 

@@ -7,9 +7,9 @@ use Rattle.kinds.specs.Outcome.{Outcome}
 use Rattle.weights.specs.declared.Handed.{Handed}
 use Rattle.weights.specs.declared.Handed.TheVariants.{Shared, Refused}
 use Rattle.weights.specs.Weights.{handed_heard}
-use Rattle.weights.specs.TableLaws.{handed_when, handed_refusal}
-use Rattle.weights.specs.FieldLaws.{fine_doubles}
-use Rattle.arrays.specs.ArraysLaws.{code_returned}
+use Rattle.weights.proofs.TableLaws.{handed_when, handed_refusal}
+use Rattle.weights.proofs.FieldLaws.{fine_doubles}
+use Rattle.arrays.proofs.ArraysLaws.{code_returned}
 use Rattle.weight_calls.proofs.kewohiata_weights_hand_on.Statement.{statement}
 use Rattle.weight_calls.proofs.kewohiata_weights_hand_on.Tie as tie
 

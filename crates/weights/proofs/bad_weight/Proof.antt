@@ -8,7 +8,7 @@ use native.Mathlib.Omega.{arith}
 use lib.ListN.{length}
 use Rattle.kinds.specs.Limits.{doubles}
 use Rattle.weights.specs.Table.{Weighed}
-use Rattle.weights.specs.LoopLaws.{weighed_none, weighed_more, weighed_fewer, bad_at, bad_nowhere}
+use Rattle.weights.proofs.LoopLaws.{weighed_none, weighed_more, weighed_fewer, bad_at, bad_nowhere}
 use Rattle.weights.proofs.bad_weight.Statement.{statement}
 use Rattle.weights.proofs.bad_weight.Tie as tie
 

@@ -9,10 +9,10 @@ use Rattle.kinds.specs.Limits.{doubles}
 use Rattle.kinds.specs.Outcome.{outcome}
 use Rattle.weights.specs.Weights.{weights_of, pattern_for, staying, left_over, spread}
 use Rattle.weights.specs.Table.{Accepted}
-use Rattle.weights.specs.WeightLaws.{good_below}
-use Rattle.weights.specs.FieldLaws.{fine_doubles}
-use Rattle.weights.specs.TableLaws.{verdict_good, good_hands, refused_leaves}
-use Rattle.weights.specs.AcceptedLaws.{leaver_weight, light, most, adds_up}
+use Rattle.weights.proofs.WeightLaws.{good_below}
+use Rattle.weights.proofs.FieldLaws.{fine_doubles}
+use Rattle.weights.proofs.TableLaws.{verdict_good, good_hands, refused_leaves}
+use Rattle.weights.proofs.AcceptedLaws.{leaver_weight, light, most, adds_up}
 use Rattle.weights.specs.declared.Handed.TheVariants.{Shared}
 use Rattle.weights.proofs.hand_on.Statement.{statement}
 use Rattle.weights.proofs.hand_on.Tie as tie

@@ -5,7 +5,7 @@ use mathlib.Core.Bool.{true}
 use Rattle.kinds.specs.Limits.{doubles}
 use Rattle.kinds.specs.declared.Verdict.{Verdict}
 use Rattle.kinds.specs.declared.Verdict.TheVariants.{Good}
-use Rattle.judge.specs.JudgeLaws.{list_when, list_passed}
+use Rattle.judge.proofs.JudgeLaws.{list_when, list_passed}
 use Rattle.weights.specs.Weights.{weighed, and_then}
 use Rattle.weights.proofs.judged.Statement.{statement}
 use Rattle.weights.proofs.judged.Tie as tie

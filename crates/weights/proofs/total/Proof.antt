@@ -4,12 +4,12 @@ use mathlib.Core.Path.{◌≡◌}
 use Prim.Native.Nat.{◌+◌, ◌-◌, ◌*◌, ◌≤◌, ◌<◌}
 use native.Mathlib.Omega.{arith}
 use lib.ListN.{length, drop, length-map}
-use Rattle.lists.specs.Front.{map_at}
+use Rattle.lists.proofs.Front.{map_at}
 use Rattle.kinds.specs.Limits.{doubles}
 use Rattle.weights.specs.Weights.{grains, weight_of, weights_of, total}
-use Rattle.weights.specs.WeightLaws.{good_below}
-use Rattle.weights.specs.FieldLaws.{fine_doubles}
-use Rattle.weights.specs.LoopLaws.{total_next, total_end}
+use Rattle.weights.proofs.WeightLaws.{good_below}
+use Rattle.weights.proofs.FieldLaws.{fine_doubles}
+use Rattle.weights.proofs.LoopLaws.{total_next, total_end}
 use Rattle.weights.proofs.total.Statement.{statement}
 use Rattle.weights.proofs.total.Tie as tie
 

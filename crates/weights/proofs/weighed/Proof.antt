@@ -4,14 +4,14 @@ use mathlib.Core.Path.{◌≡◌, sym, ap, ◌∙◌}
 use Prim.Native.Nat.{◌+◌, ◌≤◌, ◌<◌}
 use native.Mathlib.Omega.{arith}
 use lib.ListN.{length, get_or, length-map}
-use Rattle.lists.specs.Front.{map_at}
+use Rattle.lists.proofs.Front.{map_at}
 use Rattle.kinds.specs.Limits.{doubles}
 use Rattle.kinds.specs.declared.Verdict.TheVariants.{Refused}
 use Rattle.weights.specs.Weights.{grains, bad_weight, weight_of, weights_of, total, staying}
-use Rattle.weights.specs.WeightLaws.{good_below}
-use Rattle.weights.specs.FieldLaws.{fine_doubles}
-use Rattle.weights.specs.GrainLaws.{split}
-use Rattle.weights.specs.HandedLaws.{all_weighed, weighed_14, weighed_15, weighed_16, weighed_17, weighed_good}
+use Rattle.weights.proofs.WeightLaws.{good_below}
+use Rattle.weights.proofs.FieldLaws.{fine_doubles}
+use Rattle.weights.proofs.GrainLaws.{split}
+use Rattle.weights.proofs.HandedLaws.{all_weighed, weighed_14, weighed_15, weighed_16, weighed_17, weighed_good}
 use Rattle.weights.proofs.weighed.Statement.{statement}
 use Rattle.weights.proofs.weighed.Tie as tie
 

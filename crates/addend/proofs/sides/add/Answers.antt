@@ -7,7 +7,7 @@ use lib.ListN.{length}
 use Rattle.lists.specs.Carry.{Carried}
 use Rattle.kinds.specs.Limits.{doubles}
 use Rattle.words.specs.Words.{word_bits}
-use Rattle.addend.specs.SidesLaws.{side_at}
+use Rattle.addend.proofs.SidesLaws.{side_at}
 use Rattle.addend.proofs.sides.add.Goals as goal
 
 pub returns : goal.returns

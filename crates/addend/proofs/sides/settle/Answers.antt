@@ -1,8 +1,8 @@
 -- `addend::sides::settle` meets its contract: the borrow equation of the two halves gives every word. Assumes nothing.
 use borrow.Author.Rules.{rules}
 use mathlib.Core.Path.{◌∙◌}
-use Rattle.addend.specs.RegisterWords.{held}
-use Rattle.addend.specs.SidesLaws.{side_less}
+use Rattle.addend.proofs.RegisterWords.{held}
+use Rattle.addend.proofs.SidesLaws.{side_less}
 use Rattle.addend.proofs.sides.settle.Goals as goal
 
 pub returns : goal.returns

@@ -5,7 +5,7 @@ use borrow.Author.Rules.{rules}
 use lib.Dec.{T}
 use lib.Ieee.{Float, nan, inf, fin, ne, is_nan, to_bits}
 use lib.Ieee.Compare.{differs_from_itself}
-use Rattle.lists.specs.Apart.{apart}
+use Rattle.lists.proofs.Apart.{apart}
 use Rattle.arrays.proofs.doubles.pattern.Statement.{statement}
 use Rattle.arrays.proofs.doubles.pattern.Tie as tie
 

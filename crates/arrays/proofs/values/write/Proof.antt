@@ -6,7 +6,7 @@ use native.Mathlib.Omega.{arith}
 use borrow.Author.Rules.{rules}
 use lib.ListN.{length, take, drop, get_or, drop_of_length-le}
 use lib.Seq.{take_all, length-take-le}
-use Rattle.lists.specs.Front.{store_front, take_next}
+use Rattle.lists.proofs.Front.{store_front, take_next}
 use Rattle.arrays.proofs.values.write.Statement.{statement}
 use Rattle.arrays.proofs.values.write.Tie as tie
 

@@ -7,7 +7,7 @@ use Rattle.kinds.specs.Heard.{entry_heard}
 use Rattle.kinds.specs.declared.Entry.{Entry}
 use Rattle.calls.specs.Calls.{answered}
 use Rattle.calls.specs.Inner.{EntryRefusal}
-use Rattle.calls.specs.CallsLaws.{answered_accepted, answered_refused}
+use Rattle.calls.proofs.CallsLaws.{answered_accepted, answered_refused}
 use Rattle.byte_calls.proofs.entries.written.Statement.{statement}
 use Rattle.byte_calls.proofs.entries.written.Tie as tie
 

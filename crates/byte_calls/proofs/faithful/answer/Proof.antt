@@ -9,9 +9,9 @@ use Rattle.kinds.specs.Outcome.{outcome}
 use Rattle.kinds.specs.Heard.{Heard, step_heard}
 use Rattle.walk.specs.Walk.{Walked}
 use Rattle.rounds.specs.Instances.{doubles_fit}
-use Rattle.runs.specs.AnswerNumbers.{faithful_no_nan, faithful_not_more, faithful_refusal}
+use Rattle.runs.proofs.AnswerNumbers.{faithful_no_nan, faithful_not_more, faithful_refusal}
 use Rattle.calls.specs.Calls.{answered}
-use Rattle.calls.specs.CallsLaws.{answered_done, answered_refused}
+use Rattle.calls.proofs.CallsLaws.{answered_done, answered_refused}
 use Rattle.byte_calls.proofs.faithful.answer.Statement.{statement}
 use Rattle.byte_calls.proofs.faithful.answer.Tie as tie
 

@@ -2,7 +2,7 @@
 use mathlib.Core.Path.{sym}
 use borrow.Author.Rules.{rules}
 use lib.Ieee.{of_bits, binary64}
-use Rattle.calls.specs.CallsLaws.{front_length, front_bytes, front_own}
+use Rattle.calls.proofs.CallsLaws.{front_length, front_bytes, front_own}
 use Rattle.byte_calls.proofs.faithful.middle.Statement.{statement}
 use Rattle.byte_calls.proofs.faithful.middle.Tie as tie
 

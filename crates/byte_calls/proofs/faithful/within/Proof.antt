@@ -2,7 +2,7 @@
 use mathlib.Core.Path.{◌∙◌}
 use borrow.Author.Rules.{rules}
 use lib.ListN.{length}
-use Rattle.calls.specs.CallsLaws.{faithful_within_lem}
+use Rattle.calls.proofs.CallsLaws.{faithful_within_lem}
 use Rattle.byte_calls.proofs.faithful.within.Statement.{statement}
 use Rattle.byte_calls.proofs.faithful.within.Tie as tie
 

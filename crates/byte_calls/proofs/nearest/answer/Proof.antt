@@ -6,10 +6,10 @@ use borrow.Author.Rules.{rules}
 use Rattle.kinds.specs.Limits.{doubles}
 use Rattle.kinds.specs.Outcome.{outcome}
 use Rattle.kinds.specs.Heard.{Heard, nearest_heard}
-use Rattle.sums.specs.SumLaws.{sums_doubles}
-use Rattle.sums.specs.AnswerNumbers.{nearest_no_nan, nearest_refusal}
+use Rattle.sums.proofs.SumLaws.{sums_doubles}
+use Rattle.sums.proofs.AnswerNumbers.{nearest_no_nan, nearest_refusal}
 use Rattle.calls.specs.Calls.{answered}
-use Rattle.calls.specs.CallsLaws.{answered_nearest, answered_refused}
+use Rattle.calls.proofs.CallsLaws.{answered_nearest, answered_refused}
 use Rattle.byte_calls.proofs.nearest.answer.Statement.{statement}
 use Rattle.byte_calls.proofs.nearest.answer.Tie as tie
 

@@ -1,7 +1,7 @@
 -- `byte_calls::nearest::middle` meets its contract: 512 places hold the list. Assumes nothing.
 use mathlib.Core.Path.{sym}
 use borrow.Author.Rules.{rules}
-use Rattle.calls.specs.CallsLaws.{front_length, front_bytes}
+use Rattle.calls.proofs.CallsLaws.{front_length, front_bytes}
 use Rattle.byte_calls.proofs.nearest.middle.Statement.{statement}
 use Rattle.byte_calls.proofs.nearest.middle.Tie as tie
 

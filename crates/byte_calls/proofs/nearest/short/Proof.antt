@@ -1,7 +1,7 @@
 -- `byte_calls::nearest::short` meets its contract: 64 places hold the list. Assumes nothing.
 use mathlib.Core.Path.{sym}
 use borrow.Author.Rules.{rules}
-use Rattle.calls.specs.CallsLaws.{front_length, front_bytes}
+use Rattle.calls.proofs.CallsLaws.{front_length, front_bytes}
 use Rattle.byte_calls.proofs.nearest.short.Statement.{statement}
 use Rattle.byte_calls.proofs.nearest.short.Tie as tie
 

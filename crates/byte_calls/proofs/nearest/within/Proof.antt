@@ -2,7 +2,7 @@
 use mathlib.Core.Path.{◌∙◌}
 use borrow.Author.Rules.{rules}
 use lib.ListN.{length}
-use Rattle.calls.specs.CallsLaws.{nearest_within}
+use Rattle.calls.proofs.CallsLaws.{nearest_within}
 use Rattle.byte_calls.proofs.nearest.within.Statement.{statement}
 use Rattle.byte_calls.proofs.nearest.within.Tie as tie
 

@@ -14,14 +14,14 @@ use lib.Ieee.Scale.{finite}
 use lib.ListN.{length, take, drop, get_or, set, length-map}
 use lib.Seq.{take_all}
 use Rattle.lists.specs.Each.{each_at}
-use Rattle.lists.specs.Front.{store_map, end_map, take_next, map_at}
+use Rattle.lists.proofs.Front.{store_map, end_map, take_next, map_at}
 use Rattle.ieee.specs.Units.{Number, magnitude}
-use Rattle.ieee.specs.Finite.{finite_no_nan}
-use Rattle.ieee.specs.Pattern.{pattern_no_nan}
+use Rattle.ieee.proofs.Finite.{finite_no_nan}
+use Rattle.ieee.proofs.Pattern.{pattern_no_nan}
 use Rattle.extract.specs.Extract.{high_part, remainder_of, remainders, gathered, last_sum, largest}
 use Rattle.extract.specs.ExtractLaws.{remainders_next, gathered_next, sum_next, largest_none, largest_next}
 use Rattle.extract.specs.LargestLaws.{Positive, Stands, number_stands, larger, kept}
-use Rattle.extract.specs.LargestWithLaws.{positive_stands, remainders_numbers, stands_with}
+use Rattle.extract.proofs.LargestWithLaws.{positive_stands, remainders_numbers, stands_with}
 use Rattle.extract.proofs.first.from_list.Given as goal
 
 abbrev pub invariant-loop-i : goal.invariant-loop-i

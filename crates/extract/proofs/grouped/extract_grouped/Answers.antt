@@ -11,12 +11,12 @@ use lib.ListN.{length, take, drop, length-drop, take-append-drop, drop_of_length
 use lib.Seq.{take_all}
 use Rattle.lists.specs.Each.{Each, each_take, each_drop}
 use Rattle.ieee.specs.Units.{magnitude}
-use Rattle.ieee.specs.Pattern.{pattern_no_nan}
+use Rattle.ieee.proofs.Pattern.{pattern_no_nan}
 use Rattle.extract.specs.Extract.{remainder_of, remainders, gathered, largest, largest_with}
 use Rattle.extract.specs.ExtractLaws.{remainders_join}
-use Rattle.extract.specs.TurnLaws.{part_read, part_stored}
+use Rattle.extract.proofs.TurnLaws.{part_read, part_stored}
 use Rattle.extract.specs.LargestLaws.{Positive, Stands}
-use Rattle.extract.specs.LargestWithLaws.{positive_stands, stands_positive, stands_with, with_join, remainders_numbers}
+use Rattle.extract.proofs.LargestWithLaws.{positive_stands, stands_positive, stands_with, with_join, remainders_numbers}
 use Rattle.extract.specs.Grouped.{joined, spreads}
 use Rattle.extract.proofs.grouped.extract_grouped.Goals as goal
 

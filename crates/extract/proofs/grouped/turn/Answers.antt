@@ -12,12 +12,12 @@ use lib.Ieee.Scale.{finite}
 use lib.ListN.{length, take, drop, get_or, set}
 use lib.Seq.{take_all}
 use Rattle.lists.specs.Each.{each_at}
-use Rattle.lists.specs.Front.{end_map, take_next}
+use Rattle.lists.proofs.Front.{end_map, take_next}
 use Rattle.ieee.specs.Units.{Number, magnitude}
-use Rattle.ieee.specs.Finite.{finite_no_nan}
+use Rattle.ieee.proofs.Finite.{finite_no_nan}
 use Rattle.extract.specs.Extract.{remainder_of, remainders}
 use Rattle.extract.specs.ExtractLaws.{remainders_next}
-use Rattle.extract.specs.TurnLaws.{turn_read, turn_stored}
+use Rattle.extract.proofs.TurnLaws.{turn_read, turn_stored}
 use Rattle.extract.specs.LargestLaws.{Stands, number_stands}
 use Rattle.extract.specs.Grouped.{spread}
 use Rattle.extract.specs.GroupedLaws.{spread_none, spread_next, Raised, raised_none, raised_larger, raised_kept}

@@ -11,11 +11,11 @@ use lib.Ieee.Scale.{finite}
 use lib.ListN.{length, take, drop, length-drop}
 use lib.Seq.{length-take-le, take-add}
 use Rattle.lists.specs.Each.{each_take, each_drop}
-use Rattle.lists.specs.Front.{length_front}
-use Rattle.ieee.specs.Finite.{finite_no_nan}
+use Rattle.lists.proofs.Front.{length_front}
+use Rattle.ieee.proofs.Finite.{finite_no_nan}
 use Rattle.extract.specs.Extract.{remainder_of, remainders}
 use Rattle.extract.specs.ExtractLaws.{remainders_length, remainders_join}
-use Rattle.extract.specs.TurnLaws.{part_read, part_stored}
+use Rattle.extract.proofs.TurnLaws.{part_read, part_stored}
 use Rattle.extract.specs.Grouped.{spreads}
 use Rattle.extract.specs.GroupedLaws.{Raised, raised_none, raised_join}
 use Rattle.extract.proofs.grouped.turns.Given as goal

@@ -5,7 +5,7 @@ use mathlib.Core.Bool.{Bool, beq, true, false, cond}
 use Prim.Native.Nat.{ℕ, ◌+◌, ◌-◌}
 use native.Mathlib.Omega.{arith}
 use lib.Dec.{leb}
-use Rattle.lists.specs.Apart.{apart}
+use Rattle.lists.proofs.Apart.{apart}
 use Rattle.grade.proofs.PatternLaws.{above_finite}
 use Rattle.grade.proofs.claim.other_side.Statement.{statement}
 use Rattle.grade.proofs.claim.other_side.Tie as tie

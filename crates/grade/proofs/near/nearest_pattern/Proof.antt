@@ -10,7 +10,7 @@ use lib.Ieee.{binary64, hid, ones, to_bits}
 use Rattle.ieee.specs.Units.{sign_of, limit, rounded_bits}
 use Rattle.words.specs.Words.{whole_of}
 use Rattle.nearest.specs.Bits.{bits_of}
-use Rattle.nearest.specs.NearestBits.{bits_finite}
+use Rattle.nearest.proofs.NearestBits.{bits_finite}
 use Rattle.nearest.specs.declared.bits.Bits.{Bits}
 use Rattle.grade.specs.Grade.{near}
 use Rattle.grade.proofs.WordLaws.{near_bits}

@@ -5,7 +5,7 @@ use native.Mathlib.Omega.{arith}
 use borrow.Author.Rules.{rules}
 use lib.ListN.{length, take, get_or}
 use lib.Seq.{take_all}
-use Rattle.lists.specs.Front.{take_next}
+use Rattle.lists.proofs.Front.{take_next}
 use Rattle.kinds.specs.Limits.{doubles}
 use Rattle.judge.specs.GreatestLaws.{greatest, greatest_none, greatest_next}
 use Rattle.judge.proofs.greatest.with.Given as goal

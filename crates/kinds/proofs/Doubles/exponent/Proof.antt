@@ -5,8 +5,8 @@ use Prim.Native.Nat.{◌+◌}
 use native.Mathlib.Omega.{arith}
 use lib.Count.{leading_le}
 use Rattle.units.specs.Rounding.{ceil}
-use Rattle.units.specs.Ceiling.{ceil_next}
-use Rattle.lists.specs.LeadingZeros.{size_is}
+use Rattle.units.proofs.Ceiling.{ceil_next}
+use Rattle.lists.proofs.LeadingZeros.{size_is}
 use Rattle.kinds.proofs.Doubles.exponent.Statement.{statement}
 use Rattle.kinds.proofs.Doubles.exponent.Tie as tie
 

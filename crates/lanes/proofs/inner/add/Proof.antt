@@ -11,7 +11,7 @@ use lib.Seq.{get_or-set_other}
 use Rattle.ieee.specs.Units.{magnitude}
 use Rattle.kinds.specs.Limits.{doubles}
 use Rattle.lanes.specs.Lanes.{lane_count, most_calls, lane_limit}
-use Rattle.lanes.specs.RoomLaws.{lane_bound}
+use Rattle.lanes.proofs.RoomLaws.{lane_bound}
 use Rattle.lanes.specs.Three.{with_sign, put, AtLane, laid_three}
 use Rattle.lanes.proofs.Signed64.{sign_back, sign_room}
 use Rattle.lanes.proofs.inner.add.Statement.{statement}

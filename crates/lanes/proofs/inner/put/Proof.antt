@@ -7,7 +7,7 @@ use lib.ListN.{get_or, set}
 use mir.Syntax.{w64}
 use mir.Val.{to_z, of_z}
 use mir.ValLaws.{to_z-of_z}
-use Rattle.units.specs.ExactSum.{abs_plus}
+use Rattle.units.proofs.ExactSum.{abs_plus}
 use Rattle.lanes.proofs.Signed64.{mag_abs, back}
 use Rattle.lanes.proofs.inner.put.Statement.{statement}
 use Rattle.lanes.proofs.inner.put.Tie as tie

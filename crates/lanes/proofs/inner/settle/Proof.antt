@@ -6,8 +6,8 @@ use lib.IntN.{ℤ}
 use Rattle.lists.specs.Digits.{residue}
 use Rattle.lanes.specs.Lanes.{lane_bits, lane_sum, settled_lanes}
 use Rattle.lanes.specs.Settle.{pairs}
-use Rattle.lanes.specs.TopLaws.{lanes_settled_lem}
-use Rattle.lanes.specs.SettledLaws.{settled_words}
+use Rattle.lanes.proofs.TopLaws.{lanes_settled_lem}
+use Rattle.lanes.proofs.SettledLaws.{settled_words}
 use Rattle.lanes.proofs.inner.settle.Statement.{statement}
 use Rattle.lanes.proofs.inner.settle.Tie as tie
 

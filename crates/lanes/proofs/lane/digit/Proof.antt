@@ -7,7 +7,7 @@ use mir.Syntax.{w64}
 use mir.Val.{to_z, of_z}
 use mir.ValLaws.{to_z-of_z}
 use Rattle.lists.specs.Digits.{residue}
-use Rattle.lanes.specs.SettleLaws.{digit_lt}
+use Rattle.lanes.proofs.SettleLaws.{digit_lt}
 use Rattle.lanes.proofs.Signed64.{back}
 use Rattle.lanes.proofs.lane.digit.Statement.{statement}
 use Rattle.lanes.proofs.lane.digit.Tie as tie

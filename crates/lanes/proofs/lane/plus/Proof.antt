@@ -6,7 +6,7 @@ use lib.IntN.{◌+ℤ◌}
 use mir.Syntax.{w64}
 use mir.Val.{SFits, to_z, of_z}
 use mir.ValLaws.{to_z-of_z}
-use Rattle.units.specs.ExactSum.{abs_plus}
+use Rattle.units.proofs.ExactSum.{abs_plus}
 use Rattle.lanes.proofs.Signed64.{mag_abs}
 use Rattle.lanes.proofs.lane.plus.Statement.{statement}
 use Rattle.lanes.proofs.lane.plus.Tie as tie

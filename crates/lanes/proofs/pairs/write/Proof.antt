@@ -11,7 +11,7 @@ use lib.Seq.{take-suc, take-suc-set, take_all}
 use Rattle.lists.specs.Digits.{residue}
 use Rattle.lanes.specs.Lanes.{lane_bits}
 use Rattle.lanes.specs.Settle.{pairs}
-use Rattle.lanes.specs.PairLaws.{pairs_count, pairs_at}
+use Rattle.lanes.proofs.PairLaws.{pairs_count, pairs_at}
 use Rattle.lanes.proofs.Signed64.{back}
 use Rattle.lanes.proofs.pairs.write.Statement.{statement}
 use Rattle.lanes.proofs.pairs.write.Tie as tie

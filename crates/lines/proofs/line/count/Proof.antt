@@ -3,7 +3,7 @@ use Prim.Native.Nat.{◌≤◌}
 use native.Mathlib.Omega.{arith}
 use lib.ListN.{length}
 use Rattle.lines.specs.Lines.{count_line}
-use Rattle.numerals.specs.TextLaws.{placed_behind}
+use Rattle.numerals.proofs.TextLaws.{placed_behind}
 use borrow.Author.Rules.{rules}
 use Rattle.lines.proofs.line.count.Statement.{statement}
 use Rattle.lines.proofs.line.count.Tie as tie

@@ -3,8 +3,8 @@ use Prim.Native.Nat.{◌≤◌}
 use native.Mathlib.Omega.{arith}
 use lib.ListN.{length}
 use Rattle.lines.specs.Lines.{faithful_line}
-use Rattle.numerals.specs.TextLaws.{placed_behind}
-use Rattle.lines.specs.LineLaws.{hex_length}
+use Rattle.numerals.proofs.TextLaws.{placed_behind}
+use Rattle.lines.proofs.LineLaws.{hex_length}
 use borrow.Author.Rules.{rules}
 use Rattle.lines.proofs.line.faithful.Statement.{statement}
 use Rattle.lines.proofs.line.faithful.Tie as tie

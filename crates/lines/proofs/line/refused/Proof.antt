@@ -1,8 +1,8 @@
 -- `lines::line::refused` meets its contract: its pieces, one behind the other, are the line, with a place where one is told. Assumes nothing.
 use mathlib.Core.Path.{sym, ◌∙◌}
 use native.Mathlib.Omega.{arith}
-use Rattle.numerals.specs.TextLaws.{placed_behind}
-use Rattle.lines.specs.LineLaws.{word_length, line_told, line_silent}
+use Rattle.numerals.proofs.TextLaws.{placed_behind}
+use Rattle.lines.proofs.LineLaws.{word_length, line_told, line_silent}
 use borrow.Author.Rules.{rules}
 use Rattle.lines.proofs.line.refused.Statement.{statement}
 use Rattle.lines.proofs.line.refused.Tie as tie

@@ -2,7 +2,7 @@
 use Rattle.std.proofs.Common.{◌≡◌, ◌*◌, ◌%◌, ◌^◌, Bool, true, false, cond, refl, rules}
 use mir.Val.{bool_byte}
 use lib.Ieee.{binary64}
-use Rattle.nearest.specs.NearestBits.{bits_number}
+use Rattle.nearest.proofs.NearestBits.{bits_number}
 use Rattle.nearest.proofs.bits.double.Goals as goal
 
 sign : (s : Bool) → bool_byte s * 2 ^ 63 % 2 ^ 64 ≡ cond s (2 ^ 63) 0

@@ -5,9 +5,9 @@ use lib.Ieee.{binary64}
 use Rattle.lists.specs.Digits.{number, Digits}
 use Rattle.lists.specs.DigitLaws.{number_lt}
 use Rattle.words.specs.Words.{word_bits, word_count, register_bits}
-use Rattle.nearest.specs.HeadLaws.{below_most}
+use Rattle.nearest.proofs.HeadLaws.{below_most}
 use Rattle.nearest.specs.Bits.{head_bits}
-use Rattle.nearest.specs.RegisterBits.{bits_positive, not_zero, bits_negative}
+use Rattle.nearest.proofs.RegisterBits.{bits_positive, not_zero, bits_negative}
 use Rattle.nearest.proofs.bits.nearest_bits.Goals as goal
 
 pub pattern-p-requires : goal.pattern-p-requires

@@ -3,7 +3,7 @@ use Rattle.std.proofs.Common.{◌-◌, ◌^◌, ◌<◌, ◌≤◌, get_or, arit
 use Rattle.lists.specs.Digits.{Digits}
 use Rattle.lists.specs.LeadingDigits.{size_of_word}
 use Rattle.words.specs.Words.{word_bits}
-use Rattle.nearest.specs.HeadLaws.{head_one, head_two}
+use Rattle.nearest.proofs.HeadLaws.{head_one, head_two}
 use Rattle.nearest.proofs.head.leading.Goals as goal
 
 pub returns-then-n-lt2 : goal.returns-then-n-lt2

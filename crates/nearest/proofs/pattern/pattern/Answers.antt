@@ -1,6 +1,6 @@
 -- `nearest::pattern::pattern` meets its contract: at most 2,059 digits are dropped, so the field and the quotient fit a word. Assumes nothing.
 use Rattle.std.proofs.Common.{◌≡◌, ◌+◌, ◌*◌, ◌%◌, ◌^◌, ◌≤◌, le_trans, div-lt_iff_lt-mul, arith, pow_pos, rules}
-use Rattle.units.specs.NaturalRounding.{dropped_lt, dropped_le}
+use Rattle.units.proofs.NaturalRounding.{dropped_lt, dropped_le}
 use Rattle.nearest.specs.Sticky.{over_most}
 use Rattle.nearest.proofs.pattern.pattern.Goals as goal
 

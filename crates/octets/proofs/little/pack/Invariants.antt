@@ -7,8 +7,8 @@ use borrow.Author.Rules.{rules}
 use lib.ListN.{length, take, drop}
 use lib.Seq.{take_all, drop-length}
 use Rattle.octets.specs.Octets.{little_endian, packed}
-use Rattle.octets.specs.OctetsLaws.{little_length}
-use Rattle.octets.specs.EightsLaws.{joined_none, joined_next}
+use Rattle.octets.proofs.OctetsLaws.{little_length}
+use Rattle.octets.proofs.EightsLaws.{joined_none, joined_next}
 use Rattle.octets.proofs.little.pack.Given as goal
 
 abbrev pub invariant-loop-i : goal.invariant-loop-i

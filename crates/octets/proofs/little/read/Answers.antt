@@ -2,7 +2,7 @@
 use mathlib.Core.Path.{sym}
 use native.Mathlib.Omega.{arith}
 use borrow.Author.Rules.{rules}
-use Rattle.octets.specs.OctetsLaws.{little_cut}
+use Rattle.octets.proofs.OctetsLaws.{little_cut}
 use Rattle.octets.proofs.little.read.Goals as goal
 
 pub returns : goal.returns

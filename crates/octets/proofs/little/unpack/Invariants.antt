@@ -6,9 +6,9 @@ use native.Mathlib.Omega.{arith}
 use borrow.Author.Rules.{rules}
 use lib.ListN.{length, drop}
 use lib.Seq.{drop-length}
-use Rattle.lists.specs.Front.{store_front}
+use Rattle.lists.proofs.Front.{store_front}
 use Rattle.octets.specs.Octets.{little, unpacked}
-use Rattle.octets.specs.EightsLaws.{eights_none, eights_length, eights_more}
+use Rattle.octets.proofs.EightsLaws.{eights_none, eights_length, eights_more}
 use Rattle.octets.proofs.little.unpack.Given as goal
 
 abbrev pub invariant-loop-i : goal.invariant-loop-i

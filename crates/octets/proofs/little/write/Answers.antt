@@ -8,7 +8,7 @@ use native.Mathlib.Omega.{arith}
 use borrow.Author.Rules.{rules}
 use lib.ListN.{length, take, drop}
 use Rattle.octets.specs.Octets.{little_endian}
-use Rattle.octets.specs.OctetsLaws.{rest_next, written_none, written_next}
+use Rattle.octets.proofs.OctetsLaws.{rest_next, written_none, written_next}
 use Rattle.octets.proofs.little.write.Goals as goal
 
 pub loop-i-init : goal.loop-i-init

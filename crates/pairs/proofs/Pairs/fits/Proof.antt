@@ -1,5 +1,5 @@
 -- `pairs::Pairs::fits` meets its contract: a number of places is halved without a remainder. Assumes nothing.
-use Rattle.pairs.specs.WriteLaws.{two_each_lem}
+use Rattle.pairs.proofs.WriteLaws.{two_each_lem}
 use Rattle.pairs.proofs.Pairs.fits.Statement.{statement}
 use Rattle.pairs.proofs.Pairs.fits.Tie as tie
 

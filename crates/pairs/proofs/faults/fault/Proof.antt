@@ -3,7 +3,7 @@ use mathlib.Core.Path.{◌≡◌, sym, ap, ◌∙◌}
 use mathlib.Core.Bool.{Bool, true, false, cond, ◌||◌}
 use Rattle.pairs.specs.Limits.{double_pairs}
 use Rattle.pairs.specs.Pairs.{pair_fault}
-use Rattle.pairs.specs.FaultLaws.{pattern_2, a_below, b_below, pattern_ranges}
+use Rattle.pairs.proofs.FaultLaws.{pattern_2, a_below, b_below, pattern_ranges}
 use Rattle.pairs.proofs.faults.fault.Statement.{statement}
 use Rattle.pairs.proofs.faults.fault.Tie as tie
 

@@ -7,7 +7,7 @@ use borrow.Author.Rules.{rules}
 use lib.ListN.{length}
 use Rattle.pairs.specs.Limits.{double_pairs}
 use Rattle.pairs.specs.Table.{CleanPairs}
-use Rattle.pairs.specs.JudgedLaws.{pairs_none, pairs_more, pairs_fewer, pairs_good, pairs_refused}
+use Rattle.pairs.proofs.JudgedLaws.{pairs_none, pairs_more, pairs_fewer, pairs_good, pairs_refused}
 use Rattle.pairs.proofs.faults.first_fault.Statement.{statement}
 use Rattle.pairs.proofs.faults.first_fault.Tie as tie
 

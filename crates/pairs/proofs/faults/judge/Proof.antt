@@ -6,7 +6,7 @@ use borrow.Author.Tests.{not-false}
 use lib.Dec.{T}
 use lib.ListN.{length}
 use Rattle.pairs.specs.Limits.{double_pairs}
-use Rattle.pairs.specs.JudgedLaws.{either_above, neither_above, judged_1, judged_22, judged_4, judged_passed}
+use Rattle.pairs.proofs.JudgedLaws.{either_above, neither_above, judged_1, judged_22, judged_4, judged_passed}
 use Rattle.pairs.proofs.faults.judge.Statement.{statement}
 use Rattle.pairs.proofs.faults.judge.Tie as tie
 

@@ -1,7 +1,7 @@
 -- `pairs::faults::outside` meets its contract: patterns lie in the order of their magnitudes. Assumes nothing.
 use native.Mathlib.Omega.{arith}
 use Rattle.pairs.specs.Limits.{double_pairs}
-use Rattle.pairs.specs.FaultLaws.{proper_doubles, plain_test}
+use Rattle.pairs.proofs.FaultLaws.{proper_doubles, plain_test}
 use Rattle.pairs.proofs.faults.outside.Statement.{statement}
 use Rattle.pairs.proofs.faults.outside.Tie as tie
 

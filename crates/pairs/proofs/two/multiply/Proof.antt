@@ -8,13 +8,13 @@ use lib.Ieee.{Float, add, of_bits, to_bits, nan_bits}
 use lib.Ieee.Bits.{nan_bits_is}
 use Rattle.kinds.specs.Limits.{doubles}
 use Rattle.ieee.specs.Units.{Number}
-use Rattle.ieee.specs.Finite.{finite_no_nan}
+use Rattle.ieee.proofs.Finite.{finite_no_nan}
 use Rattle.pairs.specs.Limits.{double_pairs}
 use Rattle.pairs.specs.Pairs.{Pair, product_of, error_of}
 use Rattle.pairs.specs.Table.{Finite}
-use Rattle.pairs.specs.FaultLaws.{pair_0}
-use Rattle.pairs.specs.PairLaws.{product_mul, error_add, product_number, error_number, tested_zero, tested_first, tested_second}
-use Rattle.pairs.specs.Instances.{roomy_doubles}
+use Rattle.pairs.proofs.FaultLaws.{pair_0}
+use Rattle.pairs.proofs.PairLaws.{product_mul, error_add, product_number, error_number, tested_zero, tested_first, tested_second}
+use Rattle.pairs.proofs.Instances.{roomy_doubles}
 use Rattle.pairs.proofs.two.multiply.Statement.{statement}
 use Rattle.pairs.proofs.two.multiply.Tie as tie
 

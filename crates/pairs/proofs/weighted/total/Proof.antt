@@ -12,11 +12,12 @@ use lib.Ieee.Scale.{finite}
 use Rattle.kinds.specs.Limits.{doubles}
 use Rattle.words.specs.Words.{word_count, whole_of, words_of}
 use Rattle.addend.specs.Addend.{units_of}
-use Rattle.addend.specs.RegisterWords.{held}
+use Rattle.addend.proofs.RegisterWords.{held}
 use Rattle.pairs.specs.Pairs.{Pair, product_of, error_of}
-use Rattle.pairs.specs.ZipLaws.{zip_length, zip_at}
-use Rattle.pairs.specs.TotalLaws.{sum_to, total_begins, total_goes_on, total_ends}
-use Rattle.pairs.specs.Instances.{pair_64}
+use Rattle.pairs.proofs.ZipLaws.{zip_length, zip_at}
+use Rattle.pairs.specs.TotalLaws.{sum_to}
+use Rattle.pairs.proofs.TotalLaws.{total_begins, total_goes_on, total_ends}
+use Rattle.pairs.proofs.Instances.{pair_64}
 use Rattle.pairs.proofs.weighted.total.Statement.{statement}
 use Rattle.pairs.proofs.weighted.total.Tie as tie
 

@@ -2,7 +2,7 @@
 use borrow.Author.Rules.{rules}
 use mathlib.Core.Path.{◌≡◌, sym, ◌∙◌}
 use Rattle.addend.specs.Addend.{Held}
-use Rattle.addend.specs.RegisterWords.{held}
+use Rattle.addend.proofs.RegisterWords.{held}
 use Rattle.register.specs.Signs.{sign_bit, crosses}
 use Rattle.register.proofs.ThreeBits.{crossed, fits}
 use Rattle.register.proofs.two.merged.Statement.{statement}

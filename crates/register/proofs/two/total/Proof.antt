@@ -3,9 +3,9 @@ use borrow.Author.Rules.{rules}
 use mathlib.Core.Path.{sym, ◌∙◌}
 use Prim.Native.Nat.{◌-◌}
 use lib.Dec.{lit<}
-use Rattle.lists.specs.SignedSums.{cut_sum}
+use Rattle.lists.proofs.SignedSums.{cut_sum}
 use Rattle.words.specs.Words.{word_bits, word_count}
-use Rattle.addend.specs.RegisterWords.{held}
+use Rattle.addend.proofs.RegisterWords.{held}
 use Rattle.register.proofs.two.total.Statement.{statement}
 use Rattle.register.proofs.two.total.Tie as tie
 

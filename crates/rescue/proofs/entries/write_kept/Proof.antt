@@ -8,12 +8,13 @@ use native.Mathlib.Omega.{arith}
 use borrow.Author.Rules.{rules}
 use lib.ListN.{length, get_or, take, drop, take-append-drop}
 use lib.Seq.{take_all, length-take-le}
-use Rattle.lists.specs.Filter.{Sifted, sifted_none, sifted_inside, sifted_at, sifted_pass, sifted_fail, sifted_all}
+use Rattle.lists.specs.Filter.{Sifted}
+use Rattle.lists.proofs.Filter.{sifted_none, sifted_inside, sifted_at, sifted_pass, sifted_fail, sifted_all}
 use Rattle.kinds.specs.Limits.{doubles}
 use Rattle.judge.specs.Judge.{fault_free}
 use Rattle.octets.specs.Octets.{big_endian, big}
-use Rattle.octets.specs.OctetsLaws.{big_length}
-use Rattle.octets.specs.EightsLaws.{eights_length, joined_none, joined_behind}
+use Rattle.octets.proofs.OctetsLaws.{big_length}
+use Rattle.octets.proofs.EightsLaws.{eights_length, joined_none, joined_behind}
 use Rattle.sheet.specs.Sheet.{body, patterns_of}
 use Rattle.rescue.specs.Rescue.{kept_of}
 use Rattle.rescue.proofs.EntryLaws.{entry_inside, entry_at, entry_kept, entry_dropped}

@@ -6,10 +6,10 @@ use native.Mathlib.Omega.{arith}
 use borrow.Author.Rules.{rules}
 use lib.ListN.{length, get_or, take, drop}
 use lib.Seq.{take_all}
-use Rattle.lists.specs.Front.{store_map}
+use Rattle.lists.proofs.Front.{store_map}
 use Rattle.kinds.specs.Limits.{doubles}
 use Rattle.octets.specs.Octets.{big}
-use Rattle.octets.specs.EightsLaws.{eights_length}
+use Rattle.octets.proofs.EightsLaws.{eights_length}
 use Rattle.sheet.specs.Sheet.{patterns_of}
 use Rattle.rescue.specs.Rescue.{mark_of}
 use Rattle.rescue.proofs.EntryLaws.{entry_inside, entry_at}

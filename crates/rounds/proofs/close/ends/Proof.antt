@@ -5,7 +5,7 @@ use native.Mathlib.Omega.{arith}
 use borrow.Author.Rules.{rules}
 use lib.Ieee.{binary64}
 use Rattle.kinds.specs.Limits.{doubles, exponent_of}
-use Rattle.kinds.specs.LimitsLaws.{exponent_doubles}
+use Rattle.kinds.proofs.LimitsLaws.{exponent_doubles}
 use Rattle.rounds.specs.ClosedLaws.{tau1_of, enough, ends_not, ends_further}
 use Rattle.rounds.proofs.ClosableLaws.{closable_power}
 use Rattle.rounds.proofs.close.ends.Statement.{statement}

@@ -6,9 +6,9 @@ use borrow.Author.Rules.{rules}
 use lib.Dec.{T}
 use lib.Ieee.{binary64}
 use Rattle.kinds.specs.Limits.{doubles}
-use Rattle.kinds.specs.LimitsLaws.{exponent_doubles}
+use Rattle.kinds.proofs.LimitsLaws.{exponent_doubles}
 use Rattle.rounds.specs.ClosedLaws.{not_finishes, closed_zero, closed_further, ends_further}
-use Rattle.rounds.specs.PatternLaws.{power_above}
+use Rattle.rounds.proofs.PatternLaws.{power_above}
 use Rattle.rounds.proofs.ClosableLaws.{closable_power}
 use Rattle.rounds.proofs.close.onward.Statement.{statement}
 use Rattle.rounds.proofs.close.onward.Tie as tie

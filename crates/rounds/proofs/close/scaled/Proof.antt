@@ -6,11 +6,11 @@ use native.Mathlib.Omega.{arith}
 use borrow.Author.Rules.{rules}
 use lib.Dec.{T, lit≤}
 use lib.Ieee.{binary64, hid, ones, to_bits, fits}
-use Rattle.ieee.specs.Finite.{finite_no_nan}
-use Rattle.ieee.specs.Pattern.{pattern_no_nan}
+use Rattle.ieee.proofs.Finite.{finite_no_nan}
+use Rattle.ieee.proofs.Pattern.{pattern_no_nan}
 use Rattle.exponent.specs.Power.{powers, power_of}
-use Rattle.exponent.specs.PowerLaws.{high_power}
-use Rattle.rounds.specs.PatternLaws.{power_field, scaled_power}
+use Rattle.exponent.proofs.PowerLaws.{high_power}
+use Rattle.rounds.proofs.PatternLaws.{power_field, scaled_power}
 use Rattle.rounds.proofs.close.scaled.Statement.{statement}
 use Rattle.rounds.proofs.close.scaled.Tie as tie
 

@@ -7,10 +7,10 @@ use borrow.Author.Tests.{eq-eqb, ne_eqb, eqb-false}
 use lib.Dec.{eqb}
 use lib.Ieee.{binary64}
 use Rattle.ieee.specs.Units.{magnitude}
-use Rattle.ieee.specs.Finite.{finite_no_nan}
+use Rattle.ieee.proofs.Finite.{finite_no_nan}
 use Rattle.extract.specs.LargestLaws.{Positive}
 use Rattle.kinds.specs.Limits.{doubles}
-use Rattle.rounds.specs.PatternLaws.{zero_bits}
+use Rattle.rounds.proofs.PatternLaws.{zero_bits}
 use Rattle.rounds.specs.ClosedLaws.{fresh_zero, fresh_round_lem}
 use Rattle.rounds.proofs.fresh.from_mu.Statement.{statement}
 use Rattle.rounds.proofs.fresh.from_mu.Tie as tie

@@ -6,7 +6,7 @@ use borrow.Author.Rules.{rules}
 use lib.Ieee.{binary64}
 use Rattle.ieee.specs.Units.{magnitude}
 use Rattle.exponent.specs.Power.{powers}
-use Rattle.rounds.specs.SigmaLaws.{sigma_exists}
+use Rattle.rounds.proofs.SigmaLaws.{sigma_exists}
 use Rattle.rounds.specs.Instances.{doubles_fit}
 use Rattle.rounds.proofs.round.sigma.Statement.{statement}
 use Rattle.rounds.proofs.round.sigma.Tie as tie

@@ -13,7 +13,7 @@ use Rattle.lists.specs.Each.{each_take, each_drop}
 use Rattle.extract.specs.Extract.{remainder_of, remainders, gathered, largest_with}
 use Rattle.kinds.specs.Limits.{doubles}
 use Rattle.rounds.specs.Round.{block_of, turned, in_round}
-use Rattle.rounds.specs.CutLaws.{take_cut, drop_cut}
+use Rattle.rounds.proofs.CutLaws.{take_cut, drop_cut}
 use Rattle.rounds.proofs.round.take.Statement.{statement}
 use Rattle.rounds.proofs.round.take.Tie as tie
 

@@ -7,7 +7,7 @@ use lib.Ieee.{binary64, nan_bits}
 use Rattle.lists.specs.Each.{each_from}
 use Rattle.kinds.specs.Limits.{doubles}
 use Rattle.judge.specs.FaultLaws.{allowed_no_nan}
-use Rattle.judge.specs.FirstFaultLaws.{first_good}
+use Rattle.judge.proofs.FirstFaultLaws.{first_good}
 use Rattle.rounds.specs.Round.{in_round}
 use Rattle.rounds.proofs.round.take_list.Statement.{statement}
 use Rattle.rounds.proofs.round.take_list.Tie as tie

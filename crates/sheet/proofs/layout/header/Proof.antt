@@ -4,7 +4,7 @@ use native.Mathlib.Omega.{arith}
 use borrow.Author.Rules.{rules}
 use lib.ListN.{length}
 use Rattle.octets.specs.Octets.{big_endian}
-use Rattle.sheet.specs.LayoutLaws.{header_laid, header_length}
+use Rattle.sheet.proofs.LayoutLaws.{header_laid, header_length}
 use Rattle.sheet.proofs.layout.header.Statement.{statement}
 use Rattle.sheet.proofs.layout.header.Tie as tie
 

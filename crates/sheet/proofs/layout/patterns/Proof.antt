@@ -7,8 +7,8 @@ use borrow.Author.Rules.{rules}
 use lib.ListN.{length, take, drop, take-append-drop}
 use lib.Seq.{take_all, length-take-le}
 use Rattle.octets.specs.Octets.{big_endian}
-use Rattle.octets.specs.OctetsLaws.{big_length}
-use Rattle.octets.specs.EightsLaws.{joined_none, joined_behind}
+use Rattle.octets.proofs.OctetsLaws.{big_length}
+use Rattle.octets.proofs.EightsLaws.{joined_none, joined_behind}
 use Rattle.sheet.specs.Sheet.{body}
 use Rattle.sheet.proofs.layout.patterns.Statement.{statement}
 use Rattle.sheet.proofs.layout.patterns.Tie as tie

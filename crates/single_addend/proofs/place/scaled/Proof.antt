@@ -7,7 +7,7 @@ use native.Mathlib.Nat.{mul-one}
 use native.Mathlib.Omega.{arith}
 use lib.Dec.{ltb→lt}
 use lib.Ieee.{ones, hid, top}
-use Rattle.ieee.specs.Pattern.{pattern_finite}
+use Rattle.ieee.proofs.Pattern.{pattern_finite}
 use Rattle.addend.specs.PatternFields.{pattern_subnormal, pattern_normal}
 use Rattle.kinds.specs.Limits.{singles}
 use Rattle.single_addend.proofs.place.scaled.Statement.{statement}

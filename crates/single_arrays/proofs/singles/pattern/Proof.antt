@@ -8,7 +8,7 @@ use lib.Dec.{T}
 use lib.Ieee.Bits.{to_bits-lt}
 use lib.Ieee.{Float, binary32, nan, inf, fin, ne, is_nan, to_bits}
 use lib.Ieee.Compare.{differs_from_itself}
-use Rattle.lists.specs.Apart.{apart}
+use Rattle.lists.proofs.Apart.{apart}
 use Rattle.single_arrays.proofs.singles.pattern.Statement.{statement}
 use Rattle.single_arrays.proofs.singles.pattern.Tie as tie
 

@@ -6,7 +6,7 @@ use native.Mathlib.Omega.{arith}
 use borrow.Author.Rules.{rules}
 use lib.ListN.{length, take, get_or}
 use lib.Seq.{take_all}
-use Rattle.lists.specs.Front.{take_next}
+use Rattle.lists.proofs.Front.{take_next}
 use Rattle.kinds.specs.Limits.{singles}
 use Rattle.judge.specs.GreatestLaws.{greatest, greatest_of_four, four_next}
 use Rattle.single_judge.proofs.greatest.of_four.Statement.{statement}

@@ -8,9 +8,9 @@ use lib.Ieee.{binary32}
 use Rattle.lists.specs.Digits.{number, Digits}
 use Rattle.lists.specs.DigitLaws.{number_lt}
 use Rattle.words.specs.Words.{word_bits, word_count, register_bits}
-use Rattle.nearest.specs.HeadLaws.{below_most}
+use Rattle.nearest.proofs.HeadLaws.{below_most}
 use Rattle.nearest.specs.Bits.{head_bits}
-use Rattle.nearest.specs.RegisterBits.{bits_positive, not_zero, bits_negative}
+use Rattle.nearest.proofs.RegisterBits.{bits_positive, not_zero, bits_negative}
 use Rattle.single_nearest.proofs.bits.nearest_bits.Statement.{statement}
 use Rattle.single_nearest.proofs.bits.nearest_bits.Tie as tie
 

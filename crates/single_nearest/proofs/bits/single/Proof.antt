@@ -6,7 +6,7 @@ use mathlib.Core.Bool.{Bool, true, false, cond}
 use Prim.Native.Nat.{◌*◌, ◌%◌, ◌^◌}
 use mir.Val.{bool_byte}
 use lib.Ieee.{binary32}
-use Rattle.nearest.specs.NearestBits.{bits_number}
+use Rattle.nearest.proofs.NearestBits.{bits_number}
 use Rattle.single_nearest.proofs.bits.single.Statement.{statement}
 use Rattle.single_nearest.proofs.bits.single.Tie as tie
 

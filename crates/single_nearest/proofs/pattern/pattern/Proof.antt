@@ -6,7 +6,7 @@ use Prim.Native.Nat.{◌+◌, ◌*◌, ◌%◌, ◌^◌, ◌≤◌}
 use native.Mathlib.Nat.{le_trans, div-lt_iff_lt-mul}
 use native.Mathlib.Omega.{arith}
 use lib.Pow.{pow_pos}
-use Rattle.units.specs.NaturalRounding.{dropped_lt, dropped_le}
+use Rattle.units.proofs.NaturalRounding.{dropped_lt, dropped_le}
 use Rattle.nearest.specs.Sticky.{over_most}
 use Rattle.single_nearest.proofs.pattern.pattern.Statement.{statement}
 use Rattle.single_nearest.proofs.pattern.pattern.Tie as tie

@@ -6,7 +6,7 @@ use native.Mathlib.Omega.{arith}
 use borrow.Author.Rules.{rules}
 use lib.Ieee.{binary32}
 use Rattle.kinds.specs.Limits.{singles, exponent_of}
-use Rattle.kinds.specs.LimitsLaws.{exponent_singles}
+use Rattle.kinds.proofs.LimitsLaws.{exponent_singles}
 use Rattle.rounds.specs.ClosedLaws.{tau1_of, enough, ends_not, ends_further}
 use Rattle.single_rounds.proofs.ClosableLaws.{closable_power}
 use Rattle.single_kinds.specs.Wide.{wide_state}

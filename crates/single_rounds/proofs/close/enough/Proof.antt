@@ -9,9 +9,9 @@ use borrow.Author.Tests.{le-leb, lt-leb}
 use lib.Dec.{T}
 use lib.Ieee.{binary32, hid, to_bits, le}
 use Rattle.ieee.specs.Units.{Number}
-use Rattle.ieee.specs.Finite.{finite_no_nan}
+use Rattle.ieee.proofs.Finite.{finite_no_nan}
 use Rattle.rounds.specs.Round.{least_normal}
-use Rattle.rounds.specs.PatternLaws.{normal_bits, power_above}
+use Rattle.rounds.proofs.PatternLaws.{normal_bits, power_above}
 use Rattle.single_rounds.proofs.close.enough.Statement.{statement}
 use Rattle.single_rounds.proofs.close.enough.Tie as tie
 

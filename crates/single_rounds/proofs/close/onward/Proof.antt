@@ -7,9 +7,9 @@ use borrow.Author.Rules.{rules}
 use lib.Dec.{T}
 use lib.Ieee.{binary32}
 use Rattle.kinds.specs.Limits.{singles}
-use Rattle.kinds.specs.LimitsLaws.{exponent_singles}
+use Rattle.kinds.proofs.LimitsLaws.{exponent_singles}
 use Rattle.rounds.specs.ClosedLaws.{not_finishes, closed_zero, closed_further, ends_further}
-use Rattle.rounds.specs.PatternLaws.{power_above}
+use Rattle.rounds.proofs.PatternLaws.{power_above}
 use Rattle.single_rounds.proofs.ClosableLaws.{closable_power}
 use Rattle.single_kinds.specs.Wide.{wide_state}
 use Rattle.single_rounds.proofs.close.onward.Statement.{statement}

@@ -7,7 +7,7 @@ use borrow.Author.Rules.{rules}
 use lib.Ieee.{binary32}
 use Rattle.ieee.specs.Units.{magnitude}
 use Rattle.exponent.specs.Power.{powers}
-use Rattle.rounds.specs.SigmaLaws.{sigma_exists}
+use Rattle.rounds.proofs.SigmaLaws.{sigma_exists}
 use Rattle.rounds.specs.Instances.{singles_fit}
 use Rattle.single_rounds.proofs.round.sigma.Statement.{statement}
 use Rattle.single_rounds.proofs.round.sigma.Tie as tie

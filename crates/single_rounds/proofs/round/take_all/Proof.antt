@@ -6,12 +6,12 @@ use native.Mathlib.Omega.{arith}
 use borrow.Author.Rules.{rules}
 use lib.ListN.{length}
 use lib.Ieee.{Float, binary32}
-use Rattle.units.specs.Ceiling.{ceil_ge}
+use Rattle.units.proofs.Ceiling.{ceil_ge}
 use Rattle.kinds.specs.Limits.{exponent_of}
 use Rattle.extract.specs.Extract.{gathered}
 use Rattle.rounds.specs.Round.{in_round}
 use Rattle.rounds.specs.Begun.{begun_takable}
-use Rattle.rounds.specs.GroupedSums.{grouped_same}
+use Rattle.rounds.proofs.GroupedSums.{grouped_same}
 use Rattle.single_kinds.specs.Wide.{wide_state}
 use Rattle.single_rounds.proofs.round.take_all.Statement.{statement}
 use Rattle.single_rounds.proofs.round.take_all.Tie as tie

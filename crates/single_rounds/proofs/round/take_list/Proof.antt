@@ -8,7 +8,7 @@ use lib.Ieee.{binary32, nan_bits}
 use Rattle.lists.specs.Each.{each_from}
 use Rattle.kinds.specs.Limits.{singles}
 use Rattle.judge.specs.FaultLaws.{allowed_no_nan}
-use Rattle.judge.specs.FirstFaultLaws.{first_good}
+use Rattle.judge.proofs.FirstFaultLaws.{first_good}
 use Rattle.rounds.specs.Round.{in_round}
 use Rattle.single_kinds.specs.Wide.{wide_state}
 use Rattle.single_rounds.proofs.round.take_list.Statement.{statement}

@@ -4,7 +4,7 @@ use mathlib.Core.Path.{sym, subst}
 use lib.Dec.{T}
 use lib.Ieee.{binary32}
 use Rattle.sound.specs.Sound.{at_most}
-use Rattle.sound.specs.WithinLaws.{within}
+use Rattle.sound.proofs.WithinLaws.{within}
 use Rattle.single_sound.proofs.numbers.at_most.Statement.{statement}
 use Rattle.single_sound.proofs.numbers.at_most.Tie as tie
 

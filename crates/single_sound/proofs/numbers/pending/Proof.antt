@@ -4,7 +4,7 @@ use borrow.Author.Rules.{rules}
 use mathlib.Core.Path.{ap, ◌∙◌}
 use Rattle.lists.specs.Bitset.{full}
 use Rattle.kinds.specs.Limits.{singles, blocks_of}
-use Rattle.sound.specs.SoundLaws.{pending_is}
+use Rattle.sound.proofs.SoundLaws.{pending_is}
 use Rattle.single_kinds.specs.Wide.{wide_state}
 use Rattle.single_sound.proofs.numbers.pending.Statement.{statement}
 use Rattle.single_sound.proofs.numbers.pending.Tie as tie

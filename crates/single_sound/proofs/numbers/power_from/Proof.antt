@@ -8,9 +8,9 @@ use borrow.Author.Tests.{le-leb, lt-leb}
 use lib.Dec.{T}
 use lib.Ieee.{binary32, top, to_bits}
 use Rattle.ieee.specs.Units.{Number, negative}
-use Rattle.ieee.specs.Finite.{finite_no_nan}
-use Rattle.ieee.specs.Pattern.{bits_units}
-use Rattle.exponent.specs.PowerLaws.{power_number}
+use Rattle.ieee.proofs.Finite.{finite_no_nan}
+use Rattle.ieee.proofs.Pattern.{bits_units}
+use Rattle.exponent.proofs.PowerLaws.{power_number}
 use Rattle.sound.specs.SigmaLaws.{power_from, negative_power}
 use Rattle.single_sound.proofs.numbers.power_from.Statement.{statement}
 use Rattle.single_sound.proofs.numbers.power_from.Tie as tie

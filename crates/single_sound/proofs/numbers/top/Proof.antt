@@ -3,7 +3,7 @@
 use borrow.Author.Rules.{rules}
 use lib.Dec.{lit<}
 use lib.Ieee.{binary32}
-use Rattle.sound.specs.LimitLaws.{limit_at}
+use Rattle.sound.proofs.LimitLaws.{limit_at}
 use Rattle.single_sound.proofs.numbers.top.Statement.{statement}
 use Rattle.single_sound.proofs.numbers.top.Tie as tie
 

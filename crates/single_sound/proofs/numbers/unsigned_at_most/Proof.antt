@@ -7,12 +7,12 @@ use lib.Dec.{T, ltb, leb, ltb→lt, lt→ltb, nleb→lt}
 use lib.Arith.{lt→nleb}
 use lib.Ieee.{binary32, top, to_bits}
 use Rattle.ieee.specs.Units.{Number, negative, magnitude}
-use Rattle.ieee.specs.Finite.{finite_no_nan}
-use Rattle.ieee.specs.Fractions.{same_test}
-use Rattle.ieee.specs.Pattern.{bits_units}
+use Rattle.ieee.proofs.Finite.{finite_no_nan}
+use Rattle.ieee.proofs.Fractions.{same_test}
+use Rattle.ieee.proofs.Pattern.{bits_units}
 use Rattle.kinds.specs.Limits.{singles}
 use Rattle.sound.specs.Sound.{at_most}
-use Rattle.sound.specs.SoundLaws.{at_most_holds}
+use Rattle.sound.proofs.SoundLaws.{at_most_holds}
 use Rattle.single_sound.proofs.numbers.unsigned_at_most.Statement.{statement}
 use Rattle.single_sound.proofs.numbers.unsigned_at_most.Tie as tie
 

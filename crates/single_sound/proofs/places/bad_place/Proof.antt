@@ -2,7 +2,7 @@
 -- `single_sound::places::bad_place` meets its contract: where no number is above the limit, the answer is the length. Assumes nothing.
 use borrow.Author.Tests.{eqb-true}
 use mathlib.Core.Path.{sym, ◌∙◌}
-use Rattle.sound.specs.PlacesLaws.{none_above}
+use Rattle.sound.proofs.PlacesLaws.{none_above}
 use Rattle.single_sound.proofs.places.bad_place.Statement.{statement}
 use Rattle.single_sound.proofs.places.bad_place.Tie as tie
 

@@ -9,7 +9,8 @@ use lib.ListN.{length}
 use lib.Ieee.{binary32}
 use Rattle.ieee.specs.Units.{magnitude}
 use Rattle.kinds.specs.Limits.{singles}
-use Rattle.sound.specs.PlacesLaws.{NoneBefore, before_none, before_next, before_found, before_end}
+use Rattle.sound.specs.PlacesLaws.{NoneBefore}
+use Rattle.sound.proofs.PlacesLaws.{before_none, before_next, before_found, before_end}
 use Rattle.single_sound.proofs.places.first_above.Statement.{statement}
 use Rattle.single_sound.proofs.places.first_above.Tie as tie
 

@@ -9,9 +9,9 @@ use Rattle.exponent.specs.Power.{power_of}
 use Rattle.kinds.specs.Limits.{singles, exponent_of}
 use Rattle.sound.specs.SigmaLaws.{Sigma, sigma_holds, sigma_exponent, sigma_true}
 use Rattle.sound.specs.Numbers.{Numbers}
-use Rattle.sound.specs.SoundLaws.{numbers_hold}
+use Rattle.sound.proofs.SoundLaws.{numbers_hold}
 use Rattle.judge.specs.FaultLaws.{most_singles}
-use Rattle.sound.specs.LimitLaws.{room_singles}
+use Rattle.sound.proofs.LimitLaws.{room_singles}
 use Rattle.single_kinds.specs.Wide.{wide_state}
 use Rattle.single_sound.proofs.places.limit.Statement.{statement}
 use Rattle.single_sound.proofs.places.limit.Tie as tie

@@ -2,7 +2,7 @@
 -- `single_step_calls::numbers::float` meets its contract: what can be read is a pattern, and no NaN's. Assumes nothing.
 use native.Mathlib.Omega.{arith}
 use lib.Ieee.{binary32}
-use Rattle.step_calls.specs.Readable.{number_below, number_no_nan, number_float}
+use Rattle.step_calls.proofs.Readable.{number_below, number_no_nan, number_float}
 use Rattle.single_step_calls.proofs.numbers.float.Statement.{statement}
 use Rattle.single_step_calls.proofs.numbers.float.Tie as tie
 

@@ -9,9 +9,9 @@ use lib.Seq.{take_all}
 use Rattle.kinds.specs.Limits.{singles}
 use Rattle.judge.specs.FaultLaws.{allowed_number}
 use Rattle.words.specs.Words.{word_count, whole_of, words_of}
-use Rattle.addend.specs.RegisterWords.{held}
+use Rattle.addend.proofs.RegisterWords.{held}
 use Rattle.sums.specs.Sums.{sum_of}
-use Rattle.sums.specs.SumLaws.{total_begins, total_goes_on}
+use Rattle.sums.proofs.SumLaws.{total_begins, total_goes_on}
 use Rattle.single_sums.proofs.few.total.Statement.{statement}
 use Rattle.single_sums.proofs.few.total.Tie as tie
 

@@ -8,8 +8,8 @@ use Rattle.lists.specs.Each.{Each, each_from}
 use Rattle.kinds.specs.Limits.{singles}
 use Rattle.sound.specs.AdmittedLaws.{Admitted}
 use Rattle.rounds.specs.Instances.{singles_fit}
-use Rattle.walk.specs.Admitted.{admits, admitted_takable, admitted_closable}
-use Rattle.walk.specs.StepLaws.{taken_closes, taken_goes}
+use Rattle.walk.proofs.Admitted.{admits, admitted_takable, admitted_closable}
+use Rattle.walk.proofs.StepLaws.{taken_closes, taken_goes}
 use Rattle.single_kinds.specs.Wide.{wide_state}
 use Rattle.single_walk.proofs.accepted.accepted.Statement.{statement}
 use Rattle.single_walk.proofs.accepted.accepted.Tie as tie

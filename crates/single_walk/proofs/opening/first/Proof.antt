@@ -10,18 +10,18 @@ use lib.IntN.{pos}
 use lib.ListN.{length, length-map}
 use lib.Ieee.{Float, binary32, of_bits}
 use Rattle.ieee.specs.Units.{nearest_float}
-use Rattle.ieee.specs.Pattern.{pattern_no_nan}
+use Rattle.ieee.proofs.Pattern.{pattern_no_nan}
 use Rattle.kinds.specs.Limits.{singles}
 use Rattle.judge.specs.Judge.{floats}
-use Rattle.judge.specs.FirstFaultLaws.{first_good}
+use Rattle.judge.proofs.FirstFaultLaws.{first_good}
 use Rattle.judge.specs.GreatestLaws.{greatest}
 use Rattle.extract.specs.Extract.{plus_zero, largest}
 use Rattle.extract.specs.LargestLaws.{Positive, Stands}
-use Rattle.extract.specs.LargestWithLaws.{stands_positive}
+use Rattle.extract.proofs.LargestWithLaws.{stands_positive}
 use Rattle.rounds.specs.Round.{fresh}
-use Rattle.rounds.specs.FreshRound.{some_left}
-use Rattle.rounds.specs.SigmaLaws.{mu_small}
-use Rattle.walk.specs.Opening.{greatest_stands, allowed_small}
+use Rattle.rounds.proofs.FreshRound.{some_left}
+use Rattle.rounds.proofs.SigmaLaws.{mu_small}
+use Rattle.walk.proofs.OpeningLaws.{greatest_stands, allowed_small}
 use Rattle.single_walk.proofs.opening.first.Statement.{statement}
 use Rattle.single_walk.proofs.opening.first.Tie as tie
 

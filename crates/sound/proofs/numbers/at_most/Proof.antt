@@ -3,7 +3,7 @@ use mathlib.Core.Path.{sym, subst}
 use lib.Dec.{T}
 use lib.Ieee.{binary64}
 use Rattle.sound.specs.Sound.{at_most}
-use Rattle.sound.specs.WithinLaws.{within}
+use Rattle.sound.proofs.WithinLaws.{within}
 use Rattle.sound.proofs.numbers.at_most.Statement.{statement}
 use Rattle.sound.proofs.numbers.at_most.Tie as tie
 

@@ -8,13 +8,13 @@ use lib.Ieee.{binary64, of_bits}
 use Rattle.units.specs.Rounding.{ceil}
 use Rattle.ieee.specs.Units.{negative, magnitude}
 use Rattle.exponent.specs.Power.{powers, power_of}
-use Rattle.exponent.specs.PowerLaws.{power_number, power_negative, power_magnitude}
+use Rattle.exponent.proofs.PowerLaws.{power_number, power_negative, power_magnitude}
 use Rattle.kinds.specs.Limits.{doubles}
 use Rattle.sound.specs.Sound.{at_most}
 use Rattle.sound.specs.SigmaLaws.{Sigma, sigma_holds, sigma_exponent}
 use Rattle.judge.specs.FaultLaws.{most_doubles}
-use Rattle.sound.specs.LimitLaws.{limit_at, room_doubles}
-use Rattle.sound.specs.SoundLaws.{largest_above, largest_below}
+use Rattle.sound.proofs.LimitLaws.{limit_at, room_doubles}
+use Rattle.sound.proofs.SoundLaws.{largest_above, largest_below}
 use Rattle.sound.proofs.numbers.largest.Statement.{statement}
 use Rattle.sound.proofs.numbers.largest.Tie as tie
 

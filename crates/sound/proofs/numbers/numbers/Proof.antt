@@ -8,8 +8,8 @@ use lib.Dec.{lit<}
 use lib.Ieee.{binary64}
 use Rattle.kinds.specs.Limits.{doubles}
 use Rattle.sound.specs.Sound.{sound_sigma}
-use Rattle.sound.specs.SoundLaws.{numbers_none, numbers_many, numbers_sigma, numbers_are}
-use Rattle.sound.specs.LimitLaws.{limit_at}
+use Rattle.sound.proofs.SoundLaws.{numbers_none, numbers_many, numbers_sigma, numbers_are}
+use Rattle.sound.proofs.LimitLaws.{limit_at}
 use Rattle.sound.proofs.numbers.numbers.Statement.{statement}
 use Rattle.sound.proofs.numbers.numbers.Tie as tie
 

@@ -3,7 +3,7 @@ use borrow.Author.Rules.{rules}
 use mathlib.Core.Path.{ap, ◌∙◌}
 use Rattle.lists.specs.Bitset.{full}
 use Rattle.kinds.specs.Limits.{doubles, blocks_of}
-use Rattle.sound.specs.SoundLaws.{pending_is}
+use Rattle.sound.proofs.SoundLaws.{pending_is}
 use Rattle.sound.proofs.numbers.pending.Statement.{statement}
 use Rattle.sound.proofs.numbers.pending.Tie as tie
 

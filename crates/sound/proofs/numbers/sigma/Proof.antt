@@ -6,16 +6,16 @@ use mathlib.Core.Bool.{Bool, true, false, ◌&&◌}
 use Prim.Native.Nat.{ℕ, ◌+◌, ◌^◌, ◌<◌}
 use native.Mathlib.Omega.{arith}
 use lib.Ieee.{binary64}
-use Rattle.units.specs.Ceiling.{ceil_least}
+use Rattle.units.proofs.Ceiling.{ceil_least}
 use Rattle.ieee.specs.Units.{magnitude}
 use Rattle.exponent.specs.Power.{powers, power_of}
-use Rattle.exponent.specs.PowerLaws.{power_number, power_negative, power_magnitude}
+use Rattle.exponent.proofs.PowerLaws.{power_number, power_negative, power_magnitude}
 use Rattle.kinds.specs.Limits.{doubles, exponent_of}
 use Rattle.sound.specs.Sound.{at_most, sound_sigma}
 use Rattle.sound.specs.SigmaLaws.{is_power_from, sigma_is}
-use Rattle.sound.specs.SoundLaws.{at_most_holds}
+use Rattle.sound.proofs.SoundLaws.{at_most_holds}
 use Rattle.judge.specs.FaultLaws.{most_doubles}
-use Rattle.sound.specs.LimitLaws.{magnitude_doubles, room_doubles}
+use Rattle.sound.proofs.LimitLaws.{magnitude_doubles, room_doubles}
 use Rattle.sound.proofs.numbers.sigma.Statement.{statement}
 use Rattle.sound.proofs.numbers.sigma.Tie as tie
 

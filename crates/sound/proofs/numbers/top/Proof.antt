@@ -2,7 +2,7 @@
 use borrow.Author.Rules.{rules}
 use lib.Dec.{lit<}
 use lib.Ieee.{binary64}
-use Rattle.sound.specs.LimitLaws.{limit_at}
+use Rattle.sound.proofs.LimitLaws.{limit_at}
 use Rattle.sound.proofs.numbers.top.Statement.{statement}
 use Rattle.sound.proofs.numbers.top.Tie as tie
 

@@ -8,7 +8,8 @@ use lib.ListN.{length}
 use lib.Ieee.{binary64}
 use Rattle.ieee.specs.Units.{magnitude}
 use Rattle.kinds.specs.Limits.{doubles}
-use Rattle.sound.specs.PlacesLaws.{NoneBefore, before_none, before_next, before_found, before_end}
+use Rattle.sound.specs.PlacesLaws.{NoneBefore}
+use Rattle.sound.proofs.PlacesLaws.{before_none, before_next, before_found, before_end}
 use Rattle.sound.proofs.places.first_above.Statement.{statement}
 use Rattle.sound.proofs.places.first_above.Tie as tie
 

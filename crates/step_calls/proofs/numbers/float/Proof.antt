@@ -1,6 +1,6 @@
 -- `step_calls::numbers::float` meets its contract: what can be read is a pattern, and no NaN's. Assumes nothing.
 use lib.Ieee.{binary64}
-use Rattle.step_calls.specs.Readable.{number_no_nan, number_float}
+use Rattle.step_calls.proofs.Readable.{number_no_nan, number_float}
 use Rattle.step_calls.proofs.numbers.float.Statement.{statement}
 use Rattle.step_calls.proofs.numbers.float.Tie as tie
 

@@ -5,7 +5,7 @@ use Prim.Native.Nat.{◌^◌, ◌<◌}
 use lib.Ieee.{binary64}
 use lib.ListN.{get_or}
 use Rattle.kinds.specs.States.{state_of}
-use Rattle.step_calls.specs.Readable.{fields}
+use Rattle.step_calls.proofs.Readable.{fields}
 use Rattle.step_calls.proofs.numbers.state.Statement.{statement}
 use Rattle.step_calls.proofs.numbers.state.Tie as tie
 

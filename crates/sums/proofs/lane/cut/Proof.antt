@@ -5,7 +5,7 @@ use native.Mathlib.Nat.{le_of_lt, lt_of_lt_of_le}
 use native.Mathlib.Omega.{arith}
 use borrow.Author.Rules.{rules}
 use lib.Pow.{mod-mod-pow, split, pow_mono, shr_lt}
-use Rattle.lists.specs.WordShifts.{shifted_above}
+use Rattle.lists.proofs.WordShifts.{shifted_above}
 use Rattle.sums.proofs.lane.cut.Statement.{statement}
 use Rattle.sums.proofs.lane.cut.Tie as tie
 

@@ -8,9 +8,9 @@ use lib.Seq.{take_all}
 use Rattle.kinds.specs.Limits.{doubles}
 use Rattle.judge.specs.FaultLaws.{allowed_number}
 use Rattle.sums.specs.ListSides.{list_sides}
-use Rattle.sums.specs.SideSums.{sides_up, sides_dn}
+use Rattle.sums.proofs.SideSums.{sides_up, sides_dn}
 use Rattle.sums.specs.SignLanes.{Lanes, Room, lane_sides}
-use Rattle.sums.specs.SignLanesLaws.{room_none, sides_none, room_within, room_next}
+use Rattle.sums.proofs.SignLanesLaws.{room_none, sides_none, room_within, room_next}
 use Rattle.sums.proofs.long.gather.Statement.{statement}
 use Rattle.sums.proofs.long.gather.Tie as tie
 

@@ -1,7 +1,7 @@
 -- `sums::long::put` meets its contract: a digit and what is above it, added to their lane. Assumes nothing.
 use borrow.Author.Rules.{rules}
 use native.Mathlib.Omega.{arith}
-use Rattle.sums.specs.SignLanesLaws.{put_at}
+use Rattle.sums.proofs.SignLanesLaws.{put_at}
 use Rattle.sums.proofs.long.put.Statement.{statement}
 use Rattle.sums.proofs.long.put.Tie as tie
 

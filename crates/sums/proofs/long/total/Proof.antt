@@ -2,7 +2,7 @@
 use borrow.Author.Rules.{rules}
 use mathlib.Core.Path.{ap, ◌∙◌}
 use Rattle.words.specs.Words.{words_of}
-use Rattle.sums.specs.SignLanesLaws.{gathered_sum}
+use Rattle.sums.proofs.SignLanesLaws.{gathered_sum}
 use Rattle.sums.proofs.long.total.Statement.{statement}
 use Rattle.sums.proofs.long.total.Tie as tie
 

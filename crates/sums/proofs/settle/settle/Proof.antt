@@ -1,8 +1,8 @@
 -- `sums::settle::settle` meets its contract: the borrow equation gives every word. Assumes nothing.
 use borrow.Author.Rules.{rules}
 use mathlib.Core.Path.{◌∙◌}
-use Rattle.addend.specs.RegisterWords.{held}
-use Rattle.sums.specs.SettleLaws.{settle_words}
+use Rattle.addend.proofs.RegisterWords.{held}
+use Rattle.sums.proofs.SettleLaws.{settle_words}
 use Rattle.sums.specs.SignLanes.{lane_sides}
 use Rattle.sums.proofs.settle.settle.Statement.{statement}
 use Rattle.sums.proofs.settle.settle.Tie as tie

@@ -7,7 +7,8 @@ use Prim.Native.Nat.{◌-◌, ◌≤◌}
 use lib.ListN.{length, length-set}
 use Rattle.words.specs.Words.{word_count}
 use Rattle.sums.specs.SignLanes.{most_carry}
-use Rattle.sums.specs.SettleLaws.{SettledTo, settle_begins, settle_next, settle_ends}
+use Rattle.sums.specs.SettleLaws.{SettledTo}
+use Rattle.sums.proofs.SettleLaws.{settle_begins, settle_next, settle_ends}
 use Rattle.sums.proofs.settle.subtract.Statement.{statement}
 use Rattle.sums.proofs.settle.subtract.Tie as tie
 

@@ -10,8 +10,8 @@ use Rattle.lists.specs.Digits.{number, Digits}
 use Rattle.words.specs.Words.{word_bits, word_count}
 use Rattle.addend.specs.Sides.{side_by_side}
 use Rattle.sums.specs.ListSides.{list_sides}
-use Rattle.sums.specs.SumLaws.{sums_doubles}
-use Rattle.sums.specs.SideSums.{gathers}
+use Rattle.sums.proofs.SumLaws.{sums_doubles}
+use Rattle.sums.proofs.SideSums.{gathers}
 use Rattle.sums.proofs.short.gather.Statement.{statement}
 use Rattle.sums.proofs.short.gather.Tie as tie
 

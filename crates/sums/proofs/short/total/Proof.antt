@@ -2,8 +2,8 @@
 use borrow.Author.Rules.{rules}
 use mathlib.Core.Path.{ap, ◌∙◌}
 use Rattle.words.specs.Words.{words_of}
-use Rattle.sums.specs.SumLaws.{sums_doubles}
-use Rattle.sums.specs.SideSums.{nothing, settled_sides}
+use Rattle.sums.proofs.SumLaws.{sums_doubles}
+use Rattle.sums.proofs.SideSums.{nothing, settled_sides}
 use Rattle.sums.proofs.short.total.Statement.{statement}
 use Rattle.sums.proofs.short.total.Tie as tie
 

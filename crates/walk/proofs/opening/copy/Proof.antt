@@ -6,11 +6,11 @@ use native.Mathlib.Omega.{arith}
 use borrow.Author.Rules.{rules}
 use lib.Ieee.{nan, of_bits}
 use lib.ListN.{length, take, drop}
-use Rattle.lists.specs.Front.{store_map, end_map}
+use Rattle.lists.proofs.Front.{store_map, end_map}
 use Rattle.kinds.specs.Limits.{doubles}
 use Rattle.judge.specs.Judge.{floats}
 use Rattle.judge.specs.FaultLaws.{allowed_no_nan}
-use Rattle.judge.specs.FirstFaultLaws.{first_good}
+use Rattle.judge.proofs.FirstFaultLaws.{first_good}
 use Rattle.walk.proofs.opening.copy.Statement.{statement}
 use Rattle.walk.proofs.opening.copy.Tie as tie
 

@@ -9,14 +9,14 @@ use Rattle.kinds.specs.Limits.{doubles}
 use Rattle.kinds.specs.Outcome.{outcome}
 use Rattle.kinds.specs.declared.Verdict.TheVariants.{Good}
 use Rattle.judge.specs.Judge.{floats, first_fault}
-use Rattle.judge.specs.JudgeLaws.{list_when, list_passed, list_allowed}
+use Rattle.judge.proofs.JudgeLaws.{list_when, list_passed, list_allowed}
 use Rattle.judge.specs.Table.{ListWhen}
-use Rattle.judge.specs.FirstFaultLaws.{first_good}
+use Rattle.judge.proofs.FirstFaultLaws.{first_good}
 use Rattle.extract.specs.Extract.{plus_zero}
 use Rattle.rounds.specs.Instances.{doubles_fit}
 use Rattle.walk.specs.Walk.{opened}
 use Rattle.walk.specs.OpeningLaws.{opened_judged, first_accepted}
-use Rattle.walk.specs.Undivided.{faithful_done, faithful_running, faithful_more}
+use Rattle.walk.proofs.UndividedLaws.{faithful_done, faithful_running, faithful_more}
 use Rattle.walk.proofs.undivided.undivided.Statement.{statement}
 use Rattle.walk.proofs.undivided.undivided.Tie as tie
 

@@ -3,8 +3,8 @@ use borrow.Author.Rules.{rules}
 use mathlib.Core.Path.{sym}
 use native.Mathlib.Omega.{arith}
 use Rattle.kinds.specs.Limits.{doubles}
-use Rattle.weights.specs.WeightLaws.{below_most}
-use Rattle.weights.specs.FieldLaws.{fine_doubles, weight_none, weight_some}
+use Rattle.weights.proofs.WeightLaws.{below_most}
+use Rattle.weights.proofs.FieldLaws.{fine_doubles, weight_none, weight_some}
 use Rattle.weights.proofs.grains.grains_of.Statement.{statement}
 use Rattle.weights.proofs.grains.grains_of.Tie as tie
 

@@ -6,8 +6,8 @@ use native.Mathlib.Omega.{arith}
 use lib.Dec.{eqb}
 use Rattle.kinds.specs.Limits.{doubles}
 use Rattle.weights.specs.Weights.{pattern_for}
-use Rattle.weights.specs.WeightLaws.{good_not_above, good_back}
-use Rattle.weights.specs.FieldLaws.{fine_doubles}
+use Rattle.weights.proofs.WeightLaws.{good_not_above, good_back}
+use Rattle.weights.proofs.FieldLaws.{fine_doubles}
 use Rattle.weights.proofs.grains.is_weight.Statement.{statement}
 use Rattle.weights.proofs.grains.is_weight.Tie as tie
 

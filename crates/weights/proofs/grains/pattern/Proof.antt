@@ -6,7 +6,8 @@ use native.Mathlib.Omega.{arith}
 use lib.Count.{count_leading_zeros}
 use Rattle.kinds.specs.Limits.{doubles}
 use Rattle.weights.specs.Weights.{pattern_for}
-use Rattle.weights.specs.FieldLaws.{fine_doubles, pattern_zero, pattern_some, Moved, moved}
+use Rattle.weights.specs.FieldLaws.{Moved}
+use Rattle.weights.proofs.FieldLaws.{fine_doubles, pattern_zero, pattern_some, moved}
 use Rattle.weights.proofs.grains.pattern.Statement.{statement}
 use Rattle.weights.proofs.grains.pattern.Tie as tie
 

@@ -5,10 +5,10 @@ use mathlib.Core.List.{List, map}
 use Prim.Native.Nat.{ℕ, ◌+◌, ◌-◌, ◌≤◌, ◌<◌}
 use native.Mathlib.Omega.{arith}
 use lib.ListN.{length, drop, get_or, length-map}
-use Rattle.lists.specs.Front.{map_at}
+use Rattle.lists.proofs.Front.{map_at}
 use Rattle.kinds.specs.Limits.{doubles}
 use Rattle.weights.specs.Weights.{weights_of, total, share, staying}
-use Rattle.weights.specs.LoopLaws.{staying_length, total_next, total_end}
+use Rattle.weights.proofs.LoopLaws.{staying_length, total_next, total_end}
 use Rattle.weights.proofs.share.shares.Statement.{statement}
 use Rattle.weights.proofs.share.shares.Tie as tie
 

@@ -5,11 +5,11 @@ use Prim.Native.Nat.{◌<◌}
 use native.Mathlib.Omega.{arith}
 use lib.ListN.{length, length-map}
 use lib.Seq.{get_or-set_same, get_or-set_other}
-use Rattle.lists.specs.Front.{map_at}
+use Rattle.lists.proofs.Front.{map_at}
 use Rattle.kinds.specs.Limits.{doubles}
 use Rattle.weights.specs.Weights.{weight_of, weights_of}
-use Rattle.weights.specs.WeightLaws.{good_below}
-use Rattle.weights.specs.FieldLaws.{fine_doubles}
+use Rattle.weights.proofs.WeightLaws.{good_below}
+use Rattle.weights.proofs.FieldLaws.{fine_doubles}
 use Rattle.weights.proofs.share.weight_at.Statement.{statement}
 use Rattle.weights.proofs.share.weight_at.Tie as tie
 

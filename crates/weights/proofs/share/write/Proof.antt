@@ -7,7 +7,8 @@ use native.Mathlib.Omega.{arith}
 use lib.ListN.{length, get_or, length-set}
 use Rattle.kinds.specs.Limits.{doubles}
 use Rattle.weights.specs.Weights.{grains, pattern_for, weights_of, share, staying, gets, spread}
-use Rattle.weights.specs.LoopLaws.{staying_length, Written, written_small, written_next, written_end}
+use Rattle.weights.specs.LoopLaws.{Written}
+use Rattle.weights.proofs.LoopLaws.{staying_length, written_small, written_next, written_end}
 use Rattle.weights.proofs.share.write.Statement.{statement}
 use Rattle.weights.proofs.share.write.Tie as tie
 

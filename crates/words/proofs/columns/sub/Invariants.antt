@@ -2,7 +2,7 @@
 -- Assumes nothing.
 use Rattle.std.proofs.Common.{◌≡◌, ℕ, ◌-◌, ◌≤◌, length, sym, ◌∙◌, add-one, arith, rules}
 use Rattle.lists.specs.Carry.{Added}
-use Rattle.lists.specs.CarryLaws.{added_none, taken_next, added_all}
+use Rattle.lists.proofs.CarryLaws.{added_none, taken_next, added_all}
 use Rattle.words.specs.Words.{word_bits}
 use Rattle.words.proofs.columns.sub.Given as goal
 

@@ -2,7 +2,7 @@
 -- Assumes nothing.
 use Rattle.std.proofs.Common.{◌≡◌, ◌-◌, ◌*◌, ◌^◌, ◌≤◌, length, arith, rules}
 use Rattle.lists.specs.Carry.{Carried}
-use Rattle.lists.specs.CarryLaws.{borrowed_up}
+use Rattle.lists.proofs.CarryLaws.{borrowed_up}
 use Rattle.words.specs.Words.{word_bits}
 use Rattle.words.proofs.ripple.borrow_up.Goals as goal
 

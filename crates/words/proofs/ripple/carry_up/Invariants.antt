@@ -2,7 +2,7 @@
 -- Assumes nothing.
 use Rattle.std.proofs.Common.{◌≡◌, ◌-◌, ◌*◌, ◌^◌, ◌≤◌, length, arith, rules}
 use Rattle.lists.specs.Carry.{Carried}
-use Rattle.lists.specs.CarryLaws.{carried_up}
+use Rattle.lists.proofs.CarryLaws.{carried_up}
 use Rattle.words.specs.Words.{word_bits}
 use Rattle.words.proofs.ripple.carry_up.Given as goal
 

@@ -1,0 +1,2 @@
+pub mod ArraysLaws
+pub mod CodesLaws

@@ -1,0 +1,3 @@
+pub mod CallsLaws
+pub mod CodeLaws
+pub mod RefusalLaws

@@ -1,0 +1,8 @@
+pub mod BytesFromC
+pub mod Example
+pub mod FromC
+pub mod Holds
+pub mod Lanes
+pub mod LanesFromC
+pub mod Orders
+pub mod Singles

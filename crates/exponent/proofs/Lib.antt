@@ -1,0 +1,2 @@
+pub mod CeilingLaws
+pub mod PowerLaws

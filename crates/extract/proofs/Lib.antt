@@ -1,0 +1,2 @@
+pub mod LargestWithLaws
+pub mod TurnLaws

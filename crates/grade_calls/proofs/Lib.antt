@@ -1,0 +1,2 @@
+pub mod GradeArraysLaws
+pub mod GradeCodes

@@ -1,0 +1,7 @@
+pub mod AllowedLaws
+pub mod FaultlessLaws
+pub mod FirstBadLaws
+pub mod FirstFaultLaws
+pub mod IeeeZero
+pub mod JudgeLaws
+pub mod ZeroLaws

@@ -1,0 +1,4 @@
+pub mod HeardLaws
+pub mod Hearing
+pub mod LimitsLaws
+pub mod OutcomeLaws

@@ -1,0 +1,2 @@
+pub mod LaneArraysLaws
+pub mod LaneCodes

@@ -1,0 +1,5 @@
+pub mod Instances
+pub mod LineLaws
+pub mod LinesLaws
+pub mod SheetAlone
+pub mod SumLaws

@@ -1,0 +1,4 @@
+pub mod BitsLaws
+pub mod HeadLaws
+pub mod NearestBits
+pub mod RegisterBits

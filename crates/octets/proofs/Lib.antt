@@ -1,0 +1,3 @@
+pub mod EightsLaws
+pub mod Instances
+pub mod OctetsLaws

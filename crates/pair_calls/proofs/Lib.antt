@@ -1,0 +1,2 @@
+pub mod PairArraysLaws
+pub mod PairCodes

@@ -1,0 +1,12 @@
+pub mod FaultLaws
+pub mod Instances
+pub mod JudgedLaws
+pub mod ListLaws
+pub mod PairLaws
+pub mod ProductLaws
+pub mod Promised
+pub mod Reordered
+pub mod TableLaws
+pub mod TotalLaws
+pub mod WriteLaws
+pub mod ZipLaws

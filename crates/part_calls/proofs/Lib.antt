@@ -1,0 +1,3 @@
+pub mod PartArraysLaws
+pub mod PartCodes
+pub mod PartZeros

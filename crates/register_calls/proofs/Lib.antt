@@ -1,0 +1,2 @@
+pub mod RegisterArraysLaws
+pub mod RegisterCodes

@@ -1,0 +1,8 @@
+pub mod Header
+pub mod Instances
+pub mod LayoutLaws
+pub mod SheetLaws
+pub mod TableLaws
+pub mod ThereAndBack
+pub mod WriteInstances
+pub mod WriteLaws

@@ -1,0 +1,4 @@
+pub mod RescueCodes
+pub mod SheetArraysLaws
+pub mod SheetCodes
+pub mod WriteCodes

@@ -1,0 +1,6 @@
+pub mod AdmittedLaws
+pub mod GateLaws
+pub mod LimitLaws
+pub mod PlacesLaws
+pub mod SoundLaws
+pub mod WithinLaws

@@ -1,0 +1,4 @@
+pub mod OpenZeros
+pub mod Readable
+pub mod StepArraysLaws
+pub mod StepCodes

@@ -1,0 +1,3 @@
+pub mod SumArraysLaws
+pub mod SumCodes
+pub mod SumZeros

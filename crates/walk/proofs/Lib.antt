@@ -1,0 +1,8 @@
+pub mod Admitted
+pub mod BeforeLaws
+pub mod Ensembles
+pub mod NoRefusal
+pub mod OpeningLaws
+pub mod StepLaws
+pub mod Told
+pub mod UndividedLaws
