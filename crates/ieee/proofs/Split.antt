@@ -11,7 +11,7 @@ use Rattle.units.specs.Whole.{Whole, nat, ◌⊗◌, ◌⊙◌, ◌≈◌, Withi
 use Rattle.units.proofs.NaturalRounding.{exact, rnd_is, dropped_lt, dropped_ge, dropped_half}
 use Rattle.units.proofs.Multiples.{multiple_neg}
 use Rattle.units.proofs.Products.{nat_times}
-use Rattle.units.proofs.Split as Units
+use Rattle.units.specs.Split as Units
 use Rattle.units.specs.Split.{LastPlace, Halves, multiplied}
 use Rattle.units.proofs.Split.{split}
 use Rattle.ieee.specs.Units.{Is, Between, RoundedTo, Number, negative, magnitude, signed_whole, whole}

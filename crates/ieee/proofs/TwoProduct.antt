@@ -13,7 +13,8 @@ use Rattle.units.proofs.Multiples.{multiple_finer}
 use Rattle.units.proofs.SignedRounding.{fl_relative_result}
 use Rattle.units.proofs.Integers.{int_same, int_plus, int_difference}
 use Rattle.units.proofs.Products.{nat_times, times_multiple, times_within, scale_mag, int_times}
-use Rattle.units.proofs.TwoProduct as Units
+use Rattle.units.specs.TwoProduct as Units
+use Rattle.units.proofs.TwoProduct.{two_product as units_two_product}
 use Rattle.ieee.specs.Units.{Between, Number, magnitude, value, whole}
 use Rattle.ieee.specs.ErrorFree.{half_prec, upper_half, lower_half, product_error, ErrorFree, Room}
 use Rattle.ieee.proofs.Rounded.{prec_pos}
@@ -91,7 +92,7 @@ module _ {f : Format} {l h : ℕ} {a b : Float} (R : Room f l h) (A : Between f 
 
       computed_is : computed ≈ whole f a ⊙ whole f b ⊖ fl (prec f) (whole f a ⊙ whole f b)
       computed_is =
-          Units.two_product (prec f) (half_prec f) (last_place f a) (last_place f b) (half_least f) (half_most f) (half_less f)
+          units_two_product (prec f) (half_prec f) (last_place f a) (last_place f b) (half_least f) (half_most f) (half_less f)
           (last_place_lem R A) (last_place_lem R B) (halves R A) (halves R B)
 
   sum : Whole
