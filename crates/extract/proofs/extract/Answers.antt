@@ -80,8 +80,8 @@ loop-i-preserved c =
       summed a.sigma a.tau a.block.now c.loop-i.block c.loop-i.i c.loop-i.sum v.1 v.2 h,
       rw (most_next a.sigma a.tau a.block.now c.loop-i.block c.loop-i.i c.loop-i.sum v.1 v.2 h (magnitude binary64 a.largest))
           (elim c.if-most-m.branch [
-            | inl g ↦ rw g.1 (larger binary64 v.3 Q (omega arith))
-            | inr g ↦ rw g.1 (kept binary64 v.3 Q (omega arith))
+            | goal.then-most-m g ↦ rw g.most-is (larger binary64 v.3 Q (omega arith))
+            | goal.else-most-m g ↦ rw g.most-is (kept binary64 v.3 Q (omega arith))
           ]),
     )
 

@@ -8,4 +8,4 @@ use Rattle.addend.proofs.sides.settle.Goals as goal
 pub returns : goal.returns
 returns c =
     side_less {ws = c.args.both.now} c.requires.0 (record { below = λ i. (c.shared_slice_known-1.given i).fits })
-    (held (c.sub.auto.difference.1.0 ∙ c.requires.1) c.slice_known-2-1.given) c.sub.ensures
+    (held (c.sub.auto.difference ∙ c.requires.1) c.slice_known-2-1.given) c.sub.ensures

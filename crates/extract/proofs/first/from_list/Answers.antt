@@ -106,8 +106,8 @@ loop-i-preserved c =
       added a.sigma a.tau ps i h c.loop-i.sum v.3,
       rw (most_next a.sigma a.tau ps i h (magnitude binary64 a.largest))
           (elim c.if-most-m.branch [
-            | inl g ↦ rw g.1 (larger binary64 v.4 Q (omega arith))
-            | inr g ↦ rw g.1 (kept binary64 v.4 Q (omega arith))
+            | goal.then-most-m g ↦ rw g.most-is (larger binary64 v.4 Q (omega arith))
+            | goal.else-most-m g ↦ rw g.most-is (kept binary64 v.4 Q (omega arith))
           ]),
     )
 

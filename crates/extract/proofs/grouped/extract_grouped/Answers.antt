@@ -63,14 +63,14 @@ returns c =
     let a = c.args in
     let xs = a.work.now in
     let k = 8 * (length xs / 8) in
-    let n : length c.turns-sums.new.0 ≡ length xs = search rules in
-    let e = left a.sigma xs c.turns-sums.new.0 k (omega arith) c.turns-sums.ensures.1 n in
-    let N = remainders_numbers binary64 a.sigma (take k xs) (each_take (λ c.before.before. T (finite (remainder_of binary64 a.sigma c.before.before))) k xs c.requires.2) in
+    let n : length c.turns-sums.new.work ≡ length xs = search rules in
+    let e = left a.sigma xs c.turns-sums.new.work k (omega arith) c.turns-sums.ensures.1 n in
+    let N = remainders_numbers binary64 a.sigma (take k xs) (each_take (λ x. T (finite (remainder_of binary64 a.sigma x))) k xs c.requires.2) in
     let m = stands_with binary64 positive (remainders binary64 a.sigma (take k xs)) N stands in
     let j = c.join-tau.ensures ∙ ap (joined binary64) c.turns-sums.ensures.0 in (
       c.extract.ensures.0 ∙ (λ i. gathered binary64 a.sigma (j i) (e i)),
       c.extract.ensures.1 ∙ (λ i. largest_with binary64 (m i) (remainders binary64 a.sigma (e i)))
           ∙ with_join binary64 positive (remainders binary64 a.sigma (take k xs)) (remainders binary64 a.sigma (drop k xs)) N
-          ∙ ap (largest_with binary64 a.largest) (all a.sigma xs c.turns-sums.new.0 k (omega arith) c.turns-sums.ensures.1 n),
-      stored a.sigma xs c.turns-sums.new.0 k (omega arith) c.turns-sums.ensures.1 n _ c.extract.ensures.2,
+          ∙ ap (largest_with binary64 a.largest) (all a.sigma xs c.turns-sums.new.work k (omega arith) c.turns-sums.ensures.1 n),
+      stored a.sigma xs c.turns-sums.new.work k (omega arith) c.turns-sums.ensures.1 n _ c.extract.ensures.2,
     )

@@ -62,8 +62,8 @@ loop-k-preserved c =
       turn_stored binary64 a.sigma xs k h v.2,
       rw (v.3, e) (spread_next binary64 a.sigma a.sums.taus xs k (omega arith) h),
       rw (take_next nan xs k, remainders_next, ← e) (elim c.if-most-m.branch [
-        | inl g ↦ rw g.1 (raised_larger binary64 v.4 r Q (omega arith))
-        | inr g ↦ rw g.1 (raised_kept binary64 v.4 r Q (omega arith))
+        | goal.then-most-m g ↦ rw g.most-is (raised_larger binary64 v.4 r Q (omega arith))
+        | goal.else-most-m g ↦ rw g.most-is (raised_kept binary64 v.4 r Q (omega arith))
       ]),
     )
 
