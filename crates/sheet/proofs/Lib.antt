@@ -1,4 +1,4 @@
-pub mod Header
+pub mod HeaderLaws
 pub mod Instances
 pub mod LayoutLaws
 pub mod SheetLaws
