@@ -30,6 +30,8 @@ use Rattle.rounds.specs.InUnits.{Small, remainder_small}
 use Rattle.rounds.specs.Begun.{Begun, tau_all}
 use Rattle.rounds.proofs.FreshRound.{begins, largest_small}
 use Rattle.rounds.specs.Closes.{Next}
+use Rattle.rounds.specs.Closes.{ends}
+use Rattle.rounds.specs.Closes.{goes}
 
 -- ---- 2^j eps times 2^k units are 2^c units, c = j + k - prec
 pub scaled_positive : (f : Format) (j k c : ℕ) {sigma : Float} → prec f ≤ low f → Positive f sigma (2 ^ k) → c + prec f ≡ j + k → j ≤ prec f

@@ -15,7 +15,7 @@ use Rattle.weights.specs.Promise.{sum_units, weight_at, positives, Stays, Handed
 use Rattle.weights.specs.WeightLaws.{Fine}
 use Rattle.weights.proofs.WeightLaws.{one_is, is_value, good_is, good_pattern, pattern_good, pattern_weight}
 use Rattle.weights.proofs.FieldLaws.{pattern_zero}
-use Rattle.weights.specs.GrainLaws as grain-laws
+use Rattle.weights.proofs.GrainLaws as grain-laws
 use Rattle.weights.specs.GrainLaws.{grain_at}
 use Rattle.weights.proofs.HandedLaws.{at_most_total}
 use Rattle.weights.proofs.TableLaws.{accepted_hands}

@@ -1,0 +1,17 @@
+-- `lanes::carries::top` meets its contract: at each turn the carry is the one into the lane i. Assumes nothing.
+use mathlib.Core.Path.{◌≡◌, refl}
+use Prim.Native.Nat.{◌-◌, ◌≤◌, ◌<◌}
+use native.Mathlib.Omega.{arith}
+use borrow.Author.Rules.{rules}
+use lib.ListN.{length}
+use mir.Syntax.{w64}
+use mir.Val.{to_z}
+use Rattle.lanes.specs.Settle.{carry_into, lane_carry}
+use Rattle.lanes.proofs.Carrying.{addends, sum_back, handed}
+use Rattle.lanes.proofs.carries.top.Given as goal
+
+abbrev pub invariant-loop-i : goal.invariant-loop-i
+invariant-loop-i l = (to_z w64 l.carry ≡ carry_into l.lanes l.i) × (l.i ≤ 65)
+
+abbrev pub decreases-loop-i : goal.decreases-loop-i
+decreases-loop-i l = 65 - l.i

@@ -1,0 +1,24 @@
+-- `weights::share::shares` meets its contract: the shares of the places passed and of those to come add up to no more than the leaver had. Assumes nothing.
+use borrow.Author.Rules.{rules}
+use mathlib.Core.Path.{◌≡◌, ap, ◌∙◌}
+use mathlib.Core.List.{List, map}
+use Prim.Native.Nat.{ℕ, ◌+◌, ◌-◌, ◌≤◌, ◌<◌}
+use native.Mathlib.Omega.{arith}
+use lib.ListN.{length, drop, get_or, length-map}
+use Rattle.lists.proofs.Front.{map_at}
+use Rattle.kinds.specs.Limits.{doubles}
+use Rattle.weights.specs.Weights.{weights_of, total, share, staying}
+use Rattle.weights.proofs.LoopLaws.{staying_length, total_next, total_end}
+use Rattle.weights.proofs.share.shares.Given as goal
+
+abbrev pub stay : List ℕ → ℕ → List ℕ
+stay ps at = staying at (weights_of doubles ps)
+
+abbrev pub all : List ℕ → ℕ → ℕ → List ℕ
+all ps at w = map (share w) (stay ps at)
+
+abbrev pub invariant-loop-i : goal.invariant-loop-i
+invariant-loop-i l = (l.i ≤ length l.list) × (total (all l.list l.leaver l.w) ≡ l.sum + total (drop l.i (all l.list l.leaver l.w)))
+
+abbrev pub decreases-loop-i : goal.decreases-loop-i
+decreases-loop-i l = length l.list - l.i

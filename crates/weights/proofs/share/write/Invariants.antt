@@ -1,0 +1,23 @@
+-- `weights::share::write` meets its contract: the places passed hold the new weights, and what is left goes to those to come. Assumes nothing.
+use borrow.Author.Rules.{rules}
+use mathlib.Core.Path.{◌≡◌, refl, ap, ◌∙◌}
+use mathlib.Core.List.{List, map}
+use Prim.Native.Nat.{ℕ, zero, suc, ◌+◌, ◌-◌, ◌≤◌, ◌<◌}
+use native.Mathlib.Omega.{arith}
+use lib.ListN.{length, get_or, length-set}
+use Rattle.kinds.specs.Limits.{doubles}
+use Rattle.weights.specs.Weights.{grains, pattern_for, weights_of, share, staying, gets, spread}
+use Rattle.weights.specs.LoopLaws.{Written}
+use Rattle.weights.proofs.LoopLaws.{staying_length, written_small, written_next, written_end}
+use Rattle.weights.proofs.share.write.Given as goal
+
+abbrev pub stay : List ℕ → ℕ → List ℕ
+stay ps at = staying at (weights_of doubles ps)
+
+abbrev pub invariant-loop-i : goal.invariant-loop-i
+invariant-loop-i l =
+    (length l.out ≡ length l.initial.out) × (l.i ≤ length l.list)
+    × Written doubles l.w (map (pattern_for doubles) (spread l.w l.left (stay l.list l.leaver))) (stay l.list l.leaver) l.out l.rest l.i
+
+abbrev pub decreases-loop-i : goal.decreases-loop-i
+decreases-loop-i l = length l.list - l.i
