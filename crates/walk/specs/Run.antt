@@ -21,8 +21,8 @@ use Rattle.rounds.specs.InUnits.{remainders_small}
 use Rattle.rounds.specs.Closable.{Closable}
 use Rattle.rounds.specs.Fitting.{Fitting}
 use Rattle.rounds.specs.Begun.{Begun, begun_rounds, largest_left, closes_by}
-use Rattle.rounds.specs.Closes.{Next}
-use Rattle.rounds.proofs.Closes.{ends, goes, falls}
+use Rattle.rounds.specs.Closes.{Next, ends, goes}
+use Rattle.rounds.proofs.Closes.{falls}
 use Rattle.walk.specs.Walk.{Walked, onward, rising, rounds_from}
 use Rattle.walk.specs.Rising.{round_closes}
 
@@ -206,5 +206,5 @@ module _ {W : Width} {F : Fitting W} {n : ℕ} where
 
   pub run_finishes : {s : State} {xs : List Float} (k : ℕ) (told : Float) → Running W F n s xs → s.rounds + k ≡ W.rounds
       → Ended W (rounds_from W (blocks_of W n) (suc k) (outcome (More s told) xs))
-  run_finishes zero told R h = closing 0 told R (λ s' m e. let N = run_running R s' m e in absurd (omega (arith, N.1, begun_rounds N.0.begun)))
-  run_finishes (suc k) told R h = closing (suc k) told R (λ s' m e. let N = run_running R s' m e in run_finishes k m N.0 (omega (arith, N.1)))
+  run_finishes {s = s} {xs = xs} zero told R h = closing 0 told R (λ s' m e. let N = run_running R s' m e in absurd (omega (arith, N.1, begun_rounds N.0.begun)))
+  run_finishes {s = s} {xs = xs} (suc k) told R h = closing (suc k) told R (λ s' m e. let N = run_running R s' m e in run_finishes {s = s'} {xs = all_left W s xs} k m N.0 (omega (arith, N.1)))

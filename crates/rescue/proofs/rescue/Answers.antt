@@ -37,20 +37,6 @@ returns-then-count-gt-LENGTH c =
 abbrev bytes : After-count_kept-kept → List ℕ
 bytes q = let r = q.before.before.before.before.before in r.before.before.before.before.before.args.damaged.now
 
-begun : (q : After-count_kept-kept) → Begun (bytes q)
-begun q =
-    let k = q.before.before.before in
-    record { header = omega arith; version = sym k.before.before.read_header-h.ensures.0 ∙ k.read_header-h.false }
-
-count : (q : After-count_kept-kept) → q.before.before.before.before.before.read_header-h.result.count ≡ count_of (bytes q)
-count q = q.before.before.before.before.before.read_header-h.ensures.1
-
-taken : (q : After-count_kept-kept) → q.before.taken_of-taken.result ≡ taken_of (bytes q)
-taken q = q.before.taken_of-taken.ensures ∙ ap (λ (n : ℕ). min n ((length (bytes q) - 5) / 8)) (count q)
-
-kept : (q : After-count_kept-kept) → q.count_kept-kept.result ≡ length (kept_of doubles (entries_of (bytes q)))
-kept q = q.count_kept-kept.ensures ∙ ap (λ (n : ℕ). length (kept_of doubles (patterns_of n (drop 5 (bytes q))))) (taken q)
-
 -- ---- the answer and both areas, as the code has them and as they are defined
 saving : (bs s m : List ℕ) (n t : ℕ) → Rescuing
 saving bs s m n t =
@@ -60,34 +46,52 @@ saving bs s m n t =
     (sheet_of kept ++ drop (5 + 8 * length kept) s) (map (mark_of doubles) ps ++ drop t m)
 
 pub overflow_mul-written : goal.overflow_mul-written
-overflow_mul-written c = omega (arith, c.count_kept-kept.ensures, kept_few doubles c.taken_of-taken.result (drop 5 (bytes c)), c.taken_of-taken.ensures)
+overflow_mul-written c =
+    let bytes : List ℕ = c.args.damaged.now in
+    omega (arith, c.count_kept-kept.ensures, kept_few doubles c.taken_of-taken.result (drop 5 bytes), c.taken_of-taken.ensures)
 
 pub overflow_add-written : goal.overflow_add-written
-overflow_add-written c = omega (arith, c.count_kept-kept.ensures, kept_few doubles c.taken_of-taken.result (drop 5 (bytes c)), c.taken_of-taken.ensures)
+overflow_add-written c =
+    let bytes : List ℕ = c.args.damaged.now in
+    omega (arith, c.count_kept-kept.ensures, kept_few doubles c.taken_of-taken.result (drop 5 bytes), c.taken_of-taken.ensures)
 
 pub returns-then-sheet-written : goal.returns-then-sheet-written
 returns-then-sheet-written c =
+    let bytes : List ℕ = c.args.damaged.now in
+    let begun : Begun bytes = record { header = omega arith; version = sym c.read_header-h.ensures.0 ∙ c.if-h-ne-VERSION.false } in
+    let count : c.read_header-h.result.count ≡ count_of bytes = c.read_header-h.ensures.1 in
+    let taken : c.taken_of-taken.result ≡ taken_of bytes = c.taken_of-taken.ensures ∙ ap (λ (n : ℕ). min n ((length bytes - 5) / 8)) count in
+    let kept : c.count_kept-kept.result ≡ length (kept_of doubles (entries_of bytes)) = c.count_kept-kept.ensures ∙ ap (λ (n : ℕ). length (kept_of doubles (patterns_of n (drop 5 bytes)))) taken in
     let a = c.args in
-    sym (rescue_no_room doubles (bytes c.before) a.sheet.now a.marks.now (begun c.before) (omega (arith, count c.before)) (omega (arith, kept c.before)))
+    sym (rescue_no_room doubles bytes a.sheet.now a.marks.now begun (omega (arith, count)) (omega (arith, kept)))
 
 pub returns-then-marks-taken : goal.returns-then-marks-taken
 returns-then-marks-taken c =
+    let bytes : List ℕ = c.args.damaged.now in
+    let begun : Begun bytes = record { header = omega arith; version = sym c.read_header-h.ensures.0 ∙ c.if-h-ne-VERSION.false } in
+    let count : c.read_header-h.result.count ≡ count_of bytes = c.read_header-h.ensures.1 in
+    let taken : c.taken_of-taken.result ≡ taken_of bytes = c.taken_of-taken.ensures ∙ ap (λ (n : ℕ). min n ((length bytes - 5) / 8)) count in
     let a = c.args in
-    sym (rescue_no_marks doubles (bytes c.before.before) a.sheet.now a.marks.now (begun c.before.before) (omega (arith, count c.before.before)) (omega (arith, taken c.before.before)))
+    sym (rescue_no_marks doubles bytes a.sheet.now a.marks.now begun (omega (arith, count)) (omega (arith, taken)))
 
 pub returns : goal.returns
 unfolding saving
 returns c =
+    let bytes : List ℕ = c.args.damaged.now in
+    let begun : Begun bytes = record { header = omega arith; version = sym c.read_header-h.ensures.0 ∙ c.if-h-ne-VERSION.false } in
+    let count : c.read_header-h.result.count ≡ count_of bytes = c.read_header-h.ensures.1 in
+    let taken : c.taken_of-taken.result ≡ taken_of bytes = c.taken_of-taken.ensures ∙ ap (λ (n : ℕ). min n ((length bytes - 5) / 8)) count in
+    let kept : c.count_kept-kept.result ≡ length (kept_of doubles (entries_of bytes)) = c.count_kept-kept.ensures ∙ ap (λ (n : ℕ). length (kept_of doubles (patterns_of n (drop 5 bytes)))) taken in
     let a = c.args in
     let t = c.taken_of-taken.result in
     let n = c.read_header-h.result.count in
-    let ps = kept_of doubles (patterns_of t (drop 5 (bytes c.before.before.before.before.before.before.before.before.before.before.before.before.before.before))) in
-    let over = length (bytes c.before.before.before.before.before.before.before.before.before.before.before.before.before.before) - 5 - 8 * t in
+    let ps = kept_of doubles (patterns_of t (drop 5 bytes)) in
+    let over = length bytes - 5 - 8 * t in
     let size = c.count_kept-kept.ensures in
     let headed = c.header.ensures ∙ ap (λ (k : ℕ). 1 ∷ (big_endian 4 k ++ drop 5 a.sheet.now)) size in
-    let laid : c.write_kept.new.1.1.0 ≡ sheet_of ps ++ drop (5 + 8 * length ps) a.sheet.now =
+    let laid : c.write_kept.new.sheet ≡ sheet_of ps ++ drop (5 + 8 * length ps) a.sheet.now =
     c.write_kept.ensures ∙ rw headed (sheet_laid ps a.sheet.now) in
     let marked = c.write_marks.ensures in
     (λ i. rescuing (Saved (record { written = 5 + 8 * size i; taken = t; missing = n - t; over = over })) (laid i) (marked i))
-    ∙ (λ i. saving (bytes c.before.before.before.before.before.before.before.before.before.before.before.before.before.before) a.sheet.now a.marks.now (count c.before.before.before.before.before.before.before.before.before.before.before.before.before.before i) (taken c.before.before.before.before.before.before.before.before.before.before.before.before.before.before i))
-    ∙ sym (rescue_saved doubles (bytes c.before.before.before.before.before.before.before.before.before.before.before.before.before.before) a.sheet.now a.marks.now (begun c.before.before.before.before.before.before.before.before.before.before.before.before.before.before) (omega (arith, count c.before.before.before.before.before.before.before.before.before.before.before.before.before.before)) (omega (arith, kept c.before.before.before.before.before.before.before.before.before.before.before.before.before.before)) (omega (arith, taken c.before.before.before.before.before.before.before.before.before.before.before.before.before.before)))
+    ∙ (λ i. saving bytes a.sheet.now a.marks.now (count i) (taken i))
+    ∙ sym (rescue_saved doubles bytes a.sheet.now a.marks.now begun (omega (arith, count)) (omega (arith, kept)) (omega (arith, taken)))

@@ -26,14 +26,14 @@ loop-i-preserved c =
 
 pub plus-requires-2 : goal.plus-requires-2
 plus-requires-2 c =
+    let last : 65 < length c.args.lanes.now = omega (arith, c.requires.0) in
     let into-top : to_z w64 c.loop-i.carry ≡ carry_into c.args.lanes.now 65 = let e : c.loop-i.i ≡ 65 = omega arith in
     rw e at c.loop-i.invariant.0 in
-    let last : 65 < length c.args.lanes.now = omega (arith, c.requires.0) in
     addends c.requires.1 last c.loop-i.carry into-top
 
 pub returns : goal.returns
 returns c =
+    let last : 65 < length c.args.lanes.now = omega (arith, c.requires.0) in
     let into-top : to_z w64 c.loop-i.carry ≡ carry_into c.args.lanes.now 65 = let e : c.loop-i.i ≡ 65 = omega arith in
     rw e at c.loop-i.invariant.0 in
-    let last : 65 < length c.args.lanes.now = omega (arith, c.requires.0) in
     sum_back c.requires.1 last c.loop-i.carry into-top c.plus-2.ensures

@@ -41,10 +41,10 @@ put-requires c =
 
 pub put-requires-2 : goal.put-requires-2
 put-requires-2 c =
-    let room : (j : ℕ) → j < lane_count → nat_abs (get_or (lanes c.before.before.before.before.before.before) j (pos 0)) ≤ lane_limit most_calls = λ j h. lane_bound c.requires.1 j (omega (arith, c.requires.0)) in
     let first : (let r = c.shifted-at.result in
     c.put.new.lanes ≡ put (lanes c.before.before.before.before.before.before) r.lane (with_sign (pattern c.before.before.before.before.before.before) r.low)) = let r = c.shifted-at.result in
     c.put.ensures ∙ ap (put (lanes c.before.before.before.before.before.before) r.lane) (sign_back c.with_sign.result (pattern c.before.before.before.before.before.before) r.low c.with_sign.ensures c.shifted-at.ensures.low) in
+    let room : (j : ℕ) → j < lane_count → nat_abs (get_or (lanes c.before.before.before.before.before.before) j (pos 0)) ≤ lane_limit most_calls = λ j h. lane_bound c.requires.1 j (omega (arith, c.requires.0)) in
     let r = c.shifted-at.result in
     let D = c.shifted-at.ensures in
     let same = ap (λ (zs : List ℤ). get_or zs (r.lane + 1) (pos 0)) first ∙ above (lanes c.before.before.before.before.before.before) r.lane (r.lane + 1) _ (omega arith) in (

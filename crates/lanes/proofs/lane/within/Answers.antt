@@ -17,6 +17,6 @@ overflow_sub-result c =
 
 pub returns : goal.returns
 returns c =
-    let least : to_z w64 (of_z w64 (neg_ℤ (pos c.args.limit))) ≡ neg_ℤ (pos c.args.limit) = back (neg_ℤ (pos c.args.limit)) (omega (arith, neg_small c.args.limit)) in
     let limit : to_z w64 c.args.limit ≡ pos c.args.limit = back (pos c.args.limit) (omega arith) in
+    let least : to_z w64 (of_z w64 (neg_ℤ (pos c.args.limit))) ≡ neg_ℤ (pos c.args.limit) = back (neg_ℤ (pos c.args.limit)) (omega (arith, neg_small c.args.limit)) in
     rw (limit, +ℤ_idl, least, to_z-of_z w64 c.args.lane c.ranges.lane) (between c.args.lane c.args.limit)

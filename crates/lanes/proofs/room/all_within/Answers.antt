@@ -18,7 +18,7 @@ loop-i-init c = looked_none
 pub loop-i-preserved : goal.loop-i-preserved
 loop-i-preserved c =
     let lane = get_or c.args.lanes.now c.loop-i.i (pos 0) in
-    let test = rw (back lane c.before.Within-arg.given) at c.within-good.ensures in
+    let test = rw (back lane c.within-arg-1.given) at c.within-good.ensures in
     looked_next c.loop-i.invariant (pos 0) c.loop-i-test.true c.within-good.result test
 
 pub returns : goal.returns

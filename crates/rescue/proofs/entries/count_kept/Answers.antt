@@ -4,7 +4,8 @@ use Prim.Native.Nat.{◌-◌, ◌≤◌, ◌<◌}
 use native.Mathlib.Omega.{arith}
 use borrow.Author.Rules.{rules}
 use lib.ListN.{length, drop}
-use Rattle.lists.specs.Filter.{Sifted, sifted_none, sifted_pass, sifted_fail, sifted_all}
+use Rattle.lists.specs.Filter.{Sifted}
+use Rattle.lists.proofs.Filter.{sifted_none, sifted_pass, sifted_fail, sifted_all}
 use Rattle.kinds.specs.Limits.{doubles}
 use Rattle.judge.specs.Judge.{fault_free}
 use Rattle.octets.specs.Octets.{big}
@@ -25,8 +26,8 @@ loop-i-preserved c =
     let r = c.big_endian.ensures in
     let f = c.fault.ensures in
     elim c.if-fault-eq0.branch [
-      | goal.then-fault-eq0 g ↦ rw g.1 (omega arith, omega arith, sifted_pass c.loop-i.invariant.2 0 j (entry_kept a.damaged.now a.n i h r f g.0.taken))
-      | goal.else-fault-eq0 g ↦ rw g.1 (omega arith, omega arith, sifted_fail c.loop-i.invariant.2 0 j (entry_dropped a.damaged.now a.n i h r f g.0.left))
+      | goal.then-fault-eq0 g ↦ rw g.kept-is (omega arith, omega arith, sifted_pass c.loop-i.invariant.2 0 j (entry_kept a.damaged.now a.n i h r f g.if-fault-eq0.true))
+      | goal.else-fault-eq0 g ↦ rw g.kept-is (omega arith, omega arith, sifted_fail c.loop-i.invariant.2 0 j (entry_dropped a.damaged.now a.n i h r f g.if-fault-eq0.false))
     ]
 
 pub returns : goal.returns

@@ -4,7 +4,8 @@ use Prim.Native.Nat.{◌-◌, ◌≤◌, ◌<◌}
 use native.Mathlib.Omega.{arith}
 use borrow.Author.Rules.{rules}
 use lib.ListN.{length, drop}
-use Rattle.lists.specs.Filter.{Sifted, sifted_none, sifted_pass, sifted_fail, sifted_all}
+use Rattle.lists.specs.Filter.{Sifted}
+use Rattle.lists.proofs.Filter.{sifted_none, sifted_pass, sifted_fail, sifted_all}
 use Rattle.kinds.specs.Limits.{doubles}
 use Rattle.judge.specs.Judge.{fault_free}
 use Rattle.octets.specs.Octets.{big}

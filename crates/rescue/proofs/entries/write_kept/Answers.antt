@@ -8,7 +8,8 @@ use native.Mathlib.Omega.{arith}
 use borrow.Author.Rules.{rules}
 use lib.ListN.{length, get_or, take, drop, take-append-drop}
 use lib.Seq.{take_all, length-take-le}
-use Rattle.lists.specs.Filter.{Sifted, sifted_none, sifted_inside, sifted_at, sifted_pass, sifted_fail, sifted_all}
+use Rattle.lists.specs.Filter.{Sifted}
+use Rattle.lists.proofs.Filter.{sifted_none, sifted_inside, sifted_at, sifted_pass, sifted_fail, sifted_all}
 use Rattle.kinds.specs.Limits.{doubles}
 use Rattle.judge.specs.Judge.{fault_free}
 use Rattle.octets.specs.Octets.{big_endian, big}
@@ -31,14 +32,14 @@ write_big_endian-requires c =
     let h : i < a.n = omega arith in
     let j : i < length (patterns_of a.n (drop 5 a.damaged.now)) = entry_inside a.damaged.now a.n i h in
     let t = entry_kept a.damaged.now a.n i h c.big_endian-p.ensures c.fault.ensures c.if-fault-eq0.true in
-    let k : c.loop-i.auto < length (kept_of doubles (patterns_of a.n (drop 5 a.damaged.now))) = sifted_inside c.loop-i.invariant.3 0 j t in
+    let k : c.loop-i.kept < length (kept_of doubles (patterns_of a.n (drop 5 a.damaged.now))) = sifted_inside c.loop-i.invariant.3 0 j t in
     omega arith
 
 pub loop-i-preserved : goal.loop-i-preserved
 loop-i-preserved c =
     let a = c.args in
     let i = c.loop-i.i in
-    let k = c.loop-i.auto in
+    let k = c.loop-i.kept in
     let s = a.sheet.now in
     let ps = patterns_of a.n (drop 5 a.damaged.now) in
     let h : i < a.n = omega arith in
@@ -48,13 +49,13 @@ loop-i-preserved c =
     elim c.if-fault-eq0.branch [
       | goal.then-fault-eq0 g ↦
           let K = kept_of doubles ps in
-          let t = entry_kept a.damaged.now a.n i h r f g.0.taken in
+          let t = entry_kept a.damaged.now a.n i h r f g.if-fault-eq0.true in
           let v : get_or K k 0 ≡ c.big_endian-p.result = sifted_at c.loop-i.invariant.3 0 j t ∙ entry_at a.damaged.now a.n i h r in
           let b = joined_behind (big_endian 8) (big_length 8) (take 5 s) 5 (length-take-le 5 s (omega arith)) K s k (sifted_inside c.loop-i.invariant.3 0 j t) in
-          rw (g.5, g.6) (search rules, omega arith, omega arith, sifted_pass c.loop-i.invariant.3 0 j t, g.2.ensures ∙ rw (c.loop-i.invariant.4, ← v) b)
+          rw (g.sheet-is, g.kept-is) (search rules, omega arith, omega arith, sifted_pass c.loop-i.invariant.3 0 j t, g.write_big_endian.ensures ∙ rw (c.loop-i.invariant.4, ← v) b)
       | goal.else-fault-eq0 g ↦
-          let t = entry_dropped a.damaged.now a.n i h r f g.0.left in
-          rw (g.1, g.2) (c.loop-i.invariant.0, omega arith, omega arith, sifted_fail c.loop-i.invariant.3 0 j t, c.loop-i.invariant.4)
+          let t = entry_dropped a.damaged.now a.n i h r f g.if-fault-eq0.false in
+          rw (g.sheet-is, g.kept-is) (c.loop-i.invariant.0, omega arith, omega arith, sifted_fail c.loop-i.invariant.3 0 j t, c.loop-i.invariant.4)
     ]
 
 pub returns : goal.returns
@@ -62,5 +63,5 @@ returns c =
     let a = c.args in
     let ps = patterns_of a.n (drop 5 a.damaged.now) in
     let n : length ps ≡ a.n = eights_length big a.n (drop 5 a.damaged.now) in
-    let e : c.loop-i.auto ≡ length (kept_of doubles ps) = sifted_all c.loop-i.invariant.3 (omega arith) in
+    let e : c.loop-i.kept ≡ length (kept_of doubles ps) = sifted_all c.loop-i.invariant.3 (omega arith) in
     c.loop-i.invariant.4 ∙ rw (e, take_all (length (kept_of doubles ps)) (kept_of doubles ps) (omega arith))

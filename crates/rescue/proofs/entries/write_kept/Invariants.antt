@@ -8,7 +8,8 @@ use native.Mathlib.Omega.{arith}
 use borrow.Author.Rules.{rules}
 use lib.ListN.{length, get_or, take, drop, take-append-drop}
 use lib.Seq.{take_all, length-take-le}
-use Rattle.lists.specs.Filter.{Sifted, sifted_none, sifted_inside, sifted_at, sifted_pass, sifted_fail, sifted_all}
+use Rattle.lists.specs.Filter.{Sifted}
+use Rattle.lists.proofs.Filter.{sifted_none, sifted_inside, sifted_at, sifted_pass, sifted_fail, sifted_all}
 use Rattle.kinds.specs.Limits.{doubles}
 use Rattle.judge.specs.Judge.{fault_free}
 use Rattle.octets.specs.Octets.{big_endian, big}
