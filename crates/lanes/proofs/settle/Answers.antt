@@ -36,23 +36,23 @@ top-requires c =
 pub returns-then-not-fits : goal.returns-then-not-fits
 returns-then-not-fits c =
     let has_room : roomy c.args.count c.args.lanes.now ≡ true = sym c.roomy.ensures ∙ c.if-not-roomy.false in
-    let looked : c.fits2.result ≡ inside register_bits (lane_sum c.args.lanes.now) = let zs = c.args.lanes.now in
+    let looked : c.fits.result ≡ inside register_bits (lane_sum c.args.lanes.now) = let zs = c.args.lanes.now in
     let l = c.if-lanes-ne-LENGTH.false in
     let R = (roomy_when c.args.count zs).0 has_room in
     let small : mag (top_lane zs) < 2 ^ 63 = omega (arith, mag_abs (top_lane zs), lane_carry_bound R 65 (omega (arith, l))) in
     let same : to_z w64 (of_z w64 c.top.result) ≡ top_lane zs = rw c.top.ensures (back (top_lane zs) small) in
-    c.fits2.ensures ∙ ap (inside lane_bits) same ∙ sym (lanes_inside zs l) in
+    c.fits.ensures ∙ ap (inside lane_bits) same ∙ sym (lanes_inside zs l) in
     sym (settled_out _ _ _ c.if-lanes-ne-LENGTH.false c.if-words-ne-WORDS.false has_room (sym looked ∙ c.if-not-fits.true))
 
 pub settle-requires : goal.settle-requires
 settle-requires c =
     let has_room : roomy c.args.count c.args.lanes.now ≡ true = sym c.roomy.ensures ∙ c.if-not-roomy.false in
-    let looked : c.fits2.result ≡ inside register_bits (lane_sum c.args.lanes.now) = let zs = c.args.lanes.now in
+    let looked : c.fits.result ≡ inside register_bits (lane_sum c.args.lanes.now) = let zs = c.args.lanes.now in
     let l = c.if-lanes-ne-LENGTH.false in
     let R = (roomy_when c.args.count zs).0 has_room in
     let small : mag (top_lane zs) < 2 ^ 63 = omega (arith, mag_abs (top_lane zs), lane_carry_bound R 65 (omega (arith, l))) in
     let same : to_z w64 (of_z w64 c.top.result) ≡ top_lane zs = rw c.top.ensures (back (top_lane zs) small) in
-    c.fits2.ensures ∙ ap (inside lane_bits) same ∙ sym (lanes_inside zs l) in
+    c.fits.ensures ∙ ap (inside lane_bits) same ∙ sym (lanes_inside zs l) in
     (
       record { first = c.if-lanes-ne-LENGTH.false; second = c.if-words-ne-WORDS.false },
       roomy_most ((roomy_when c.args.count c.args.lanes.now).0 has_room),
@@ -62,11 +62,11 @@ settle-requires c =
 pub returns : goal.returns
 returns c =
     let has_room : roomy c.args.count c.args.lanes.now ≡ true = sym c.roomy.ensures ∙ c.if-not-roomy.false in
-    let looked : c.fits2.result ≡ inside register_bits (lane_sum c.args.lanes.now) = let zs = c.args.lanes.now in
+    let looked : c.fits.result ≡ inside register_bits (lane_sum c.args.lanes.now) = let zs = c.args.lanes.now in
     let l = c.if-lanes-ne-LENGTH.false in
     let R = (roomy_when c.args.count zs).0 has_room in
     let small : mag (top_lane zs) < 2 ^ 63 = omega (arith, mag_abs (top_lane zs), lane_carry_bound R 65 (omega (arith, l))) in
     let same : to_z w64 (of_z w64 c.top.result) ≡ top_lane zs = rw c.top.ensures (back (top_lane zs) small) in
-    c.fits2.ensures ∙ ap (inside lane_bits) same ∙ sym (lanes_inside zs l) in
+    c.fits.ensures ∙ ap (inside lane_bits) same ∙ sym (lanes_inside zs l) in
     (λ i. settling (Counted 0) (c.settle.ensures.0 i) (c.settle.ensures.1 i))
     ∙ sym (settled_in _ _ _ c.if-lanes-ne-LENGTH.false c.if-words-ne-WORDS.false has_room (sym looked ∙ c.if-not-fits.false))

@@ -20,7 +20,7 @@ pub plus-sum-requires : goal.plus-sum-requires
 plus-sum-requires c =
     let turn : c.loop-i.i < length c.args.lanes.now = omega (arith, c.requires.0) in
     let held : get_or c.loop-i.lanes c.loop-i.i (pos 0) ≡ get_or c.args.lanes.now c.loop-i.i (pos 0) = rw c.loop-i.invariant.2 (settled_ahead c.args.lanes.now c.loop-i.i turn) in
-    rw held (addends c.requires.1 turn c.loop-i.carry c.loop-i.invariant.0)
+    rw held (addends c.requires.1 turn c.loop-i.carry-bits c.loop-i.invariant.0)
 
 pub loop-i-preserved : goal.loop-i-preserved
 loop-i-preserved c =
@@ -28,8 +28,8 @@ loop-i-preserved c =
     let held : get_or c.loop-i.lanes c.loop-i.i (pos 0) ≡ get_or c.args.lanes.now c.loop-i.i (pos 0) = rw c.loop-i.invariant.2 (settled_ahead c.args.lanes.now c.loop-i.i turn) in
     let zs = c.args.lanes.now in
     let sum = rw held at c.plus-sum.ensures in
-    let digit = rested c.requires.1 turn c.loop-i.carry c.loop-i.invariant.0 sum c.rest-digit.ensures in (
-      handed c.requires.1 turn c.loop-i.carry c.loop-i.invariant.0 sum c.handed_on-carry.ensures,
+    let digit = rested c.requires.1 turn c.loop-i.carry-bits c.loop-i.invariant.0 sum c.rest-digit.ensures in (
+      handed c.requires.1 turn c.loop-i.carry-bits c.loop-i.invariant.0 sum c.handed_on-carry.ensures,
       omega arith,
       (λ j. set (c.loop-i.invariant.2 j) c.loop-i.i (digit j)) ∙ settled_next zs c.loop-i.i turn,
       length-set c.loop-i.lanes c.loop-i.i _ ∙ c.loop-i.invariant.3,
@@ -38,19 +38,19 @@ loop-i-preserved c =
 pub plus-sum-requires-2 : goal.plus-sum-requires-2
 plus-sum-requires-2 c =
     let into-top : (let zs = c.args.lanes.now in
-    (to_z w64 c.loop-i.carry ≡ carry_into zs 65) × (c.loop-i.lanes ≡ settled_to zs 65)) = let e : c.loop-i.i ≡ 65 = omega arith in
+    (to_z w64 c.loop-i.carry-bits ≡ carry_into zs 65) × (c.loop-i.lanes ≡ settled_to zs 65)) = let e : c.loop-i.i ≡ 65 = omega arith in
     (rw e at c.loop-i.invariant.0, rw e at c.loop-i.invariant.2) in
     let last : 65 < length c.args.lanes.now = omega (arith, c.requires.0) in
     let held-top : get_or c.loop-i.lanes 65 (pos 0) ≡ get_or c.args.lanes.now 65 (pos 0) = rw into-top.1 (settled_ahead c.args.lanes.now 65 last) in
-    rw held-top (addends c.requires.1 last c.loop-i.carry into-top.0)
+    rw held-top (addends c.requires.1 last c.loop-i.carry-bits into-top.0)
 
 pub returns : goal.returns
 returns c =
     let into-top : (let zs = c.args.lanes.now in
-    (to_z w64 c.loop-i.carry ≡ carry_into zs 65) × (c.loop-i.lanes ≡ settled_to zs 65)) = let e : c.loop-i.i ≡ 65 = omega arith in
+    (to_z w64 c.loop-i.carry-bits ≡ carry_into zs 65) × (c.loop-i.lanes ≡ settled_to zs 65)) = let e : c.loop-i.i ≡ 65 = omega arith in
     (rw e at c.loop-i.invariant.0, rw e at c.loop-i.invariant.2) in
     let last : 65 < length c.args.lanes.now = omega (arith, c.requires.0) in
     let held-top : get_or c.loop-i.lanes 65 (pos 0) ≡ get_or c.args.lanes.now 65 (pos 0) = rw into-top.1 (settled_ahead c.args.lanes.now 65 last) in
     let sum = rw held-top at c.plus-sum-2.ensures in
-    let top = sum_back c.requires.1 last c.loop-i.carry into-top.0 sum in
+    let top = sum_back c.requires.1 last c.loop-i.carry-bits into-top.0 sum in
     (λ j. set (into-top.1 j) 65 (top j)) ∙ settled_last c.args.lanes.now c.requires.0 _

@@ -14,7 +14,7 @@ use Rattle.lanes.proofs.carries.carry.Given as goal
 
 abbrev pub invariant-loop-i : goal.invariant-loop-i
 invariant-loop-i l =
-    (to_z w64 l.carry ≡ carry_into l.initial.lanes l.i) × (l.i ≤ 65) × (l.lanes ≡ settled_to l.initial.lanes l.i) × (length l.lanes ≡ length l.initial.lanes)
+    (l.carry ≡ carry_into l.initial.lanes l.i) × (l.i ≤ 65) × (l.lanes ≡ settled_to l.initial.lanes l.i) × (length l.lanes ≡ length l.initial.lanes)
 
 abbrev pub decreases-loop-i : goal.decreases-loop-i
 decreases-loop-i l = 65 - l.i

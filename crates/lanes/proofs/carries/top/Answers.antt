@@ -17,23 +17,23 @@ loop-i-init c = (refl, omega arith)
 pub plus-requires : goal.plus-requires
 plus-requires c =
     let turn : c.loop-i.i < length c.args.lanes.now = omega (arith, c.requires.0) in
-    addends c.requires.1 turn c.loop-i.carry c.loop-i.invariant.0
+    addends c.requires.1 turn c.loop-i.carry-bits c.loop-i.invariant.0
 
 pub loop-i-preserved : goal.loop-i-preserved
 loop-i-preserved c =
     let turn : c.loop-i.i < length c.args.lanes.now = omega (arith, c.requires.0) in
-    (handed c.requires.1 turn c.loop-i.carry c.loop-i.invariant.0 c.plus.ensures c.handed_on-carry.ensures, omega arith)
+    (handed c.requires.1 turn c.loop-i.carry-bits c.loop-i.invariant.0 c.plus.ensures c.handed_on-carry.ensures, omega arith)
 
 pub plus-requires-2 : goal.plus-requires-2
 plus-requires-2 c =
     let last : 65 < length c.args.lanes.now = omega (arith, c.requires.0) in
-    let into-top : to_z w64 c.loop-i.carry ≡ carry_into c.args.lanes.now 65 = let e : c.loop-i.i ≡ 65 = omega arith in
+    let into-top : to_z w64 c.loop-i.carry-bits ≡ carry_into c.args.lanes.now 65 = let e : c.loop-i.i ≡ 65 = omega arith in
     rw e at c.loop-i.invariant.0 in
-    addends c.requires.1 last c.loop-i.carry into-top
+    addends c.requires.1 last c.loop-i.carry-bits into-top
 
 pub returns : goal.returns
 returns c =
     let last : 65 < length c.args.lanes.now = omega (arith, c.requires.0) in
-    let into-top : to_z w64 c.loop-i.carry ≡ carry_into c.args.lanes.now 65 = let e : c.loop-i.i ≡ 65 = omega arith in
+    let into-top : to_z w64 c.loop-i.carry-bits ≡ carry_into c.args.lanes.now 65 = let e : c.loop-i.i ≡ 65 = omega arith in
     rw e at c.loop-i.invariant.0 in
-    sum_back c.requires.1 last c.loop-i.carry into-top c.plus-2.ensures
+    sum_back c.requires.1 last c.loop-i.carry-bits into-top c.plus-2.ensures

@@ -11,7 +11,7 @@ use Rattle.lanes.proofs.Carrying.{addends, sum_back, handed}
 use Rattle.lanes.proofs.carries.top.Given as goal
 
 abbrev pub invariant-loop-i : goal.invariant-loop-i
-invariant-loop-i l = (to_z w64 l.carry ≡ carry_into l.lanes l.i) × (l.i ≤ 65)
+invariant-loop-i l = (l.carry ≡ carry_into l.lanes l.i) × (l.i ≤ 65)
 
 abbrev pub decreases-loop-i : goal.decreases-loop-i
 decreases-loop-i l = 65 - l.i
