@@ -4,7 +4,7 @@ use Rattle.std.specs.Prelude.{◌≡◌, refl, ◌↔◌, Bool, true, ◌&&◌, 
 use Rattle.std.proofs.Common.{sym, ap, ◌∙◌, lt_of_le_of_lt, arith, eqb-true, eq-eqb, leb-true, le-leb}
 use Rattle.std.proofs.Math.Bool.{false}
 use Prim.Native.Nat.{ℕ, zero, suc, ◌≤◌, ◌<◌}
-use Rattle.std.proofs.Math.IntN.{-ℤ-+ℤ_cancel, +ℤ-neg_ℤ_cancel, +ℤ_idl}
+use Rattle.std.proofs.Math.IntN.{+ℤ-neg_ℤ_cancel, -ℤ-+ℤ_cancel, +ℤ_idl}
 use Rattle.std.specs.Float.{Format}
 use Rattle.std.specs.Float.Ieee.{prec}
 use Rattle.units.specs.Whole.{nat, exact_sum}
@@ -19,12 +19,13 @@ use Rattle.kinds.specs.Limits.{Width, doubles}
 use Rattle.sums.specs.Sums.{parts, add_up, fitting}
 use Rattle.sums.specs.PartsLaws.{left_smaller}
 use Rattle.sums.specs.PartsMeaning.{ZeroSigns}
+use Rattle.units.specs.Whole.{◌≈◌}
 
 -- ---- rule L10: 1 to 8 parts
 both : (a b : Bool) → (a && b) ≡ true → (a ≡ true) × (b ≡ true)
 both true true e = (refl, refl)
-both true false e = let z : _≡_ {A = ℕ} 0 1 = cc in absurd (omega arith)
-both false b e = let z : _≡_ {A = ℕ} 0 1 = cc in absurd (omega arith)
+both true false e = let z : ◌≡◌ {A = ℕ} 0 1 = cc in absurd (omega arith)
+both false b e = let z : ◌≡◌ {A = ℕ} 0 1 = cc in absurd (omega arith)
 
 pub fitting_when : (W : Width) (area : List Float) → (fitting W area ≡ true) ↔ ((1 ≤ length area) × (length area ≤ W.parts))
 fitting_when W area = (

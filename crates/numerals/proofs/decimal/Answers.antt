@@ -9,11 +9,11 @@ use Rattle.numerals.proofs.decimal.Goals as goal
 
 pub put-requires : goal.put-requires
 put-requires c =
-    let e = front_decimal c.args.n c.decimal-k.result c.decimal-k.new.out c.decimal-k.ensures.1.0 c.decimal-k.ensures.1.1 in
-    rw e (omega (arith, c.put-named.ensures.end, c.put-named.auto.0, c.requires))
+    let e = front_decimal c.args.n c.decimal-k.result c.decimal-k.new.out c.decimal-k.ensures.len c.decimal-k.ensures.digits in
+    rw e (omega (arith, c.put-named.ensures.end, c.put-named.auto.text, c.requires))
 
 pub returns : goal.returns
 returns c =
-    let e = front_decimal c.args.n c.decimal-k.result c.decimal-k.new.out c.decimal-k.ensures.1.0 c.decimal-k.ensures.1.1 in
+    let e = front_decimal c.args.n c.decimal-k.result c.decimal-k.new.out c.decimal-k.ensures.len c.decimal-k.ensures.digits in
     let h : c.args.end ≤ length c.args.text.now = omega (arith, c.requires) in
     placed_behind h c.put-named.ensures (rw e at c.put.ensures)

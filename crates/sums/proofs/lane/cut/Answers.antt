@@ -6,8 +6,7 @@ use native.Mathlib.Omega.{arith}
 use borrow.Author.Rules.{rules}
 use lib.Pow.{mod-mod-pow, split, pow_mono, shr_lt}
 use Rattle.lists.proofs.WordShifts.{shifted_above}
-use Rattle.sums.proofs.lane.cut.Statement.{statement}
-use Rattle.sums.proofs.lane.cut.Tie as tie
+use Rattle.sums.proofs.lane.cut.Goals as goal
 
 -- at most 2 ^ 52 is left above 32 digits of 53 that were shifted by less than 32
 left_above : (m s : ℕ) → m < 2 ^ 53 → s < 32 → m / 2 ^ (32 - s) ≤ 2 ^ 52
@@ -15,7 +14,7 @@ left_above m s h k =
     let e : m < 2 ^ (52 + (32 - s)) = lt_of_lt_of_le h (pow_mono {i = 53} {j = 52 + (32 - s)} (omega arith)) in
     le_of_lt (shr_lt 52 (32 - s) e)
 
-returns : tie.Need-returns
+pub returns : goal.returns
 returns c =
     let m = c.args.m in
     let s : ℕ = c.args.q / 2 ^ 52 % 32 in
@@ -26,15 +25,3 @@ returns c =
       omega arith,
       left_above m s c.requires small,
     )
-
-pub cut_spec : {M : Type 1} → statement M
-cut_spec =
-    tie.close
-    (tie.spec
-    (λ c. search rules)
-    (λ c. search rules)
-    (λ c. search rules)
-    (λ c. search rules)
-    (λ c. search rules)
-    (λ c. search rules)
-    returns)

@@ -10,8 +10,7 @@ use Rattle.ieee.specs.Units.{magnitude}
 use Rattle.kinds.specs.Limits.{doubles}
 use Rattle.addend.specs.PatternFields.{pattern_subnormal, pattern_normal}
 use Rattle.sums.specs.SignLanes.{lane_bits, AtLane}
-use Rattle.sums.proofs.lane.lane.Statement.{statement}
-use Rattle.sums.proofs.lane.lane.Tie as tie
+use Rattle.sums.proofs.lane.lane.Goals as goal
 
 -- a shift by e, of which five bits are the shift within the lane that the others give
 shifted : (m e : ℕ) → m * 2 ^ (e % 32) * 2 ^ (32 * (e / 32)) ≡ m * 2 ^ e
@@ -35,36 +34,23 @@ module _ (p q m e : ℕ) {k d h : ℕ} (fits : p < 2 ^ 64) (field : q / 2 ^ 52 �
         units = rw (cut.1, s, l) (shifted m e ∙ u);
       }
 
-returns : tie.Need-returns
-returns c =
-    let g = c.before.before in
-    let p = g.args.p in
-    let low : p % 2 ^ 63 < 2 ^ 52 = c.before.if1.true in
-    let fits : p < 2 ^ 64 = g.ranges.p.fits in
+pub returns-then-p-lt-LEAST_NORMAL : goal.returns-then-p-lt-LEAST_NORMAL
+returns-then-p-lt-LEAST_NORMAL c =
+    let p = c.args.p in
+    let low : p % 2 ^ 63 < 2 ^ 52 = c.if-p-lt-LEAST_NORMAL.true in
+    let fits : p < 2 ^ 64 = c.ranges.p.fits in
     let none : p % 2 ^ 63 / 2 ^ 52 ≡ 0 = omega arith in
     let digits : p % 2 ^ 52 ≡ p % 2 ^ 63 % 2 ^ 52 = omega arith in
     at_lane p p (p % 2 ^ 52) 0 fits (omega arith) (omega arith) c.cut.ensures
-    (mul-one (p % 2 ^ 52) ∙ digits ∙ sym (pattern_subnormal doubles.format p g.requires none))
+    (mul-one (p % 2 ^ 52) ∙ digits ∙ sym (pattern_subnormal doubles.format p c.requires none))
 
-returns-2 : tie.Need-returns-2
-returns-2 c =
-    let g = c.before.before in
-    let p = g.args.p in
-    let fits : p < 2 ^ 64 = g.ranges.p.fits in
-    let high : 2 ^ 52 ≤ p % 2 ^ 63 = c.before.if1.false in
+pub returns : goal.returns
+returns c =
+    let p = c.args.p in
+    let fits : p < 2 ^ 64 = c.ranges.p.fits in
+    let high : 2 ^ 52 ≤ p % 2 ^ 63 = c.if-p-lt-LEAST_NORMAL.false in
     let some : 0 < p % 2 ^ 63 / 2 ^ 52 = omega arith in
     let digits : p % 2 ^ 52 ≡ p % 2 ^ 63 % 2 ^ 52 = omega arith in
     let e = p % 2 ^ 63 / 2 ^ 52 - 1 in
-    at_lane p (p - 2 ^ 52) (2 ^ 52 + p % 2 ^ 52) e fits (omega arith) (omega arith) c.cut2.ensures
-    (ap (λ (d : ℕ). (2 ^ 52 + d) * 2 ^ e) digits ∙ sym (pattern_normal doubles.format p g.requires some))
-
-pub lane_spec : {M : Type 1} → statement M
-lane_spec =
-    tie.close
-    (tie.spec
-    (λ c κs. search rules)
-    returns
-    (λ c. search rules)
-    (λ c. search rules)
-    (λ c κs. search rules)
-    returns-2)
+    at_lane p (p - 2 ^ 52) (2 ^ 52 + p % 2 ^ 52) e fits (omega arith) (omega arith) c.cut-2.ensures
+    (ap (λ (d : ℕ). (2 ^ 52 + d) * 2 ^ e) digits ∙ sym (pattern_normal doubles.format p c.requires some))
