@@ -17,8 +17,8 @@ use Rattle.grade.specs.Table.{Earns, exact, nearest, faithful, wrong}
 use Rattle.grade.proofs.Distances.{not_apart, apart_none, exact_nearest, nearest_faithful}
 use Rattle.grade.proofs.Amid.{lower_faithful, upper_faithful, amid_only}
 use Rattle.grade.proofs.CaseLaws.{grade_exact, grade_missed, grade_near, grade_side, grade_off}
-use Rattle.grade.specs.SideLaws.{Inside, far, Sides, Beside}
-use Rattle.grade.proofs.SideLaws.{near_below, far_below, beside}
+use Rattle.grade.specs.SideLaws.{Inside, far, Sides, near_below, far_below, Beside}
+use Rattle.grade.proofs.SideLaws.{beside}
 use Rattle.grade.specs.declared.Graded.{Graded}
 use Rattle.grade.specs.declared.Graded.TheVariants.{Exact, Nearest, Faithful, Wrong}
 

@@ -25,6 +25,8 @@ use Rattle.grade.proofs.Neighbours.{one_unit, bare_none, next_bare, next_further
 use Rattle.grade.specs.Amid.{Amid}
 use Rattle.grade.proofs.CaseLaws.{side_away, side_back}
 use Rattle.grade.specs.SideLaws.{Inside, far, Sides, Beside}
+use Rattle.grade.specs.SideLaws.{far_below}
+use Rattle.grade.specs.SideLaws.{near_below}
 
 -- a float of magnitude 0, and S of magnitude 0
 zero_whole : (f : Format) (x : Float) → magnitude f x ≡ 0 → whole f x ≈ nat 0

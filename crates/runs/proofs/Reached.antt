@@ -32,8 +32,8 @@ use Rattle.runs.specs.Taken.{mid_area}
 use Rattle.runs.specs.Summing.{Summing}
 use Rattle.runs.specs.OpenedSum.{zero_of}
 use Rattle.runs.proofs.OpenedSum.{opened_zero, opened_round, opened_summing}
-use Rattle.runs.specs.SumRun.{SumNext}
-use Rattle.runs.proofs.SumRun.{ends, goes, sums_close}
+use Rattle.runs.specs.SumRun.{SumNext, ends, goes}
+use Rattle.runs.proofs.SumRun.{sums_close}
 use Rattle.runs.proofs.MidRound.{Mid, mid_begins, begins_area, begins_some, mid_takes}
 use Rattle.runs.proofs.MidStep.{after, mid_goes, mid_closes, mid_refused}
 use Rattle.runs.specs.Runs.{Ran, heeded, tried, members}

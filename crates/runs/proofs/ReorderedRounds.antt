@@ -38,6 +38,8 @@ use Rattle.walk.specs.Walk.{Walked, rounds_from, faithful_of}
 use Rattle.walk.specs.Run.{Running, run_round, run_running, run_done}
 use Rattle.runs.proofs.OpenedSum.{opened_zero, opened_round, opened_summing}
 use Rattle.runs.specs.ReorderedRounds.{SameRounds}
+use Rattle.runs.specs.ReorderedRounds.{ended}
+use Rattle.runs.specs.ReorderedRounds.{going}
 
 -- ---- mu, and tau after all numbers
 largest_reordered : (f : Format) {xs ys : List Float} → Perm xs ys → largest f xs ≡ largest f ys

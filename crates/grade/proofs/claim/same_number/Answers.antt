@@ -2,11 +2,7 @@
 use native.Mathlib.Omega.{arith}
 use lib.Ieee.{binary64}
 use Rattle.grade.proofs.PatternLaws.{one_number}
-use Rattle.grade.proofs.claim.same_number.Statement.{statement}
-use Rattle.grade.proofs.claim.same_number.Tie as tie
+use Rattle.grade.proofs.claim.same_number.Goals as goal
 
-returns : tie.Need-returns
+pub returns : goal.returns
 returns c = one_number binary64 c.args.p c.args.q (omega arith) (omega arith) c.requires.0 c.requires.1
-
-pub same_number_spec : {M : Type 1} → statement M
-same_number_spec = tie.close (tie.spec returns)

@@ -14,8 +14,7 @@ use Rattle.nearest.proofs.NearestBits.{bits_finite}
 use Rattle.nearest.specs.declared.bits.Bits.{Bits}
 use Rattle.grade.specs.Grade.{near}
 use Rattle.grade.proofs.WordLaws.{near_bits}
-use Rattle.grade.proofs.near.nearest_pattern.Statement.{statement}
-use Rattle.grade.proofs.near.nearest_pattern.Tie as tie
+use Rattle.grade.proofs.near.nearest_pattern.Goals as goal
 
 abbrev joined : Bits → ℕ
 joined b = bool_byte b.negative * 2 ^ 63 % 2 ^ 64 + b.magnitude
@@ -35,17 +34,8 @@ module _ (b : Bits) (S : ℤ) (l : nat_abs S < limit binary64) (e : b ≡ bits_o
       sign false = refl
       sign true = refl
 
-add-result : tie.Need-overflow-add-result
-add-result c =
-    let bits = c.before.before in
-    let start = bits.before.before in
-    record { fits = room bits.nearest-bits.result (whole_of start.args.words.now) start.requires.1 bits.nearest-bits.ensures }
+pub overflow_add-result : goal.overflow_add-result
+overflow_add-result c = record { fits = room c.nearest_bits-bits.result (whole_of c.args.words.now) c.requires.1 c.nearest_bits-bits.ensures }
 
-returns : tie.Need-returns
-returns c =
-    let bits = c.before.before in
-    let start = bits.before.before in
-    whole bits.nearest-bits.result (whole_of start.args.words.now) start.requires.1 bits.nearest-bits.ensures
-
-pub nearest_pattern_spec : {M : Type 1} → statement M
-nearest_pattern_spec = tie.close (tie.spec (λ c κs. search rules) (λ c. search rules) add-result returns)
+pub returns : goal.returns
+returns c = whole c.nearest_bits-bits.result (whole_of c.args.words.now) c.requires.1 c.nearest_bits-bits.ensures

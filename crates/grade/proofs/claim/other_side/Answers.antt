@@ -7,8 +7,7 @@ use native.Mathlib.Omega.{arith}
 use lib.Dec.{leb}
 use Rattle.lists.proofs.Apart.{apart}
 use Rattle.grade.proofs.PatternLaws.{above_finite}
-use Rattle.grade.proofs.claim.other_side.Statement.{statement}
-use Rattle.grade.proofs.claim.other_side.Tie as tie
+use Rattle.grade.proofs.claim.other_side.Goals as goal
 
 module _ (p : ℕ) where
   away : (a b : Bool) → beq a b ≡ true → p + 1 ≡ cond a (cond b (p + 1) (p - 1)) (cond b (p - 1) (p + 1))
@@ -23,14 +22,11 @@ module _ (p : ℕ) where
   back true false e = refl
   back false true e = refl
 
-add-result : tie.Need-overflow-add-result
-add-result c = record { fits = above_finite (omega arith) c.before.requires.1 }
+pub overflow_add-result : goal.overflow_add-result
+overflow_add-result c = record { fits = above_finite (omega arith) c.requires.1 }
 
-returns : tie.Need-returns
-returns c = let p = c.before.args.p in away p (leb 0x8000000000000000 p) c.before.args.below c.if1.true
+pub returns-then-p-below : goal.returns-then-p-below
+returns-then-p-below c = let p = c.args.p in away p (leb 0x8000000000000000 p) c.args.below c.if-p-below.true
 
-returns-2 : tie.Need-returns-2
-returns-2 c = let p = c.before.args.p in back p (leb 0x8000000000000000 p) c.before.args.below c.if1.false
-
-pub other_side_spec : {M : Type 1} → statement M
-other_side_spec = tie.close (tie.spec add-result returns (λ c. search rules) returns-2)
+pub returns : goal.returns
+returns c = let p = c.args.p in back p (leb 0x8000000000000000 p) c.args.below c.if-p-below.false

@@ -2,11 +2,7 @@
 use native.Mathlib.Omega.{arith}
 use Rattle.pairs.specs.Limits.{double_pairs}
 use Rattle.pairs.proofs.FaultLaws.{proper_doubles, plain_test}
-use Rattle.pairs.proofs.faults.outside.Statement.{statement}
-use Rattle.pairs.proofs.faults.outside.Tie as tie
+use Rattle.pairs.proofs.faults.outside.Goals as goal
 
-returns : tie.Need-returns
+pub returns : goal.returns
 returns c = plain_test double_pairs c.args.m (omega arith) proper_doubles
-
-pub outside_spec : {M : Type 1} → statement M
-outside_spec = tie.close (tie.spec returns)

@@ -1,0 +1,7 @@
+-- `grade::near::is_negative` meets its contract: the top word tells the sign. Assumes nothing.
+use borrow.Author.Rules.{rules}
+use Rattle.grade.proofs.WordLaws.{top_word}
+use Rattle.grade.proofs.near.is_negative.Goals as goal
+
+pub returns : goal.returns
+returns c = top_word c.args.words.now c.requires (record { below = λ i. (c.shared_slice_known-1.given i).fits })
