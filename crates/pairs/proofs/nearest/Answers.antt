@@ -23,7 +23,8 @@ use Rattle.pairs.proofs.PairLaws.{each_pair}
 use Rattle.pairs.proofs.ListLaws.{products_taken, weighted_float}
 use Rattle.pairs.proofs.Instances.{roomy_doubles}
 use Rattle.pairs.proofs.nearest.Goals as goal
-use Rattle.pairs.proofs.nearest.Goals.{After-total}
+use mathlib.Core.List.{List}
+use Prim.Native.Nat.{ℕ}
 
 pub total-requires : goal.total-requires
 total-requires c =
@@ -34,17 +35,16 @@ total-requires c =
     (when_matching W, when_allowed W, search rules)
 
 -- the words afterwards stand for the exact sum, which is far below the limit
-record Summed (t : After-total) : Type 0 where
-  pub below : nat_abs (whole_of t.total.new.words) < limit doubles.format
-  pub whole : let a = t.before.before.before.before.before.before.before.args in
-      whole_of t.total.new.words ≡ sum_of doubles.format (products_of doubles.format (zip a.a.now a.b.now))
+record Summed (ws xs ys : List ℕ) : Type 0 where
+  pub below : nat_abs (whole_of ws) < limit doubles.format
+  pub whole : whole_of ws ≡ sum_of doubles.format (products_of doubles.format (zip xs ys))
 
 pub nearest_double-requires : goal.nearest_double-requires
 nearest_double-requires c =
     let good : (let a = c.args in
     PairsWhen double_pairs true a.a.now a.b.now Good) = let a = c.args in
     (pairs_when double_pairs true a.a.now a.b.now Good).0 (sym c.judge.ensures ∙ c.in-Good.is) in
-    let summed : Summed c.before.before = let W = good in
+    let summed : Summed c.total.new.words c.args.a.now c.args.b.now = let W = good in
     let a = c.args in
     let S = sum_of doubles.format (products_of doubles.format (zip a.a.now a.b.now)) in
     let G = products_taken double_pairs (each_pair double_pairs roomy_doubles) a.a.now a.b.now (when_matching W) (when_allowed W) roomy_doubles.twice
@@ -64,7 +64,7 @@ returns-in-Good c =
     let good : (let a = c.args in
     PairsWhen double_pairs true a.a.now a.b.now Good) = let a = c.args in
     (pairs_when double_pairs true a.a.now a.b.now Good).0 (sym c.judge.ensures ∙ c.in-Good.is) in
-    let summed : Summed c.before.before.before = let W = good in
+    let summed : Summed c.total.new.words c.args.a.now c.args.b.now = let W = good in
     let a = c.args in
     let S = sum_of doubles.format (products_of doubles.format (zip a.a.now a.b.now)) in
     let G = products_taken double_pairs (each_pair double_pairs roomy_doubles) a.a.now a.b.now (when_matching W) (when_allowed W) roomy_doubles.twice
