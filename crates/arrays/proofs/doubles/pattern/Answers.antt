@@ -6,8 +6,7 @@ use lib.Dec.{T}
 use lib.Ieee.{Float, nan, inf, fin, ne, is_nan, to_bits}
 use lib.Ieee.Compare.{differs_from_itself}
 use Rattle.lists.proofs.Apart.{apart}
-use Rattle.arrays.proofs.doubles.pattern.Statement.{statement}
-use Rattle.arrays.proofs.doubles.pattern.Tie as tie
+use Rattle.arrays.proofs.doubles.pattern.Goals as goal
 
 no_nan : (x : Float) → ne x x ≡ false → T (not (is_nan x))
 unfolding ne is_nan
@@ -15,12 +14,9 @@ no_nan nan h = apart (cc)
 no_nan (inf s) h = tt
 no_nan (fin s m e) h = tt
 
-returns : tie.Need-returns
+pub returns-then-x : goal.returns-then-x
 unfolding to_bits
-returns c = rw (differs_from_itself c.before.args.x (rw c.if1.true tt))
+returns-then-x c = rw (differs_from_itself c.args.x (rw c.if-x.true tt))
 
-float-to-bits-result : tie.Need-float-to-bits-result
-float-to-bits-result c = no_nan c.before.args.x c.if1.false
-
-pub pattern_spec : {M : Type 1} → statement M
-pattern_spec = tie.close (tie.spec returns float-to-bits-result (λ c. search rules))
+pub float_to_bits-result : goal.float_to_bits-result
+float_to_bits-result c = no_nan c.args.x c.if-x.false

@@ -8,19 +8,12 @@ use lib.Count.{leading_le}
 use Rattle.units.specs.Rounding.{ceil}
 use Rattle.units.proofs.Ceiling.{ceil_next}
 use Rattle.lists.proofs.LeadingZeros.{size_is}
-use Rattle.single_kinds.proofs.Singles.exponent.Statement.{statement}
-use Rattle.single_kinds.proofs.Singles.exponent.Tie as tie
+use Rattle.single_kinds.proofs.Singles.exponent.Goals as goal
 
-add-result : tie.Need-overflow-add-result
-add-result c = search rules
+pub overflow_sub-result : goal.overflow_sub-result
+overflow_sub-result c = leading_le 64 _
 
-sub-result : tie.Need-overflow-sub-result
-sub-result c = leading_le 64 _
-
-returns : tie.Need-returns
+pub returns : goal.returns
 returns c =
     let e : c.args.self.n + 1 + 1 ≡ c.args.self.n + 2 = omega arith in
     size_is 64 (c.args.self.n + 1) (omega (arith, c.requires)) ∙ ceil_next (c.args.self.n + 1) ∙ ap ceil e
-
-pub exponent_spec : {M : Type 1} → statement M
-exponent_spec = tie.close (tie.spec add-result sub-result returns)
