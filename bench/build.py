@@ -1,7 +1,4 @@
-"""Builds what bench/run times: the library's code for this machine, the crate `timed`, the walk in C by two compilers, and the driver.
-
-On x86-64 the library is the archive that `rt staticlib` makes. The kit compiles for x86-64 only; on another machine tests/archive.py has its LLVM modules
-compiled by another back end, and the table says so."""
+"""Builds what bench/run times: the library's archive and that of the crate timed_c, which `rt lib` makes, the walk in C by two compilers, and the driver."""
 import os
 import shutil
 import subprocess
@@ -10,7 +7,6 @@ import sys
 HERE = os.path.dirname(os.path.abspath(__file__))
 ROOT = os.path.dirname(HERE)
 sys.path.insert(0, os.path.join(ROOT, "tests"))
-import archive  # noqa: E402
 import built  # noqa: E402
 import command  # noqa: E402
 import kit  # noqa: E402
@@ -19,9 +15,7 @@ PLACE = os.path.join(ROOT, "target", "bench")
 DRIVER = os.path.join(PLACE, "driver")
 C = ["-std=gnu11", "-O3", "-ffp-contract=off", "-Wall", "-Wextra", "-Werror"]
 PACKAGES = ["gcc", "libc6-dev", "libmpfr-dev"]
-TIMED = ["timed"]  # the crate of what no call hands out
-OWN = built.Made("target/bench/libtimed.a", lambda: TIMED, "staticlib timed", lambda path: archive.kits(path, TIMED))
-NATIVE = built.Made("target/bench/native/libtimed.a", lambda: TIMED, "staticlib timed", lambda path: archive.natives(path, TIMED), OWN)
+TIMED = built.Made("timed_c", "libtimed_c.a", "lib")  # what no call hands out
 
 
 def run(words, **more):
@@ -63,9 +57,9 @@ def packages():
 
 # ---- the library
 def libraries():
-    """The archives for this machine, which are proved and built where they aren't of the sources."""
+    """The archives, which are proved and built where they aren't of the sources."""
     try:
-        return [built.need(made) for made in ((built.ARCHIVE, OWN) if kit.machine() == "x86_64" else (built.NATIVE, NATIVE))]
+        return [built.need(made) for made in (built.ARCHIVE, TIMED)]
     except command.Trouble as trouble:
         sys.exit(f"bench: {trouble}")
 
@@ -80,7 +74,7 @@ def c_object(compiler, source, *words):
 def driver():
     os.makedirs(PLACE, exist_ok=True)
     packages()
-    own = ["-isystem", os.path.join(ROOT, "tests", "host"), f"--target={kit.machine()}-unknown-linux-gnu", "-fPIC"]
+    own = ["-isystem", os.path.join(ROOT, "tests", "host"), f"--target={kit.TARGET}", "-fPIC"]
     objects = [c_object("gcc", source) for source in ("main", "requests", "sums")]
     for source in ("walk", "best"):
         objects += [c_object("gcc", source, "-DCOMPILER=gcc"), c_object(kit.clang(), source, "-DCOMPILER=clang", *own)]
@@ -100,6 +94,4 @@ def versions():
     """What compiled what, in a sentence."""
     first = {word: run([word, "--version"]).splitlines()[0] for word in ("gcc", kit.clang())}
     ours = f"the kit's {first[kit.clang()]}"
-    how = "its archive of `rt staticlib`" if kit.machine() == "x86_64" else f"its LLVM module, compiled at -O3 for {kit.machine()} by {ours}"
-    where = "" if kit.machine() == "x86_64" else " (the kit itself compiles for x86-64 only: the code is the library's own, the back end another)"
-    return f"The library is {how}{where}. The C code is compiled at -O3 by {first['gcc']}, the walk by {ours} too; all for the machine's baseline."
+    return f"The library is its archive of `rt lib`. The C code is compiled at -O3 by {first['gcc']}, the walk by {ours} too; all for the machine's baseline."

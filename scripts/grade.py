@@ -1,4 +1,4 @@
-"""Grades a sum that somebody claims of a contribution sheet, with the proved library: natively on x86-64, under the kit's emulator on aarch64.
+"""Grades a sum that somebody claims of a contribution sheet, with the proved library.
 
     scripts/grade FILE CLAIM     prints the claim's grade, or one line with the refusal
     scripts/grade - CLAIM        the same with the sheet on standard input
@@ -7,7 +7,7 @@ A claim is a number as tools/sheet takes it: decimal, in as many digits as the d
 The line is `grade exact`, `grade nearest`, `grade faithful` or `grade wrong`; or `refused 3 at 1`, as scripts/sum prints it. Standard error has what that means.
 
 Exit status: 0 where a grade is printed, whichever it is, 1 where the sheet or the claim is refused and nowhere else, 2 where something else is wrong, with one
-line that says what. Where target/staticlib/libkewohiata.a is missing, or older than its sources, `rt staticlib` proves and builds it first.
+line that says what. Where crates/kewohiata/out/libkewohiata.a is missing, or older than its sources, `rt lib` proves and builds it first.
 """
 import importlib.machinery
 import importlib.util
@@ -22,7 +22,6 @@ sys.dont_write_bytecode = True
 sys.path[:0] = [HERE, os.path.join(ROOT, "tests")]
 import built  # noqa: E402
 import command  # noqa: E402
-import kit  # noqa: E402
 import sum as summing  # noqa: E402
 from command import Trouble, say  # noqa: E402
 
@@ -48,7 +47,7 @@ def pattern_of(claim):
 def answered(words, program, pattern, sheet):
     """The code and the grade."""
     asked = struct.pack("<2Q", pattern, len(sheet)) + sheet
-    ended = subprocess.run([*words, program], input=asked, stdout=subprocess.PIPE, env=kit.environment(), check=False)
+    ended = subprocess.run([*words, program], input=asked, stdout=subprocess.PIPE, check=False)
     if ended.returncode or len(ended.stdout) != 16:
         raise Trouble(f"target/grade/grade ended with status {ended.returncode} and {len(ended.stdout)} bytes")
     return struct.unpack("<2Q", ended.stdout)

@@ -1,4 +1,4 @@
-"""Rescues what a damaged contribution sheet still holds, with the proved library: natively on x86-64, under the kit's emulator on aarch64.
+"""Rescues what a damaged contribution sheet still holds, with the proved library.
 
     scripts/rescue FILE     writes a good sheet of the entries that could be saved
     scripts/rescue -        the same of a sheet on standard input
@@ -9,7 +9,7 @@ that were dropped: the place, the pattern, and why.
 
 Exit status: 0 where a sheet is written, also where entries were lost, even all of them: the sum of a rescued sheet is that of the saved entries alone;
 1 where the damaged one is refused and nowhere else, 2 where something else is wrong, with one line that says what.
-Where target/staticlib/libkewohiata.a is missing, or older than its sources, `rt staticlib` proves and builds it first.
+Where crates/kewohiata/out/libkewohiata.a is missing, or older than its sources, `rt lib` proves and builds it first.
 """
 import os
 import struct
@@ -22,7 +22,6 @@ sys.dont_write_bytecode = True
 sys.path[:0] = [HERE, os.path.join(ROOT, "tests")]
 import built  # noqa: E402
 import command  # noqa: E402
-import kit  # noqa: E402
 import sum as summing  # noqa: E402
 from command import Trouble, say  # noqa: E402
 
@@ -33,7 +32,7 @@ WHY = {1: "a NaN or infinity", 2: "a magnitude above 2^1000"}
 
 def answered(words, program, sheet):
     """The code, the report, the rescued sheet and the marks."""
-    ended = subprocess.run([*words, program], input=struct.pack("<Q", len(sheet)) + sheet, stdout=subprocess.PIPE, env=kit.environment(), check=False)
+    ended = subprocess.run([*words, program], input=struct.pack("<Q", len(sheet)) + sheet, stdout=subprocess.PIPE, check=False)
     if ended.returncode or len(ended.stdout) < HEAD.size:
         raise Trouble(f"target/rescue/rescue ended with status {ended.returncode} and {len(ended.stdout)} bytes")
     code, written, taken, missing, over = HEAD.unpack_from(ended.stdout)

@@ -1,4 +1,4 @@
-"""Sums one contribution sheet with the proved program: natively on x86-64, under the kit's emulator on aarch64.
+"""Sums one contribution sheet with the proved program.
 
     scripts/sum FILE     prints the count, the faithful sum with its rounds and the nearest sum, or one line with the refusal
     scripts/sum -        the same of standard input
@@ -7,7 +7,7 @@ Standard output is the program's own, byte for byte. Standard error has what tha
 double, or the refusal in words (docs/REFUSALS.md has them all).
 
 Exit status: 0 where sums are printed, 1 where the sheet is refused and nowhere else, 2 where something else is wrong, with one line that says what.
-Where target/bin/sum_sheet is missing, or older than its sources, `rt check sum_sheet` builds it first, which proves it and everything below it.
+Where crates/sum_sheet/out/sum_sheet is missing, or older than its sources, `rt run` builds it first, which proves it and everything below it.
 """
 import os
 import re
@@ -42,11 +42,10 @@ def begun(name, closed, most=BUFFER):
 
 def prefix():
     """The words before the program's path; it takes the kit to know them."""
-    try:
-        words = kit.run_prefix()
-    except SystemExit as error:
-        raise Trouble(f"{error}. Its folder may also be named by RATTLE_HOME") from error
+    words = kit.run_prefix()
     missing = [word for word in words if os.path.isabs(word) and not os.path.exists(word)]
+    if kit.machine() != kit.MACHINE:
+        raise Trouble(f"the Rattle kit is for {kit.MACHINE}, and this machine is {kit.machine()}")
     if missing:
         raise Trouble(f"the Rattle kit at {kit.home()} has nothing for this machine, {kit.machine()}: there is no {missing[0]}")
     return words
@@ -84,9 +83,9 @@ def main():
         raise Trouble("say one FILE, or - for standard input; scripts/sum --help tells more")
     sheet, words = begun(sys.argv[1], command.opened()), prefix()
     program = built.need(built.SHEET_PROGRAM)
-    ended = subprocess.run([*words, program], input=sheet, stdout=subprocess.PIPE, env=kit.environment(), check=False)
+    ended = subprocess.run([*words, program], input=sheet, stdout=subprocess.PIPE, check=False)
     if ended.returncode or not (SUMS.fullmatch(ended.stdout) or REFUSED.fullmatch(ended.stdout)):
-        raise Trouble(f"target/bin/sum_sheet ended with status {ended.returncode} and printed {len(ended.stdout)} bytes")
+        raise Trouble(f"{built.SHEET_PROGRAM.name} ended with status {ended.returncode} and printed {len(ended.stdout)} bytes")
     command.answer(ended.stdout)
     return explain(ended.stdout)
 

@@ -10,33 +10,26 @@ import os
 import subprocess
 import time
 
-import archive
 import kit
 from command import Trouble, say
 
 ROOT = os.path.dirname(os.path.dirname(os.path.abspath(__file__)))
 PLACE = os.path.join(ROOT, "target", "built")
-PARTS = ("src", "specs", "proofs", "stdin", "stdout", "args", "data")  # of a crate's folder, what `rt` proves and runs
+PARTS = ("src", "specs", "proofs", "stdin", "stdout", "args", "status", "data")  # of a crate's folder, what `rt` proves and runs
 
 
 class Made:
-    """A file that a function of its path makes of crates, and answers a status; the words tell how. What the crates are is asked when it is needed; the
-    file may need another one first."""
+    """A file that `rt` makes of a crate and of those below it, in that crate's out/. A program is built by running it, on empty input here."""
 
-    def __init__(self, path, crates, words, by, after=None):
-        self.path, self.name, self.crates, self.after = os.path.join(ROOT, path), path, crates, after
-        self.command, self.by = f"'rt {words}'", by
-        self.mark = os.path.join(PLACE, path.replace(os.sep, "-"))
-
-
-def calls():
-    """The crates whose functions have names of C: those are called so."""
-    return [name for name in needs() if name.endswith("_calls")]
+    def __init__(self, crate, name, verb):
+        self.crate, self.verb, self.name = crate, verb, f"crates/{crate}/out/{name}"
+        self.path = os.path.join(ROOT, self.name)
+        self.command = f"'rt {verb}' in crates/{crate}"
+        self.mark = os.path.join(PLACE, name)
 
 
-SHEET_PROGRAM = Made("target/bin/sum_sheet", lambda: ["sum_sheet"], "check sum_sheet", lambda _: kit.rt("check", "sum_sheet"))
-ARCHIVE = Made("target/staticlib/libkewohiata.a", calls, "staticlib", lambda path: archive.kits(path, calls()))
-NATIVE = Made("target/native/libkewohiata.a", calls, "staticlib", lambda path: archive.natives(path, calls()), ARCHIVE)
+SHEET_PROGRAM = Made("sum_sheet", "sum_sheet", "run")
+ARCHIVE = Made("kewohiata", "libkewohiata.a", "lib")
 
 
 # ---- the sources
@@ -44,12 +37,12 @@ def needs():
     """crate: what it takes from others, by crates.txt"""
     with open(os.path.join(ROOT, "crates.txt"), encoding="utf-8") as f:
         lines = [line.split("#")[0].split(":") for line in f]
-    return {line[0].strip(): line[1].split() for line in lines if len(line) == 2}
+    return {line[0].split()[0]: line[1].split() for line in lines if len(line) == 2}
 
 
-def reached(crates):
-    """The crates and all below them, with what each takes."""
-    listed, found, todo = needs(), {}, list(crates)
+def reached(crate):
+    """The crate and all below it, with what each takes."""
+    listed, found, todo = needs(), {}, [crate]
     while todo:
         name = todo.pop()
         if name in listed and name not in found:
@@ -58,9 +51,9 @@ def reached(crates):
     return found
 
 
-def sources(crates):
-    """Every file and folder of the crates and of those below them."""
-    for name in sorted(reached(crates)):
+def sources(crate):
+    """Every file and folder of the crate and of those below it."""
+    for name in sorted(reached(crate)):
         for part in PARTS:
             top = os.path.join(ROOT, "crates", name, part)
             if os.path.isfile(top):
@@ -78,9 +71,9 @@ def content(path):
 
 def digest(made):
     """Of the kit, of what crates.txt says, and of the files' names and contents."""
-    summed = hashlib.sha256(repr(sorted(reached(made.crates()).items())).encode())
+    summed = hashlib.sha256(repr(sorted(reached(made.crate).items())).encode())
     identity = os.path.join(kit.home(), "KIT-ID")
-    for path in ([identity] if os.path.exists(identity) else []) + [path for path in sources(made.crates()) if os.path.isfile(path)]:
+    for path in ([identity] if os.path.exists(identity) else []) + [path for path in sources(made.crate) if os.path.isfile(path)]:
         data = content(path)
         summed.update(f"{os.path.relpath(path, ROOT) if path != identity else 'KIT-ID'} {len(data)}\n".encode() + data)
     return summed.hexdigest()
@@ -94,11 +87,13 @@ def marked(made, summed):
 # ---- whether it has to be built
 def stale(made):
     """Why the file has to be built, in words; None where it is of the sources."""
+    if made.crate not in needs():
+        raise Trouble(f"crates.txt has no crate {made.crate}")
     if not os.path.exists(made.path):
         return f"{made.name} is missing"
     if os.path.exists(made.mark):
         return None if content(made.mark) == marked(made, digest(made)) else f"sources have changed since {made.name} was built"
-    newest = max(map(os.path.getmtime, [os.path.join(ROOT, "crates.txt"), *sources(made.crates())]))
+    newest = max(map(os.path.getmtime, [os.path.join(ROOT, "crates.txt"), *sources(made.crate)]))
     return f"sources are newer than {made.name}" if newest > os.path.getmtime(made.path) else None
 
 
@@ -121,11 +116,7 @@ def lock():
 def rebuild(made, why):
     say(f"{why}: {made.command} proves and builds it, which takes minutes where nothing is proved yet")
     began, summed = time.monotonic(), digest(made)  # of the sources before: what changes while they are proved is seen next time
-    if not os.path.exists(made.path):
-        for stamp in (os.path.join(ROOT, "target", "stamp", name) for name in made.crates()):
-            if os.path.exists(stamp):  # by which `rt` would take the missing file for unchanged
-                os.remove(stamp)
-    status = made.by(made.path)
+    status = kit.rt(made.verb, made.crate)
     if status or not os.path.exists(made.path):
         raise Trouble(f"{made.command} ended with status {status} and {made.name} is not built")
     with open(made.mark, "wb") as f:
@@ -135,8 +126,6 @@ def rebuild(made, why):
 
 def need(made):
     """The path of the file, which is built first where it isn't of the sources."""
-    if made.after:
-        need(made.after)
     if stale(made):
         with lock():
             why = stale(made)  # another command may have built it since
@@ -147,14 +136,14 @@ def need(made):
 
 def c_program(source, folder):
     """The path of a C file's program over the archive, made in a folder of target/."""
-    archive_path = need(ARCHIVE)
+    archive = need(ARCHIVE)
     place = os.path.join(ROOT, "target", folder)
     try:
         os.makedirs(place, exist_ok=True)
     except OSError as error:
         raise Trouble(f"nothing can be built here: target/{folder}: {error.strerror}") from error
     program = os.path.join(place, os.path.splitext(os.path.basename(source))[0])
-    for words in kit.c_commands(os.path.join(ROOT, source), [archive_path], program):
+    for words in kit.c_commands(os.path.join(ROOT, source), [archive], program):
         done = subprocess.run(words, stdout=subprocess.PIPE, stderr=subprocess.STDOUT, text=True, check=False)
         if done.returncode:
             raise Trouble(f"{os.path.basename(words[0])} ended with status {done.returncode} on {source}: {done.stdout}")

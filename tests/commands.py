@@ -4,9 +4,11 @@
     python3 tests/commands.py        exit status 1 on a difference
 
 Statuses and help are tried on the repository itself. What is built again is tried in a small repository of its own, with an `rt` that hands out what the
-real one has built and counts how often it is asked. Needs what `rt check sum_sheet` and `rt staticlib` build, and builds it where it is missing.
+real one has built and counts how often it is asked. Needs what `rt run` makes of crates/sum_sheet and `rt lib` of crates/kewohiata, and
+builds it where it is missing.
 """
 import os
+import re
 import shutil
 import stat
 import subprocess
@@ -23,15 +25,16 @@ import sheets  # noqa: E402
 ROOT = built.ROOT
 SHEET, REFUSED = "tests/sheets/example.sheet", "tests/sheets/nan_third.sheet"
 PARTS = ["scripts", "tests", "docs", "include", "examples"]  # what the small repository has of the real one
-CRATES = "low:\nlines: low\nsum_sheet: io lines\nbyte_calls: low\nregister_calls: low\nother: sum_sheet\n"
+CRATES = "low:\nlines: low\nsum_sheet: io lines\nkewohiata staticlib: low\nother: sum_sheet\n"
 RT = """#!/bin/bash
-# What the kit's rt would build, and a line for each time it is asked.
-echo "$*" >>'{room}/asked'
+# What the kit's rt would build in a crate's folder, and a line for each time it is asked.
+echo "$1 ${{PWD##*/}}" >>'{room}/asked'
 sleep "${{PAUSE:-0}}"
 [ -z "${{FAILS:-}}" ] || {{ echo "rt: nothing is proved"; exit 1; }}
+mkdir -p out
 case $1 in
-check) mkdir -p target/bin && cp '{root}/target/bin/sum_sheet' target/bin/ ;;
-staticlib) mkdir -p target/staticlib && cp '{root}/target/staticlib/lib'$2.a target/staticlib/ ;;
+run) cp '{root}/crates/sum_sheet/out/sum_sheet' out/ ;;
+lib) cp '{root}/crates/kewohiata/out/libkewohiata.a' out/ ;;
 esac
 """
 
@@ -53,6 +56,14 @@ def read(path):
 def content(path):
     with open(os.path.join(ROOT, path), "rb") as f:
         return f.read()
+
+
+def put(path, text, mode=0o644):
+    os.makedirs(os.path.dirname(path), exist_ok=True)
+    with open(path, "w", encoding="utf-8") as f:
+        f.write(text)
+    os.chmod(path, mode)
+    return path
 
 
 # ---- help
@@ -113,7 +124,7 @@ def check_status(name, got, status, out, *said):
 
 def check_sum():
     lines = read("tests/sheets/example.out")
-    without = {"PATH": ":".join(folder for folder in os.environ["PATH"].split(":") if not os.path.exists(os.path.join(folder, "rt"))), "RATTLE_HOME": ""}
+    without = {"PATH": ":".join(folder for folder in os.environ["PATH"].split(":") if not os.path.exists(os.path.join(folder, "rt")))}
     decimal = "in decimal: faithful 1.0, nearest 1.0"
     check_status("sums", ended([SHEET]), 0, lines, decimal)
     check_status("standard input", ended(["-"], SHEET), 0, lines, decimal)
@@ -122,7 +133,9 @@ def check_sum():
     check_status("no file", ended(["no such file"]), 2, "", "no such file: No such file")
     check_status("a folder", ended(["tests"]), 2, "", "tests: Is a directory")
     check_status("no kit", ended([SHEET], **without), 2, "", "there is no 'rt' on the PATH")
-    check_status("another kit", ended([SHEET], RATTLE_HOME=ROOT), 2, "", "has nothing for this machine")
+    with tempfile.TemporaryDirectory() as folder:
+        put(os.path.join(folder, "bin", "rt"), "#!/bin/sh\n", 0o755)
+        check_status("another kit", ended([SHEET], PATH=f"{folder}/bin:{os.environ['PATH']}"), 2, "", "has nothing for this machine")
     check_status("no word", ended([]), 2, "", "say one FILE")
     check_status("two words", ended([SHEET, SHEET]), 2, "", "say one FILE")
     check_status("an empty word", ended([""]), 2, "", "No such file")
@@ -159,7 +172,7 @@ def check_grade():
         ("a folder as input", "scripts/grade - 1 <tests", 2, "", "standard input is a folder"),
         ("closed output", f"scripts/grade {SHEET} 1 >&-", 2, "", "standard output is closed"),
         ("full output", f"scripts/grade {SHEET} 1 >/dev/full", 2, "", "standard output: "),
-        ("no kit", f"RATTLE_HOME= PATH=/nothing $(command -v sh) scripts/grade {SHEET} 1", 2, "", None),
+        ("no kit", f"PATH=/nothing $(command -v sh) scripts/grade {SHEET} 1", 2, "", None),
     ):
         COUNTS["statuses"] += 1
         got = shell(line)
@@ -202,7 +215,7 @@ def check_example():
         ("another word", "scripts/example nothing", 2, "", "nothing is known of nothing"),
         ("closed output", "scripts/example >&-", 2, "", "standard output is closed"),
         ("full output", "scripts/example >/dev/full", 2, "", "standard output: "),
-        ("no kit", "RATTLE_HOME= PATH=/nothing $(command -v python3) scripts/example", 2, "", "there is no 'rt' on the PATH"),
+        ("no kit", "PATH=/nothing $(command -v python3) scripts/example", 2, "", "there is no 'rt' on the PATH"),
     ):
         COUNTS["statuses"] += 1
         got = shell(line)
@@ -217,26 +230,26 @@ class Room:
     def __init__(self, folder):
         self.folder, self.asked = folder, os.path.join(folder, "asked")
         self.root = os.path.join(folder, "repository")
-        os.makedirs(os.path.join(folder, "bin"))
+        self.put_kit()
         for part in PARTS:
             shutil.copytree(os.path.join(ROOT, part), os.path.join(self.root, part), symlinks=True)
         self.write("crates.txt", CRATES)
-        for crate in ("low", "lines", "sum_sheet", "byte_calls", "register_calls", "other"):
+        for crate in ("low", "lines", "sum_sheet", "kewohiata", "other"):
             self.write(f"crates/{crate}/src/lib.rt", "// nothing\n")
-        program = os.path.join(folder, "bin", "rt")
-        self.write(program, RT.format(room=folder, root=ROOT))
-        os.chmod(program, 0o755)
+
+    def put_kit(self):
+        """A kit in the folder: another `rt`, and links to all else of the real one."""
+        put(os.path.join(self.folder, "bin", "rt"), RT.format(room=self.folder, root=ROOT), 0o755)
+        for part in ("", "bin"):
+            for name in {*os.listdir(os.path.join(kit.home(), part))} - {"bin", "rt"}:
+                os.symlink(os.path.join(kit.home(), part, name), os.path.join(self.folder, part, name))
 
     def write(self, path, text):
-        path = os.path.join(self.root, path)
-        os.makedirs(os.path.dirname(path), exist_ok=True)
-        with open(path, "w", encoding="utf-8") as f:
-            f.write(text)
-        return path
+        return put(os.path.join(self.root, path), text)
 
     def started(self, *words, path=None, **environment):
         path = path or os.path.join(self.root, words[0])
-        env = {**os.environ, "PATH": f"{self.folder}/bin:{os.environ['PATH']}", "RATTLE_HOME": kit.home(), **environment}
+        env = {**os.environ, "PATH": f"{self.folder}/bin:{os.environ['PATH']}", **environment}
         return subprocess.Popen([path, *words[1:]], cwd=os.sep, stdin=subprocess.DEVNULL, stdout=subprocess.PIPE, stderr=subprocess.PIPE, env=env)
 
     def ran(self, *words, **more):
@@ -257,7 +270,8 @@ class Room:
 
 def check_built(room, words, out, asked):
     """A command that prints `out`, and what `rt` is asked for by it, after one change or the other."""
-    target = os.path.join(room.root, "target")
+    name = asked[0].split()[1]
+    target, made = os.path.join(room.root, "target"), os.path.join(room.root, "crates", name, "out")
 
     def built_again(name, wanted, said="", **more):
         got = room.ran(*words, **more)
@@ -265,7 +279,6 @@ def check_built(room, words, out, asked):
         telling = not said or any(said in line for line in got[2])
         expect(f"{words[0]}: {name}", got[:2] == (0, out) and again == (asked if wanted else []) and telling, got, again)
 
-    name = asked[-1].split()[1]
     built_again("the first time", True, "is missing")
     built_again("again", False)
     os.utime(room.write("crates/low/src/lib.rt", "// changed\n"), (1, 1))  # by its time an old file
@@ -274,7 +287,7 @@ def check_built(room, words, out, asked):
     built_again("a new file", True, "sources have changed since")
     room.write("crates/other/src/lib.rt", "// changed\n")
     built_again("a crate that isn't below", False)
-    room.write("crates.txt", CRATES.replace(f"{name}:", f"{name}: libc"))
+    room.write("crates.txt", re.sub(f"^({name}.*:)", r"\1 io", CRATES, flags=re.M))
     built_again("crates.txt", True, "sources have changed since")
     shutil.rmtree(os.path.join(target, "built"))
     built_again("built by hand", False)
@@ -282,7 +295,8 @@ def check_built(room, words, out, asked):
     os.utime(room.write("crates/low/src/lib.rt", "// newer\n"), (time.time() + 5, time.time() + 5))
     built_again("newer sources", True, "sources are newer than")
     shutil.rmtree(target)
-    expect(f"{words[0]}: no proof", room.ran(*words, FAILS="1")[:2] == (2, "") and room.builds() == asked[:1])
+    shutil.rmtree(made)
+    expect(f"{words[0]}: no proof", room.ran(*words, FAILS="1")[:2] == (2, "") and room.builds() == asked)
     both = [room.started(*words, PAUSE="2") for _ in range(2)]
     told = [(process.communicate(timeout=120)[0].decode(), process.returncode) for process in both]
     expect(f"{words[0]}: two at once", told == [(out, 0)] * 2 and room.builds() == asked, told)
@@ -295,6 +309,7 @@ def check_built(room, words, out, asked):
     expect(f"{words[0]}: a fault of its own", got[:2] == (2, "") and len(got[2]) == 1 and got[2][0].startswith(f"{words[0]}: UnicodeDecodeError: "), got)
     room.write("crates.txt", CRATES)
     shutil.rmtree(target)
+    shutil.rmtree(made)
     room.write("target", "a file where a folder has to be\n")
     got = room.ran(*words)
     expect(f"{words[0]}: nothing can be written", got[:2] == (2, "") and len(got[2]) == 1 and "nothing can be built here" in got[2][0], got)
@@ -303,8 +318,8 @@ def check_built(room, words, out, asked):
 
 def check_rooms():
     for words, out, asked in (
-        (("scripts/sum", os.path.join(ROOT, SHEET)), read("tests/sheets/example.out"), ["check sum_sheet"]),
-        (("scripts/example",), read("examples/leaver.out"), ["staticlib byte_calls", "staticlib register_calls"]),
+        (("scripts/sum", os.path.join(ROOT, SHEET)), read("tests/sheets/example.out"), ["run sum_sheet"]),
+        (("scripts/example",), read("examples/leaver.out"), ["lib kewohiata"]),
     ):
         with tempfile.TemporaryDirectory() as folder:
             check_built(Room(folder), words, out, asked)

@@ -137,7 +137,7 @@ def programs(archive):
         program = os.path.join(PLACE, f"kit-{name}")
         if all([compiled(one) for one in kit.c_commands(SOURCE, [archive], program, "-pedantic", *words)]):
             yield f"the kit's compiler, {' '.join(words)}", program, kit.run_prefix()
-    if shutil.which("gcc") and kit.machine() == "x86_64":
+    if shutil.which("gcc"):
         for level in ("-O0", "-O2", "-Ofast"):
             program = os.path.join(PLACE, f"gcc{level}")
             if compiled(["gcc", "-std=c99", level, *WARNINGS, "-I", kit.INCLUDE, SOURCE, archive, "-o", program]):
@@ -147,7 +147,7 @@ def programs(archive):
 def answers(program, prefix, requests):
     """Of each request, control word, call and list, the control word afterwards, the code and 33 values."""
     wires = b"".join(struct.pack(f"<{3 + len(numbers)}Q", control, call, len(numbers), *numbers) for control, call, numbers in requests)
-    done = subprocess.run([*prefix, program], input=wires, stdout=subprocess.PIPE, env=kit.environment(), check=False)
+    done = subprocess.run([*prefix, program], input=wires, stdout=subprocess.PIPE, check=False)
     if done.returncode or len(done.stdout) != 280 * len(requests):
         raise RuntimeError(f"{program} ended with status {done.returncode} and {len(done.stdout)} bytes for {len(requests)} requests")
     COUNTS["answers"] += len(requests)

@@ -5,7 +5,8 @@
 
 In a block marked console, a line with a dollar is a command and the lines behind it are what it prints. A block marked sh has commands alone, which have to
 succeed; scripts/test, which runs this, isn't run again, nor a compiler that isn't there. A block marked python is run too, and the block marked text behind it
-is what it prints; a block marked c is compiled. Needs what `rt check sum_sheet` and `rt staticlib` build, and builds it where it is missing.
+is what it prints; a block marked c is compiled. Needs what `rt run` makes of crates/sum_sheet
+and `rt lib` of crates/kewohiata, and builds it where it is missing.
 """
 import os
 import re
@@ -55,7 +56,7 @@ def lines_of(block):
     lines = [line.split("  #")[0].strip() for line in block.splitlines()]
     for k, line in enumerate(lines):
         compiler = [other for other in lines[: k + 1] if other.startswith("gcc ") and (other is line or other.split()[-1] == line.split()[0])]
-        if line and line != "scripts/test" and (not compiler or (shutil.which("gcc") and kit.machine() == "x86_64")):
+        if line and line != "scripts/test" and (not compiler or (shutil.which("gcc"))):
             yield line
 
 

@@ -6,11 +6,8 @@ each answer, its code and every element of every array, with what docs/SCOPE.md 
     python3 tests/host.py --lists 200000   a larger run
     python3 tests/host.py --seed 7         with other random numbers
     python3 tests/host.py --flip           every answer has one bit flipped, and each must be reported
-    python3 tests/host.py --native         with the native archive too, as on every machine but x86-64
 
-The archive is for x86-64. On another machine it runs under the kit's emulator, and beside it the native archive is compared, which another back end made of the
-same code: every request goes to both. Those on binary32 numbers also go to tests/host/floats.c, a walk in this machine's own floats: where it differs, the
-exact integers are wrong or it is.
+The requests on binary32 numbers also go to tests/host/floats.c, a walk in this machine's own floats: where it differs, the exact integers are wrong or it is.
 
 A difference is printed with its inputs, and the exit status is 1.
 """
@@ -28,7 +25,6 @@ HERE = os.path.dirname(os.path.abspath(__file__))
 ROOT = os.path.dirname(HERE)
 sys.dont_write_bytecode = True
 sys.path[:0] = [HERE, os.path.join(HERE, "host")]
-import archive  # noqa: E402
 import built  # noqa: E402
 import calls  # noqa: E402
 import claims  # noqa: E402
@@ -104,45 +100,33 @@ def source(name):
     return os.path.join(HERE, "host", f"{name}.c")
 
 
-def compiled(name, program, target, *more):
+def compiled(name, program, *more):
     """The object file of a C file, for a program."""
     made = os.path.join(PLACE, f"{program}-{name}.o")
     words = ["-std=gnu99", "-O2", "-Wall", "-Wextra", "-Werror", "-ffreestanding", "-fno-builtin", "-fPIC", "-I", kit.INCLUDE, "-isystem", kit.HEADERS]
-    run(kit.clang(), f"--target={target}", *words, *more, "-c", source(name), "-o", made)
+    run(kit.clang(), f"--target={kit.TARGET}", *words, *more, "-c", source(name), "-o", made)
     return made
 
 
 def driver():
-    """The driver with the archive for x86-64."""
+    """The driver with the archive."""
     made = os.path.join(PLACE, "driver")
     for words in kit.c_commands(source("driver"), [built.need(built.ARCHIVE)], made):
         run(*words)
     return Driver([*kit.run_prefix(), made], set(REFUSALS))
 
 
-def linked(program, *objects):
-    """A program for this machine, linked without a C library."""
-    made = os.path.join(PLACE, program)
-    run(os.path.join(kit.toolchain(), "bin", "ld.lld"), "-static", *objects, compiled("alone", program, archive.target()), "-o", made)
-    return [made]
-
-
-def native_driver():
-    """The same with the native archive."""
-    objects = compiled("driver", "native", archive.target()), built.need(built.NATIVE)
-    return Driver(linked("native", *objects), set(REFUSALS))
-
-
 def floats_driver():
-    """The same with the walk in floats, which has the calls on binary32 numbers alone."""
-    objects = [compiled("driver", "floats", archive.target(), "-DFLOATS"), compiled("floats", "floats", archive.target())]
-    return Driver(linked("floats", *objects), set(calls.SINGLE_NAMES))
+    """The same with the walk in floats, which has the calls on binary32 numbers alone; linked without a C library."""
+    made, objects = os.path.join(PLACE, "floats"), [compiled("driver", "floats", "-DFLOATS"), compiled("floats", "floats"), compiled("alone", "floats")]
+    run(os.path.join(kit.toolchain(), "bin", "ld.lld"), "-static", *objects, "-o", made)
+    return Driver([made], set(calls.SINGLE_NAMES))
 
 
-def build(with_native):
+def build():
     """The drivers, of which the last is no archive's."""
     os.makedirs(PLACE, exist_ok=True)
-    return [driver(), *([native_driver()] if with_native else []), floats_driver()]
+    return [driver(), floats_driver()]
 
 
 # ---- a batch
@@ -161,7 +145,7 @@ def requests_of(seed, name):
 def answers_of(requests, words):
     """What a driver answers to such calls as it has, one after the other."""
     wires = b"".join(map(calls.wire, requests))
-    process = subprocess.run(words, input=wires, env=kit.environment(), capture_output=True, check=False)
+    process = subprocess.run(words, input=wires, capture_output=True, check=False)
     if process.returncode:
         raise RuntimeError(f"the driver ended with status {process.returncode}: {process.stderr.decode(errors='replace')}")
     lengths = [sum(map(len, calls.answered(request))) for request in requests]
@@ -248,10 +232,9 @@ def main():
     words.add_argument("--lists", type=int, default=LISTS)
     words.add_argument("--seed", type=int, default=1)
     words.add_argument("--flip", action="store_true")
-    words.add_argument("--native", action="store_true")
     asked = words.parse_args()
     print(f"host: seed {asked.seed}", flush=True)
-    drivers = build(asked.native or kit.machine() != "x86_64")
+    drivers = build()
     names = batches(asked.lists)
     with multiprocessing.Pool(os.cpu_count()) as pool:
         counts, bad = compare(pool, asked.seed, names, asked.flip, drivers)
@@ -259,7 +242,7 @@ def main():
     bad += passed
     table(counts)
     gaps = list(uncovered(counts)) + [f"host: no answer of {call} was flipped" for call in sorted(REFUSALS.keys() - {call for call, _ in turned})]
-    what = f"{asked.lists} lists, {sum(counts.values())} calls of {len(drivers) - 1} archive{'s' if len(drivers) > 2 else ''} and of the walk in floats"
+    what = f"{asked.lists} lists, {sum(counts.values())} calls of the archive and of the walk in floats"
     print("\n".join(gaps + [f"host: {what}, {bad} {'flipped bits passed' if asked.flip else 'differences'}"]))
     return 1 if bad or gaps else 0
 

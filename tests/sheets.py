@@ -1,5 +1,5 @@
 #!/usr/bin/env python3
-"""Runs the sheet program, target/bin/sum_sheet, over the sheets of tests/sheets and compares what it prints byte by byte.
+"""Runs the sheet program, crates/sum_sheet/out/sum_sheet, over the sheets of tests/sheets and compares what it prints byte by byte.
 
     python3 tests/sheets.py          exit status 1 where one differs
     python3 tests/sheets.py --make   writes tests/sheets/NAME.sheet and NAME.out
@@ -19,6 +19,7 @@ import termios
 import time
 
 sys.dont_write_bytecode = True
+import built  # noqa: E402
 import command  # noqa: E402
 import exact  # noqa: E402
 import kit  # noqa: E402
@@ -28,7 +29,6 @@ from exact import Refused  # noqa: E402
 
 HERE = os.path.dirname(os.path.abspath(__file__))
 FOLDER = os.path.join(HERE, "sheets")
-PROGRAM = os.path.join(os.path.dirname(HERE), "target", "bin", "sum_sheet")
 BUFFER = 32758
 SECONDS = 60  # within which the program has to end
 SIGN, INFINITY, ONE, LIMIT = exact.SIGN, exact.INFINITY, exact.ONE, exact.MAGNITUDE
@@ -166,9 +166,8 @@ LONGER = [
 
 # ---- running the program
 def started(stdin):
-    return subprocess.Popen(
-        [*kit.run_prefix(), PROGRAM], stdin=stdin, stdout=subprocess.PIPE, stderr=subprocess.PIPE, env=kit.environment(), cwd=FOLDER
-    )
+    words = [*kit.run_prefix(), built.SHEET_PROGRAM.path]
+    return subprocess.Popen(words, stdin=stdin, stdout=subprocess.PIPE, stderr=subprocess.PIPE, cwd=FOLDER)
 
 
 def ended(process, data=None):
@@ -280,9 +279,7 @@ def make():
 def main():
     if command.asked(__doc__, ["--make"]):
         return make()
-    if not os.path.exists(PROGRAM):
-        print("sheets: the program is not built: rt check sum_sheet")
-        return 1
+    built.need(built.SHEET_PROGRAM)
     names = {name for name, _, _ in SHEETS}
     same("the folder", set(os.listdir(FOLDER)), {name + suffix for name in names for suffix in (".sheet", ".out")})
     for entry in SHEETS:
