@@ -12,22 +12,16 @@ refused-requires c =
     let a = c.args in
     (read_refusal a.sheet.now a.numbers.now a.work.now a.text.now c.read.ensures _ _ c.in-Refused.is, search rules)
 
--- LEFT slice-bounds-summed-end
-part-summed-end : tie.Need-slice-bounds-summed-end
-part-summed-end c =
-    let n = c.before.before in
-    let r = n.before.before.before.before in
-    let a = r.before.before.before.before.before.before.args in
-    let room = read_room a.sheet.now a.numbers.now a.work.now a.text.now r.read.ensures n.n.given.0.0 n.n.given.1 in
+pub slice_bounds-summed-end : goal.slice_bounds-summed-end
+slice_bounds-summed-end c =
+    let a = c.args in
+    let room = read_room a.sheet.now a.numbers.now a.work.now a.text.now c.read.ensures c.in-Read.n c.in-Read.is in
     omega (arith, room)
 
--- LEFT slice-bounds-summed-end-2
-part-summed-end-2 : tie.Need-slice-bounds-summed-end-2
-part-summed-end-2 c =
-    let n = c.before.before.before in
-    let r = n.before.before.before.before in
-    let a = r.before.before.before.before.before.before.args in
-    let few = read_few a.sheet.now a.numbers.now a.work.now a.text.now r.read.ensures n.n.given.0.0 n.n.given.1 in
+pub slice_bounds-summed-end-in-Read : goal.slice_bounds-summed-end-in-Read
+slice_bounds-summed-end-in-Read c =
+    let a = c.args in
+    let few = read_few a.sheet.now a.numbers.now a.work.now a.text.now c.read.ensures c.in-Read.n c.in-Read.is in
     omega (arith, few)
 
 pub summed-requires : goal.summed-requires
@@ -46,4 +40,4 @@ returns-in-Read c =
     let a = c.args in
     let z : c.in-Read.n - 0 ≡ c.in-Read.n = omega arith in
     let e = rw z at c.summed.ensures in
-    rw z (sheet_accepted a.sheet.now a.numbers.now a.work.now a.text.now c.read.ensures _ c.in-Read.is e.0 e.1)
+    rw z (sheet_accepted a.sheet.now a.numbers.now a.work.now a.text.now c.read.ensures _ c.in-Read.is e.left e.lines)

@@ -40,24 +40,24 @@ pub returns-in-More : goal.returns-in-More
 returns-in-More c =
     let a = c.args in
     let e = ap (λ (w : Walked). w.answer) (sym c.faithful.ensures) ∙ c.in-More.is in
-    (ap (λ (w : Walked). w.area) c.faithful.ensures, rw (lines_more a.list.now a.work.now _ _ e) (nothing a.text.now))
+    record { left = ap (λ (w : Walked). w.area) c.faithful.ensures; lines = rw (lines_more a.list.now a.work.now _ _ e) (nothing a.text.now) }
 
 pub returns-in-Refused : goal.returns-in-Refused
 returns-in-Refused c =
     let a = c.args in
     let e = ap (λ (w : Walked). w.answer) (sym c.faithful.ensures) ∙ c.in-Refused.is in
-    (ap (λ (w : Walked). w.area) c.faithful.ensures, rw (lines_refused a.list.now a.work.now _ _ e) c.refused.ensures)
+    record { left = ap (λ (w : Walked). w.area) c.faithful.ensures; lines = rw (lines_refused a.list.now a.work.now _ _ e) c.refused.ensures }
 
 pub returns-in-Refused-nearest : goal.returns-in-Refused-nearest
 returns-in-Refused-nearest c =
     let a = c.args in
     let e = ap (λ (w : Walked). w.answer) (sym c.faithful.ensures) ∙ c.in-Done.is in
     let g = sym c.nearest.ensures ∙ c.in-Refused-nearest.is in
-    (ap (λ (w : Walked). w.area) c.faithful.ensures, rw (lines_near_refused a.list.now a.work.now _ _ e _ _ g) c.refused-in-Refused-nearest.ensures)
+    record { left = ap (λ (w : Walked). w.area) c.faithful.ensures; lines = rw (lines_near_refused a.list.now a.work.now _ _ e _ _ g) c.refused-in-Refused-nearest.ensures }
 
 pub returns-in-Sum : goal.returns-in-Sum
 returns-in-Sum c =
     let a = c.args in
     let e = ap (λ (w : Walked). w.answer) (sym c.faithful.ensures) ∙ c.in-Done.is in
     let g = sym c.nearest.ensures ∙ c.in-Sum.is in
-    (ap (λ (w : Walked). w.area) c.faithful.ensures, rw (lines_three a.list.now a.work.now _ _ e _ g) c.three.ensures)
+    record { left = ap (λ (w : Walked). w.area) c.faithful.ensures; lines = rw (lines_three a.list.now a.work.now _ _ e _ g) c.three.ensures }
