@@ -1,0 +1,11 @@
+-- `byte_calls::nearest::within` meets its contract: the numbers are those that the bytes are. Assumes nothing.
+use mathlib.Core.Path.{◌∙◌}
+use borrow.Author.Rules.{rules}
+use lib.ListN.{length}
+use Rattle.calls.proofs.CallsLaws.{nearest_within}
+use Rattle.byte_calls.proofs.nearest.within.Goals as goal
+
+pub returns : goal.returns
+returns c =
+    let a = c.args in
+    c.answer.ensures ∙ nearest_within a.list.now _ a.out.now (length a.numbers.now) c.requires.0 c.unpack.ensures
