@@ -1,8 +1,8 @@
 // scripts/singles writes this file, from crates/nearest/src/bits.rt.
 // The bits of the single nearest to a register.
-ghost use Rattle.std.specs.Prelude.{◌≡◌, cond, ◌+◌, ◌*◌, ◌<◌, length};
+ghost use Rattle.std.specs.Prelude.{◌≡◌, ◌+◌, ◌*◌, ◌<◌, length, if◌then◌else◌, from_bits};
 ghost use Rattle.std.specs.Float.{binary32};
-ghost use Rattle.std.specs.Float.Ieee.{hid, ones, top, of_bits};
+ghost use Rattle.std.specs.Float.Ieee.{hid, ones, top};
 ghost use Rattle.words.specs.Words.{word_count, whole_of};
 ghost use Rattle.nearest.specs.Bits.{bits_of};
 
@@ -36,7 +36,7 @@ pub fn nearest_bits(register: &[u64], zero: bool) -> Bits
 // The single with these bits, which the callers know to be a finite one's.
 pub fn single(b: Bits) -> f32
     requires { b.magnitude < ones binary32 * hid binary32 }
-    ensures { result ≡ of_bits binary32 (cond b.negative (top binary32) 0 + b.magnitude) }
+    ensures { result ≡ from_bits binary32 ((if b.negative then top binary32 else 0) + b.magnitude) }
 {
     f32::from_bits(((b.negative as u32) << 31) + b.magnitude as u32)
 }

@@ -1,3 +1,2 @@
--- scripts/singles writes this file, from crates/rounds/proofs/Lib.antt.
--- Laws that one proof needs.
+-- scripts/singles writes this file, and those that it names.
 pub mod ClosableLaws

@@ -49,7 +49,6 @@ returns-in-Wrong c =
 pub returns-in-Refused : goal.returns-in-Refused
 returns-in-Refused c =
     let a = c.args in
-    let given = c.number-1.given in
     ap (λ (n : ℕ). outcome n a.out.now) c.refusal.ensures
-    ∙ sym (grade_answered a.list.now a.claim a.out.now c.if-out-ne1.false (Refused given.0.0 given.0.1.0)
-    (sym c.grade.ensures ∙ given.1))
+    ∙ sym (grade_answered a.list.now a.claim a.out.now c.if-out-ne1.false (Refused c.in-Refused.number c.in-Refused.place)
+    (sym c.grade.ensures ∙ c.in-Refused.is))

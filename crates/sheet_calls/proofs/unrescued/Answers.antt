@@ -22,6 +22,6 @@ returns-in-Refused c =
     let a = c.args in
     let e = sym (ap (λ (x : Rescuing). x.answer) c.rescue.ensures) ∙ c.in-Refused.is in
     let z = unrescued_is a.damaged.now [] [] refl e in
-    let s = nothing_before c.rescue.new.marks a.sheet.now c.sheet-1.given.0 in
-    let m = nothing_before c.rescue.new.1.1.0 a.marks.now c.marks-1.given.0 in
+    let s = nothing_before c.rescue.new.sheet a.sheet.now c.sheet-1.given.0 in
+    let m = nothing_before c.rescue.new.marks a.marks.now c.marks-1.given.0 in
     (cc, s, m)

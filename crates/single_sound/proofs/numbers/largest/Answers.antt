@@ -1,0 +1,64 @@
+-- scripts/singles writes this file, from crates/sound/proofs/numbers/largest/Answers.antt.
+-- `single_sound::numbers::largest` meets its contract: eps times sigma is a power of two, or less than a unit. Assumes nothing.
+use mathlib.Core.Path.{◌≡◌, refl, ap, ◌∙◌}
+use mathlib.Core.Bool.{not, ◌&&◌}
+use Prim.Native.Nat.{ℕ, ◌-◌, ◌<◌}
+use native.Mathlib.Omega.{arith}
+use lib.Dec.{lit<}
+use lib.Ieee.{binary32, of_bits}
+use Rattle.units.specs.Rounding.{ceil}
+use Rattle.ieee.specs.Units.{negative, magnitude}
+use Rattle.exponent.specs.Power.{powers, power_of}
+use Rattle.exponent.proofs.PowerLaws.{power_number, power_negative, power_magnitude}
+use Rattle.kinds.specs.Limits.{singles}
+use Rattle.sound.specs.Sound.{at_most}
+use Rattle.sound.specs.SigmaLaws.{Sigma, sigma_holds, sigma_exponent}
+use Rattle.judge.specs.FaultLaws.{most_singles}
+use Rattle.sound.proofs.LimitLaws.{limit_at, room_singles}
+use Rattle.sound.proofs.SoundLaws.{largest_above, largest_below}
+use Rattle.single_sound.proofs.numbers.largest.Goals as goal
+
+pub ceiling-k-requires : goal.ceiling-k-requires
+ceiling-k-requires c =
+    let sigma : Sigma singles c.args.n c.args.sigma = sigma_holds singles c.args.n c.args.sigma c.requires.1 in
+    (sigma.fini, sigma.positive)
+
+pub unsigned_at_most-requires : goal.unsigned_at_most-requires
+unsigned_at_most-requires c = let Z = limit_at binary32 0 (lit< tt) in (Z.number.fini, Z.positive)
+
+no_units : magnitude binary32 (of_bits binary32 0) ≡ 0
+unfolding magnitude of_bits
+no_units = refl
+
+pub returns-then-k-lt-EPS : goal.returns-then-k-lt-EPS
+returns-then-k-lt-EPS c =
+    let sigma : Sigma singles c.args.n c.args.sigma = sigma_holds singles c.args.n c.args.sigma c.requires.1 in
+    let k = ceil (magnitude binary32 c.args.sigma) in
+    c.unsigned_at_most.ensures
+    ∙ ap (λ (m : ℕ). at_most singles m c.args.x && not (negative c.args.x)) no_units
+    ∙ largest_below singles c.args.sigma c.args.x k sigma.power (omega (arith, c.ceiling-k.ensures, c.if-k-lt-EPS.true))
+
+pub power-requires : goal.power-requires
+power-requires c =
+    let sigma : Sigma singles c.args.n c.args.sigma = sigma_holds singles c.args.n c.args.sigma c.requires.1 in
+    let room : ceil (magnitude binary32 c.args.sigma) < powers binary32 = omega (arith, sigma_exponent singles 249 most_singles c.args.n sigma, room_singles c.args.n c.requires.0) in
+    omega (arith, c.ceiling-k.ensures, room)
+
+pub unsigned_at_most-requires-2 : goal.unsigned_at_most-requires-2
+unsigned_at_most-requires-2 c =
+    let sigma : Sigma singles c.args.n c.args.sigma = sigma_holds singles c.args.n c.args.sigma c.requires.1 in
+    let room : ceil (magnitude binary32 c.args.sigma) < powers binary32 = omega (arith, sigma_exponent singles 249 most_singles c.args.n sigma, room_singles c.args.n c.requires.0) in
+    let lower : ceil (magnitude binary32 c.args.sigma) - 24 < powers binary32 = omega (arith, room) in
+    let limit : c.power.result ≡ power_of binary32 (ceil (magnitude binary32 c.args.sigma) - 24) = c.power.ensures ∙ ap (λ (k : ℕ). power_of binary32 (k - 24)) c.ceiling-k.ensures in
+    rw limit ((power_number binary32 lower).fini, power_negative binary32 lower)
+
+pub returns : goal.returns
+returns c =
+    let sigma : Sigma singles c.args.n c.args.sigma = sigma_holds singles c.args.n c.args.sigma c.requires.1 in
+    let room : ceil (magnitude binary32 c.args.sigma) < powers binary32 = omega (arith, sigma_exponent singles 249 most_singles c.args.n sigma, room_singles c.args.n c.requires.0) in
+    let lower : ceil (magnitude binary32 c.args.sigma) - 24 < powers binary32 = omega (arith, room) in
+    let limit : c.power.result ≡ power_of binary32 (ceil (magnitude binary32 c.args.sigma) - 24) = c.power.ensures ∙ ap (λ (k : ℕ). power_of binary32 (k - 24)) c.ceiling-k.ensures in
+    let k = ceil (magnitude binary32 c.args.sigma) in
+    c.unsigned_at_most-2.ensures
+    ∙ ap (λ (m : ℕ). at_most singles m c.args.x && not (negative c.args.x)) (ap (magnitude binary32) limit ∙ power_magnitude binary32 lower)
+    ∙ largest_above singles c.args.sigma c.args.x k sigma.power (omega (arith, c.ceiling-k.ensures, c.if-k-lt-EPS.false))

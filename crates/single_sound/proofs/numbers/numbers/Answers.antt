@@ -1,0 +1,44 @@
+-- scripts/singles writes this file, from crates/sound/proofs/numbers/numbers/Answers.antt.
+-- `single_sound::numbers::numbers` meets its contract, a part for each comparison. Assumes nothing.
+use borrow.Author.Rules.{rules}
+use mathlib.Core.Path.{◌≡◌, sym, ◌∙◌}
+use mathlib.Core.Bool.{true}
+use native.Mathlib.Omega.{arith}
+use borrow.Author.Tests.{not-true, not-false}
+use lib.Dec.{lit<}
+use lib.Ieee.{binary32}
+use Rattle.kinds.specs.Limits.{singles}
+use Rattle.sound.specs.Sound.{sound_sigma}
+use Rattle.sound.proofs.SoundLaws.{numbers_none, numbers_many, numbers_sigma, numbers_are}
+use Rattle.sound.proofs.LimitLaws.{limit_at}
+use Rattle.single_kinds.specs.Wide.{wide_state}
+use Rattle.single_sound.proofs.numbers.numbers.Goals as goal
+
+pub returns-then-s-lt1 : goal.returns-then-s-lt1
+returns-then-s-lt1 c = sym (numbers_none singles (wide_state c.args.s) (omega arith))
+
+pub returns-then-s-gt-LENGTH : goal.returns-then-s-gt-LENGTH
+returns-then-s-gt-LENGTH c = sym (numbers_many singles (wide_state c.args.s) (omega arith))
+
+pub float_from_bits-limit : goal.float_from_bits-limit
+float_from_bits-limit c = (limit_at binary32 _ (lit< tt)).no_nan
+
+pub returns-then-not-sigma : goal.returns-then-not-sigma
+returns-then-not-sigma c = sym (numbers_sigma singles (wide_state c.args.s) (sym c.sigma.ensures ∙ c.if-not-sigma.true))
+
+pub at_most-requires : goal.at_most-requires
+at_most-requires c = ((limit_at binary32 _ (lit< tt)).number.fini, (limit_at binary32 _ (lit< tt)).positive)
+
+pub at_most-requires-2 : goal.at_most-requires-2
+at_most-requires-2 c = ((limit_at binary32 _ (lit< tt)).number.fini, (limit_at binary32 _ (lit< tt)).positive)
+
+pub largest-requires : goal.largest-requires
+largest-requires c =
+    let good : (let s = wide_state c.args.s in sound_sigma singles s.n s.sigma ≡ true) = sym c.sigma.ensures ∙ c.if-not-sigma.false in
+    (omega arith, good)
+
+pub returns : goal.returns
+returns c =
+    let good : (let s = wide_state c.args.s in sound_sigma singles s.n s.sigma ≡ true) = sym c.sigma.ensures ∙ c.if-not-sigma.false in
+    rw (c.at_most.ensures, c.at_most-2.ensures, c.largest.ensures)
+    (sym (numbers_are singles (wide_state c.args.s) (omega arith) (omega arith) good))

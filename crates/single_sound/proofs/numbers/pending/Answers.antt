@@ -1,0 +1,14 @@
+-- scripts/singles writes this file, from crates/sound/proofs/numbers/pending/Answers.antt.
+-- `single_sound::numbers::pending` meets its contract: a set below 2^B is at most the full set. Assumes nothing.
+use borrow.Author.Rules.{rules}
+use mathlib.Core.Path.{ap, ◌∙◌}
+use Rattle.lists.specs.Bitset.{full}
+use Rattle.kinds.specs.Limits.{singles, blocks_of}
+use Rattle.sound.proofs.SoundLaws.{pending_is}
+use Rattle.single_kinds.specs.Wide.{wide_state}
+use Rattle.single_sound.proofs.numbers.pending.Goals as goal
+
+pub returns : goal.returns
+returns c =
+    rw (c.full.ensures ∙ ap full (c.blocks-2.ensures ∙ ap (blocks_of singles) c.of.ensures))
+    (pending_is singles (wide_state c.args.s))

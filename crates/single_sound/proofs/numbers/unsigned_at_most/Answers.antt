@@ -1,0 +1,44 @@
+-- scripts/singles writes this file, from crates/sound/proofs/numbers/unsigned_at_most/Answers.antt.
+-- `single_sound::numbers::unsigned_at_most` meets its contract: of a number, the sign is the greatest digit of its pattern. Assumes nothing.
+use mathlib.Core.Path.{◌≡◌, sym, ap, subst, ◌∙◌}
+use mathlib.Core.Bool.{Bool, true, false, not, ◌&&◌}
+use borrow.Author.Rules.{rules}
+use lib.Dec.{T, ltb, leb, ltb→lt, lt→ltb, nleb→lt}
+use lib.Arith.{lt→nleb}
+use lib.Ieee.{binary32, top, to_bits}
+use Rattle.ieee.specs.Units.{Number, negative, magnitude}
+use Rattle.ieee.proofs.Finite.{finite_no_nan}
+use Rattle.ieee.proofs.Fractions.{same_test}
+use Rattle.ieee.proofs.Pattern.{bits_units}
+use Rattle.kinds.specs.Limits.{singles}
+use Rattle.sound.specs.Sound.{at_most}
+use Rattle.sound.proofs.SoundLaws.{at_most_holds}
+use Rattle.single_sound.proofs.numbers.unsigned_at_most.Goals as goal
+
+pub float_to_bits-result : goal.float_to_bits-result
+float_to_bits-result c =
+    let number : Number binary32 c.args.x = record {
+      fit = subst T (sym c.well_formed.0.1) tt;
+      fini = (at_most_holds singles (magnitude binary32 c.args.limit) c.args.x (sym c.at_most.ensures ∙ c.if-at_most.true)).fini;
+    } in
+    finite_no_nan _ number.fini
+
+pub returns-then-at_most : goal.returns-then-at_most
+returns-then-at_most c =
+    let decided : (b : Bool) → c.at_most.result ≡ b → let a = c.args in
+    (b && not (negative a.x)) ≡ (at_most singles (magnitude binary32 a.limit) a.x && not (negative a.x)) = λ b e. ap (λ (t : Bool). t && not (negative c.args.x)) (sym e ∙ c.at_most.ensures) in
+    let number : Number binary32 c.args.x = record {
+      fit = subst T (sym c.well_formed.0.1) tt;
+      fini = (at_most_holds singles (magnitude binary32 c.args.limit) c.args.x (sym c.at_most.ensures ∙ c.if-at_most.true)).fini;
+    } in
+    let p = to_bits binary32 c.args.x in
+    let t = top binary32 in
+    same_test (ltb p t) (not (leb t p)) (λ h. lt→nleb t p (ltb→lt p t h)) (λ h. lt→ltb p t (nleb→lt t p h))
+    ∙ ap not (sym (bits_units number).0)
+    ∙ decided true c.if-at_most.true
+
+pub returns : goal.returns
+returns c =
+    let decided : (b : Bool) → c.at_most.result ≡ b → let a = c.args in
+    (b && not (negative a.x)) ≡ (at_most singles (magnitude binary32 a.limit) a.x && not (negative a.x)) = λ b e. ap (λ (t : Bool). t && not (negative c.args.x)) (sym e ∙ c.at_most.ensures) in
+    decided false c.if-at_most.false

@@ -1,0 +1,31 @@
+-- scripts/singles writes this file, from crates/sum_calls/proofs/kewohiata_list_nearest/Answers.antt.
+-- `single_sum_calls::kewohiata_single_nearest` meets its contract: what is refused is one of the table's. Assumes nothing.
+use mathlib.Core.Path.{sym, ap, subst, ◌∙◌}
+use Prim.Native.Nat.{ℕ}
+use borrow.Author.Rules.{rules}
+use lib.Dec.{lit≤}
+use Rattle.kinds.specs.Limits.{singles}
+use Rattle.kinds.specs.Outcome.{outcome}
+use Rattle.kinds.specs.Heard.{nearest_heard}
+use Rattle.kinds.specs.declared.Nearest.{Nearest}
+use Rattle.arrays.specs.Arrays.{code_of, values_of}
+use Rattle.arrays.specs.Inner.{NearestRefusal}
+use Rattle.sum_calls.proofs.SumArraysLaws.{nearest_other, nearest_summed, nearest_refusal}
+use Rattle.single_sum_calls.proofs.kewohiata_single_nearest.Goals as goal
+
+pub returns-then-out-ne1 : goal.returns-then-out-ne1
+returns-then-out-ne1 c =
+    let a = c.args in
+    ap (λ (n : ℕ). outcome n a.out.now) c.too_many_or_4.ensures ∙ sym (nearest_other singles a.list.now a.out.now c.if-out-ne1.true)
+
+pub nearest-requires-2 : goal.nearest-requires-2
+nearest-requires-2 c =
+    let a = c.args in
+    (c.if-out-ne1.false, subst NearestRefusal (sym c.nearest.ensures) (nearest_refusal singles (lit≤ tt) a.list.now))
+
+pub returns : goal.returns
+returns c =
+    let a = c.args in
+    c.nearest-2.ensures
+    ∙ ap (λ (n : Nearest). outcome (code_of (nearest_heard singles n)) (values_of (nearest_heard singles n) a.out.now)) c.nearest.ensures
+    ∙ sym (nearest_summed singles a.list.now a.out.now c.if-out-ne1.false)
