@@ -1,10 +1,12 @@
 -- scripts/singles writes this file, from crates/arrays/proofs/doubles/pattern/Answers.antt.
 -- `single_arrays::singles::pattern` meets its contract: what differs from itself is the NaN. Assumes nothing.
-use mathlib.Core.Path.{◌≡◌}
+use mathlib.Core.Path.{◌≡◌, sym, subst}
+use native.Mathlib.Omega.{arith}
+use lib.Ieee.Bits.{to_bits-lt}
 use mathlib.Core.Bool.{false, not}
 use borrow.Author.Rules.{rules}
 use lib.Dec.{T}
-use lib.Ieee.{Float, nan, inf, fin, ne, is_nan, to_bits}
+use lib.Ieee.{Float, binary32, nan, inf, fin, ne, is_nan, to_bits}
 use lib.Ieee.Compare.{differs_from_itself}
 use Rattle.lists.proofs.Apart.{apart}
 use Rattle.single_arrays.proofs.singles.pattern.Goals as goal
@@ -21,3 +23,6 @@ returns-then-x c = rw (differs_from_itself c.args.x (rw c.if-x.true tt))
 
 pub float_to_bits-result : goal.float_to_bits-result
 float_to_bits-result c = no_nan c.args.x c.if-x.false
+
+pub overflow_cast-result : goal.overflow_cast-result
+overflow_cast-result c = omega (arith, to_bits-lt binary32 c.args.x (subst T (sym c.well_formed.0.1) tt))
