@@ -1,20 +1,22 @@
 // Words, numbers, doubles and refusals, written to standard output.
-use libc::STDOUT_FILENO;
+
+// What the system calls standard output.
+const OUTPUT: i32 = 1;
 
 pub fn put(bytes: &[u8]) {
-    io::write_all(STDOUT_FILENO, bytes);
+    io::write_all(OUTPUT, bytes);
 }
 
 // A word and a number in decimal.
 pub fn named(name: &[u8], n: u64) {
     put(name);
-    io::print_decimal(STDOUT_FILENO, n);
+    io::print_decimal(OUTPUT, n);
 }
 
 // A word and a pattern in 16 hex digits.
 pub fn pattern(name: &[u8], p: u64) {
     put(name);
-    io::print_hex(STDOUT_FILENO, p, 16);
+    io::print_hex(OUTPUT, p, 16);
 }
 
 // A double's pattern. The bits of a NaN can't be read: each is shown as this one.

@@ -1,0 +1,9 @@
+-- `trial::lists::rungs` meets its contract: stores keep the length. Assumes nothing.
+use Rattle.std.proofs.Common.{◌≡◌, ◌-◌, length, rules}
+use Rattle.trial.proofs.lists.rungs.Given as goal
+
+abbrev pub invariant-loop-i : goal.invariant-loop-i
+invariant-loop-i l = length l.list ≡ length l.initial.list
+
+abbrev pub decreases-loop-i : goal.decreases-loop-i
+decreases-loop-i l = length l.initial.list - l.i
