@@ -168,12 +168,10 @@ pub faithful_when : (list out : List ℕ) → ((faithful_call list out).answer �
 faithful_when list out = (
   right_when faithful_heard faithful_hears list out,
   λ A. ap (λ (x : Called). x.answer) (faithful_call_lem list out A.bytes A.whole A.sixteen A.allowed).is,
-
 )
 
 pub nearest_when : (list out : List ℕ) → ((nearest_call list out).answer ≡ 0) ↔ RightBytes list out
 nearest_when list out = (
   right_when sum_heard nearest_hears list out,
   λ A. ap (λ (x : Called). x.answer) (nearest_call_lem list out A.bytes A.whole A.sixteen A.allowed).is,
-
 )

@@ -52,7 +52,6 @@ computed = (
   undivided (map (of_bits binary64) one) refl,
   by_blocks 7 (map (of_bits binary64) other) (0 ∷ []) refl,
   undivided (map (of_bits binary64) cancelled) refl,
-
 )
 
 -- rule S8: not equal

@@ -38,7 +38,6 @@ roomy_doubles = record {
         le_trans (rw most_doubles at (sum_at_most doubles ps (list_allowed G)))
         (le_trans (mul-le-mul_right (2 ^ 2074) (list_passed G).few) (lit≤ tt));
   };
-
 }
 
 pub is_grade : {f : Format} {S : ℤ} {x : Float} {g : Graded} → Earns f S x g → IsGrade g

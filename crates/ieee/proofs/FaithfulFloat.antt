@@ -36,7 +36,6 @@ faithful_float {f} {S} {x} X F = record {
   exact = λ y Y e.
       let R = rep_same (same (whole f y) (difference S) (value_int f y) (sym (int_difference S)) e) (number_rep Y) in
       value_int f x ∙ int_same (whole f x) (difference S) (faithful_exact F R) ∙ int_difference S;
-
 }
 
 pub nearest_faithful : (f : Format) (z : Bool) (S : ℤ) → nat_abs S < limit f → FaithfulTo f S (nearest_float f z S)

@@ -78,7 +78,6 @@ sum_scale f s t a b c k C K = rw (
   reduced s (a * k + b * k) (a + b) (omega arith),
   reduced t (b * k - a * k) (b - a) (omega (arith, mul-sub k b a)),
   reduced (s && ltb b a) (a * k - b * k) (a - b) (omega (arith, mul-sub k a b)),
-
 )
   where
     reduced : (s : Bool) (n w : ℕ) → n ≡ w * k → round f s n (c * k) ≡ round f s w c
@@ -111,16 +110,13 @@ sum_nearest f true a true b = nearest_at f true (W.neg (W.nat a) ⊕ W.neg (W.na
 sum_nearest f false a true b = elim (le_or_lt b a) [
   | inl h ↦ rw (no h) (nearest_at f false (W.nat a ⊕ W.neg (W.nat b)) false (a - b) (omega arith) (λ e. refl))
   | inr h ↦ rw (yes h) (nearest_at f false (W.nat a ⊕ W.neg (W.nat b)) true (b - a) (omega arith) (λ e. absurd (omega arith)))
-
 ]
-
 sum_nearest f true a false b = elim (le_or_lt b a) [
   | inr h ↦ rw (yes h) (nearest_at f false (W.neg (W.nat a) ⊕ W.nat b) false (b - a) (omega arith) (λ e. refl))
   | inl h ↦ elim (le_or_lt a b) [
     | inl g ↦ rw (no h, no g) (nearest_at f false (W.neg (W.nat a) ⊕ W.nat b) false (a - b) (omega arith) (λ e. refl))
     | inr g ↦ rw (no h, yes g) (nearest_at f false (W.neg (W.nat a) ⊕ W.nat b) true (a - b) (omega arith) (λ e. absurd (omega arith)))
   ]
-
 ]
 
 pub add_nearest : (f : Format) (x y : Float) → Number f x → Number f y → add f x y ≡ nearest_float f (negative x && negative y) (value f x +ℤ value f y)

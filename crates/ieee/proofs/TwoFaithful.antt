@@ -23,7 +23,6 @@ order a b = elim (le_or_lt ((difference b).up + (difference a).dn) ((difference 
     | inl m ↦ inr (inl (sym (int_difference a) ∙ int_only (difference a) b (omega arith)))
     | inr m ↦ inr (inr (lifted b a m))
   ]
-
 ]
   where
     lifted : (a b : ℤ) → (difference a).up + (difference b).dn < (difference b).up + (difference a).dn → a <ℤ b
@@ -59,7 +58,6 @@ faithful_close {f} {S} {x} F = record {
   close = λ h.
       let r = faithful_relative (prec f) (prec_pos f) F (λ e. omega (arith, mag_difference S)) in
       rw (distance, ← (mag_difference S)) (omega (arith, rw (← (pow_pred (prec_pos f))) at r));
-
 }
   where
     distance : nat_abs (value f x -ℤ S) ≡ mag (whole f x ⊖ difference S)

@@ -159,7 +159,6 @@ add_minus f x y u v = (
       let F = add_finite f x y (rw e (minus_number f).fini) in
       minus_both (record { fit = u; fini = F.0 }) (record { fit = v; fini = F.1 }) e,
   λ h. rw (h.0, h.1) (minus_twice f),
-
 )
 
 pub add_cancels : (f : Format) (x y : Float) → Number f x → Number f y → value f x +ℤ value f y ≡ pos 0

@@ -29,7 +29,6 @@ three_of v k h w = record {
   middle = omega arith;
   high = omega arith;
   units = ap (λ (n : ℕ). n * 2 ^ (lane_bits * k)) whole;
-
 }
   where
     whole : v % 2 ^ lane_bits + (v / 2 ^ lane_bits % 2 ^ lane_bits + v / 2 ^ lane_bits / 2 ^ lane_bits * 2 ^ lane_bits) * 2 ^ lane_bits ≡ v

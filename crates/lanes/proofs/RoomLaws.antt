@@ -25,7 +25,6 @@ each_limit calls (z ∷ zs) = (
   λ e. let b = both (leb (nat_abs z) (lane_limit calls)) (every (λ z. leb (nat_abs z) (lane_limit calls)) zs) e in
       (leb-true (nat_abs z) (lane_limit calls) b.0, (each_limit calls zs).0 b.1),
   λ h. rw (le-leb (nat_abs z) (lane_limit calls) h.0, (each_limit calls zs).1 h.1),
-
 )
 
 pub roomy_when : (calls : ℕ) (zs : List ℤ) → (roomy calls zs ≡ true) ↔ Roomy calls zs
@@ -34,7 +33,6 @@ roomy_when calls zs = (
   λ e. let b = both (leb calls most_calls) (every (λ z. leb (nat_abs z) (lane_limit calls)) zs) e in
       record { few = leb-true calls most_calls b.0; lanes = (each_limit calls zs).0 b.1 },
   λ R. rw (le-leb calls most_calls R.few, (each_limit calls zs).1 R.lanes),
-
 )
 
 -- lanes with room for so many calls have it for the most
@@ -42,7 +40,6 @@ pub roomy_most : {calls : ℕ} {zs : List ℤ} → Roomy calls zs → Roomy most
 roomy_most {calls} {zs} R = record {
   few = omega arith;
   lanes = each_weaker (WithinLimit calls) (WithinLimit most_calls) (λ z h. omega (arith, R.few)) zs R.lanes;
-
 }
 
 -- ---- the carry is at most the calls and 2

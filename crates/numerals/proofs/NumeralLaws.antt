@@ -58,7 +58,6 @@ decimal_in_length (suc k) (suc r) n h = elim (le_or_lt 10 n) [
   | inl g ↦
       let below : n / 10 < 10 ^ suc r = (div-lt_iff_lt-mul {k = 10} (omega arith)).1 (rw (pow-suc 10 (suc r)) at h) in
       rw (le-ltb n 10 g, length-append) (omega (arith, decimal_in_length k r (n / 10) below))
-
 ]
 
 -- so many digits suffice

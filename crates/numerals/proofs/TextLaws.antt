@@ -28,7 +28,6 @@ pub placed_behind : {xs ys area after last : List ℕ} {place r s : ℕ} → pla
 placed_behind {xs} {ys} {area} {place = place} h A B = record {
   end = B.end ∙ ap (λ (r : ℕ). r + length ys) A.end ∙ all xs ys area place h;
   text = B.text ∙ (λ i. paste (A.text i) (A.end i) ys (length ys)) ∙ paste_paste xs ys area place h;
-
 }
 
 -- no piece at all

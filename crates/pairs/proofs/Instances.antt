@@ -31,7 +31,6 @@ roomy_doubles = record {
   room = factors_64;
   small = rw most_doubles (lit≤ tt);
   twice = lit≤ tt;
-
 }
 
 pub pair_64 : (c : Pair) → pair_fault double_pairs c ≡ 0 → TwoNumbers doubles c (to_bits binary64 (product_of binary64 c)) (to_bits binary64 (error_of binary64 c))

@@ -43,7 +43,6 @@ pairs_back P ps qs e F = record {
   none = λ i h.
       sym (ap (pair_fault P) (zip_at ps qs e 0 0 i h))
       ∙ each_at (λ (c : Pair). pair_fault P c ≡ 0) (zip ps qs) i (0, 0) F (rw (zip_length ps qs e) h);
-
 }
 
 module _ (P : Pairing) (N : EachPair P) where

@@ -56,7 +56,6 @@ fault_mod p q m = elim (le_or_lt (p % top doubles.format) doubles.magnitude) [
     | inl g ↦ pattern_2 doubles proper_doubles q (rw m g) ∙ sym (pattern_2 doubles proper_doubles p g)
     | inr g ↦ pattern_3 doubles proper_doubles q (rw m g) (rw m l) ∙ sym (pattern_3 doubles proper_doubles p g l)
   ]
-
 ]
 
 module _ (p : ℕ) (h : p < 2 ^ 64) where

@@ -111,7 +111,6 @@ pub merge_same : (us vs ws xs out : List ℕ) → (ThreeRegisters us vs out → 
 merge_same us vs ws xs out there back e = elim (three? us vs out) [
   | inl T ↦ merged_fitted us vs out T ∙ ap (fitted out) e ∙ sym (merged_fitted ws xs out (there T))
   | inr N ↦ merged_long us vs out N ∙ sym (merged_long ws xs out (λ T. N (back T)))
-
 ]
 
 -- ---- rule G8: whichever comes first

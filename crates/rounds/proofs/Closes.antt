@@ -41,7 +41,6 @@ scaled_positive f j k c {sigma} fine S e h l = record {
   number = record { fit = mul-fits f (power_of f i) sigma; fini = is_finite f (scaled f j sigma) false (2 ^ c) product };
   sign = (is_units f (scaled f j sigma) false (2 ^ c) product).0;
   units = (is_units f (scaled f j sigma) false (2 ^ c) product).1;
-
 }
   where
     i : ℕ
@@ -86,7 +85,6 @@ pub normal_above : (f : Format) (k : ℕ) {sigma : Float} → Positive f sigma (
 normal_above f k S u = elim (le_or_lt (prec f) k) [
   | inl l ↦ l
   | inr l ↦ absurd (omega (arith, above f S (least_normal_lem f) u, pow_mono {i = k} {j = prec f - 1} (omega arith)))
-
 ]
 
 module _ {W : Width} {F : Fitting W} {e : ℕ} {s : State} {xs : List Float} (B : Begun W F e s xs) where

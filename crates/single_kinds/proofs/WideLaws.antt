@@ -20,7 +20,6 @@ back s = record {
   rounds = s.rounds;
   ensemble = s.ensemble;
   largest = s.largest;
-
 }
 
 pub state_same : (s t : State) → wide_state s ≡ wide_state t → s ≡ t

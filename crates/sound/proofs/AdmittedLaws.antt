@@ -45,7 +45,6 @@ admitted W top is room s j b xs fit h = record {
   below = (pending_holds W s S.1).1;
   inside = O.inside;
   pending = O.pending;
-
 }
   where
     O : Open W s j b xs

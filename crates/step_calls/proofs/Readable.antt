@@ -20,7 +20,6 @@ finite_number : (f : Format) (p : ℕ) → T (finite (float_at f p)) → number 
 finite_number f p t = elim (le_or_lt p (2 * top f - 1)) [
   | inl l ↦ rw (le-leb p (2 * top f - 1) l) (below (rw (le-leb p (2 * top f - 1) l) at t))
   | inr l ↦ absurd (rw (lt-leb p (2 * top f - 1) l) at t)
-
 ]
   where
     below : T (finite (of_bits f p)) → leb (p % top f) (ones f * hid f) ≡ true

@@ -37,7 +37,6 @@ pub whole_zero : (ws : List ℕ) → eqb (number word_bits ws) 0 ≡ eqb (nat_ab
 whole_zero ws = elim (le_or_lt (2 ^ (register_bits - 1)) u) [
   | inr l ↦ rw (signed_low register_bits l)
   | inl h ↦ some h ∙ sym (ap (λ (z : ℤ). eqb (nat_abs z) 0) (signed_high register_bits h) ∙ eqb-suc-zero (2 ^ register_bits - suc u))
-
 ]
   where
     u : ℕ

@@ -31,7 +31,6 @@ pub fitting_when : (W : Width) (area : List Float) → (fitting W area ≡ true)
 fitting_when W area = (
   λ e. let h = both (leb 1 (length area)) (leb (length area) W.parts) e in (leb-true 1 (length area) h.0, leb-true (length area) W.parts h.1),
   λ h. rw (le-leb 1 (length area) h.0, le-leb (length area) W.parts h.1),
-
 )
 
 pub fitting_doubles : (area : List Float) → (fitting doubles area ≡ true) ↔ ((1 ≤ length area) × (length area ≤ 8))
@@ -49,7 +48,6 @@ add_up_when f xs S = (
       let d = no_distance (S -ℤ E) (eqb-true (nat_abs (S -ℤ E)) 0 e) in
       sym (sym (-ℤ-+ℤ_cancel S E) ∙ ap (λ (z : ℤ). z +ℤ E) d ∙ +ℤ_idl E),
   λ e. rw e (eq-eqb (nat_abs (S -ℤ S)) 0 (ap nat_abs (sym (ap (λ (z : ℤ). z -ℤ S) (+ℤ_idl S)) ∙ +ℤ-neg_ℤ_cancel (pos 0) S))),
-
 )
 
 module _ (f : Format) where

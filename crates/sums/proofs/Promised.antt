@@ -33,7 +33,6 @@ parts_nearest f zero z S l = tt
 parts_nearest f (suc k) z S l = (
   nearest_nearest f z S l,
   parts_nearest f k false (S -ℤ value f (nearest_float f z S)) (lt_of_le_of_lt (left_smaller f z S l) l),
-
 )
 
 -- which verdict an answer comes from

@@ -109,5 +109,4 @@ sums_reordered π G = record {
   nearest = nearest_reordered π (list_allowed G);
   parts = parts_reordered π (list_allowed G);
   register = register_reordered π (lt_of_le_of_lt (list_passed G).few (lit< tt)) (list_allowed G);
-
 }

@@ -55,7 +55,6 @@ raised_most xs k d c h l j = elim (le_or_lt j k) [
     | inr b ↦ rw (get_or-set_other xs k j (get_or xs k 0 + d) 0 (λ e. omega arith)) (omega arith)
   ]
   | inr a ↦ rw (get_or-set_other xs k j (get_or xs k 0 + d) 0 (λ e. omega arith)) (omega arith)
-
 ]
 
 abbrev size : ℕ → ℕ

@@ -13,7 +13,6 @@ pub gap : {p : ℕ} {f h : Whole} (d : ℕ) → Representable p f → Representa
 gap {p} {f} {h} d F H l u = elim (le_or_lt F.exp H.exp) [
   | inl m ↦ omega (arith, F.small, mul-le-mul_left (2 ^ p) (step F.exp (multiple_sub F.on (multiple_finer m H.on))))
   | inr m ↦ omega (arith, H.small, mul-le-mul_left (2 ^ p) (step H.exp (multiple_sub (multiple_finer (le_of_lt m) F.on) H.on)))
-
 ]
   where
     step : (j : ℕ) → Multiple j (f ⊖ h) → 2 ^ j ≤ d
@@ -25,7 +24,6 @@ shared : {p : ℕ} {a b : Whole} (z : Whole) → Representable p a → Represent
 shared z A B on x y = elim (le_or_lt A.exp B.exp) [
   | inl l ↦ record { exp = A.exp; on = on A.exp A.on (multiple_finer l B.on); small = omega (arith, A.small) }
   | inr l ↦ record { exp = B.exp; on = on B.exp (multiple_finer (le_of_lt l) A.on) B.on; small = omega (arith, B.small) }
-
 ]
 
 -- Sterbenz: a difference that is no larger than either number is exact

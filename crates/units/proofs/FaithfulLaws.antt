@@ -16,7 +16,6 @@ faithful_same {p} {f} s t e F = record {
   rep = F.rep;
   below = λ h H x. (let y = F.below h H x in omega arith);
   above = λ h H x. (let y = F.above h H x in omega arith);
-
 }
 
 pub faithful_neg : {p : ℕ} {f s : Whole} → Faithful p f s → Faithful p (neg f) (neg s)
@@ -24,7 +23,6 @@ faithful_neg F = record {
   rep = rep_neg F.rep;
   below = λ h H x. (let y = F.above (neg h) (rep_neg H) (omega arith) in omega arith);
   above = λ h H x. (let y = F.below (neg h) (rep_neg H) (omega arith) in omega arith);
-
 }
 
 -- where s has p bits, f is s
@@ -32,7 +30,6 @@ pub faithful_exact : {p : ℕ} {f s : Whole} → Faithful p f s → Representabl
 faithful_exact {p} {f} {s} F S = elim (le_or_lt (f.up + s.dn) (s.up + f.dn)) [
   | inl l ↦ elim (le_or_lt (s.up + f.dn) (f.up + s.dn)) [ inl m ↦ omega arith | inr m ↦ let x = F.above s S (omega arith) in omega arith ]
   | inr l ↦ let x = F.below s S (omega arith) in omega arith
-
 ]
 
 pub zero_faithful : (p : ℕ) → Faithful p (nat 0) (nat 0)
@@ -46,7 +43,6 @@ pub equal_or_neighbours : {p : ℕ} {f g s : Whole} → Faithful p f s → Faith
 equal_or_neighbours {p} {f} {g} F G = elim (le_or_lt (g.up + f.dn) (f.up + g.dn)) [
   | inl l ↦ elim (le_or_lt (f.up + g.dn) (g.up + f.dn)) [ inl m ↦ inl (omega arith) | inr m ↦ inr (inr (faithful_neighbours G F (omega arith))) ]
   | inr l ↦ inr (inl (faithful_neighbours F G (omega arith)))
-
 ]
 
 -- ---- zero, sign and relative distance
@@ -79,7 +75,6 @@ pub zero_only : {p : ℕ} {f s : Whole} → Faithful p f s → f ≈ nat 0 → s
 zero_only {p} {f} {s} F z = elim (le_or_lt s.up s.dn) [
   | inl l ↦ elim (le_or_lt s.dn s.up) [ inl m ↦ omega arith | inr m ↦ absurd (omega (arith, faithful_positive (faithful_neg F) (omega arith))) ]
   | inr l ↦ absurd (omega (arith, faithful_positive F (omega arith)))
-
 ]
 
 module _ (p : ℕ) (P : 0 < p) where

@@ -36,5 +36,4 @@ pub multiple_gap : {j : ℕ} {a : Whole} → Multiple j a → nat 0 ≺ a → na
 multiple_gap {j} {a} A h = elim (le_or_lt A.count.up A.count.dn) [
   | inl l ↦ omega (arith, mul-le-mul_left (2 ^ j) l)
   | inr l ↦ omega (arith, mul-le-mul_left (2 ^ j) l)
-
 ]

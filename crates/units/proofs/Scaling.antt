@@ -50,7 +50,6 @@ size_scale : (n j : ℕ) → 0 < n → size (n * 2 ^ j) ≡ size n + j
 size_scale n j N = le_antisymm (size-le (n * 2 ^ j) (size n + j) (shl_lt (size n) j (size-lt n))) (elim (le_or_lt (size n + j) (size (n * 2 ^ j))) [
   | inl l ↦ l
   | inr l ↦ absurd (omega (arith, size-lt (n * 2 ^ j), pow_mono (most l), pow-add 2 (size n - 1) j, mul-le-mul_right (2 ^ j) top))
-
 ])
   where
     some : 0 < size n

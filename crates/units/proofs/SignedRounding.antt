@@ -41,7 +41,6 @@ short_rep {p} F = record {
   exp = F.exp;
   on = record { count = nat F.sig; is = omega (arith, F.is) };
   small = omega (arith, F.is, mul-le-mul_right (2 ^ F.exp) F.small);
-
 }
 
 -- ---- the rounding

@@ -46,7 +46,6 @@ pub all_weighed : (W : Width) (ps : List ℕ) → length ps ≤ bad_weight W ps 
 all_weighed W ps h = elim (found W ps) [
   | inl G ↦ G
   | inr B ↦ absurd (omega (arith, bad_at W ps B.place B.inside B.before B.none, B.inside))
-
 ]
 
 -- ---- somebody else has weight exactly where the others' total isn't zero

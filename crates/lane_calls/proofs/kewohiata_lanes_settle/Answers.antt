@@ -10,11 +10,10 @@ pub returns-then-out-ne1 : goal.returns-then-out-ne1
 returns-then-out-ne1 c = sym (settle_other _ _ _ _ c.if-out-ne1.true)
 
 pub answer-requires : goal.answer-requires
-answer-requires c =
-    (
-      c.if-out-ne1.false,
-      subst LaidRefusal (sym (ap (λ (s : Settling). s.answer) c.settle.ensures)) (settle_laid _ _ _),
-    )
+answer-requires c = (
+  c.if-out-ne1.false,
+  subst LaidRefusal (sym (ap (λ (s : Settling). s.answer) c.settle.ensures)) (settle_laid _ _ _),
+)
 
 pub returns : goal.returns
 returns c =

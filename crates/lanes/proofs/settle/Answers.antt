@@ -52,8 +52,7 @@ settle-requires c =
     let R = (roomy_when c.args.count zs).0 has_room in
     let small : mag (top_lane zs) < 2 ^ 63 = omega (arith, mag_abs (top_lane zs), lane_carry_bound R 65 (omega (arith, l))) in
     let same : to_z w64 (of_z w64 c.top.result) ≡ top_lane zs = rw c.top.ensures (back (top_lane zs) small) in
-    c.fits.ensures ∙ ap (inside lane_bits) same ∙ sym (lanes_inside zs l) in
-    (
+    c.fits.ensures ∙ ap (inside lane_bits) same ∙ sym (lanes_inside zs l) in (
       record { first = c.if-lanes-ne-LENGTH.false; second = c.if-words-ne-WORDS.false },
       roomy_most ((roomy_when c.args.count c.args.lanes.now).0 has_room),
       sym looked ∙ c.if-not-fits.false,

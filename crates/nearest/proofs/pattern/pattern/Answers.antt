@@ -20,7 +20,7 @@ overflow_add-result-2 c =
     let g = c.args.h in
     let d = c.excess-d.result in
     let most : c.quotient.result ≤ 2 ^ 53 =
-        rw c.quotient.ensures (le_trans (over_most g.rest g.digits (2 ^ d)) ((div-lt_iff_lt-mul (pow_pos d)).1 (rw c.excess-d.ensures (dropped_lt 53 c.args.h.digits)))) in
+    rw c.quotient.ensures (le_trans (over_most g.rest g.digits (2 ^ d)) ((div-lt_iff_lt-mul (pow_pos d)).1 (rw c.excess-d.ensures (dropped_lt 53 c.args.h.digits)))) in
     omega (arith, few, most)
 
 pub returns : goal.returns

@@ -14,8 +14,7 @@ pub returns-then-tau1 : goal.returns-then-tau1
 returns-then-tau1 c = sym (ends_not doubles c.args.s c.if-tau1.true)
 
 pub enough-requires : goal.enough-requires
-enough-requires c =
-    (
+enough-requires c = (
   rw c.exponent.ensures (exponent_doubles c.of.result.n (search rules)),
   closable_power c.requires,
 )
