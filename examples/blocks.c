@@ -2,7 +2,7 @@
  * sum and the rounds are those of the undivided call. After each step the screen shows how much is still unsummed. Between two calls the work area and ten
  * numbers are all there is to keep; what a step says where the two were mixed up is shown on the way.
  *
- *     scripts/example blocks        builds and runs it with the Rattle kit alone, on either machine
+ *     scripts/example blocks        builds and runs it with the Rattle kit alone
  */
 #include "kewohiata.h"
 #include <stdio.h>

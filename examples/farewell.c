@@ -1,7 +1,7 @@
 /* A farewell: the weight of a clock that leaves is handed on to those that stay, and the weights make exactly 1 again. In doubles, each weight divided by
  * what stays, they miss it.
  *
- *     scripts/example farewell        builds and runs it with the Rattle kit alone, on either machine
+ *     scripts/example farewell        builds and runs it with the Rattle kit alone
  */
 #include "kewohiata.h"
 #include <stdio.h>

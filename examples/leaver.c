@@ -1,7 +1,7 @@
 /* A clock that leaves: the register after it is, byte for byte, the register without it; and the same readings as a list, summed both ways.
  *
- *     scripts/example                                                                 builds and runs it with the Rattle kit alone, on either machine
- *     gcc -Iinclude examples/leaver.c target/staticlib/libkewohiata.a -o leaver       with a C compiler of x86-64, after scripts/example
+ *     scripts/example                                                                 builds and runs it with the Rattle kit alone
+ *     gcc -Iinclude examples/leaver.c crates/kewohiata/out/libkewohiata.a -o leaver       with a C compiler of x86-64, after scripts/example
  */
 #include "kewohiata.h"
 #include <stdio.h>

@@ -1,6 +1,6 @@
 /* More numbers than a list may have: a register takes them one by one, as many as there are, and is rounded once at the end.
  *
- *     scripts/example many        builds and runs it with the Rattle kit alone, on either machine
+ *     scripts/example many        builds and runs it with the Rattle kit alone
  */
 #include "kewohiata.h"
 #include <stdio.h>

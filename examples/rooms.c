@@ -1,7 +1,7 @@
 /* Two rooms of one lab, each with a register of its own. A failing clock joins in the first room, is carried over, and leaves in the second: the merged total
  * is that of the clocks that stayed, to the bit. The rooms' two sums in doubles, added, are not.
  *
- *     scripts/example rooms        builds and runs it with the Rattle kit alone, on either machine
+ *     scripts/example rooms        builds and runs it with the Rattle kit alone
  */
 #include "kewohiata.h"
 #include <stdio.h>

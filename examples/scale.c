@@ -2,7 +2,7 @@
  * taken with their exact errors, so that the scale is the exact sum, rounded once; in doubles the other clocks' digits are rounded away while the third is in,
  * and taking it out doesn't bring them back.
  *
- *     scripts/example scale        builds and runs it with the Rattle kit alone, on either machine
+ *     scripts/example scale        builds and runs it with the Rattle kit alone
  */
 #include "kewohiata.h"
 #include <stdio.h>

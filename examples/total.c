@@ -1,7 +1,7 @@
 /* A total that clocks join and leave, kept in a register and read back: after the failing clock has left, to the bit what it would be without it. And a
  * weight that changes: what leaves is the product that was added, not the product of today.
  *
- *     scripts/example total        builds and runs it with the Rattle kit alone, on either machine
+ *     scripts/example total        builds and runs it with the Rattle kit alone
  */
 #include "kewohiata.h"
 #include <stdio.h>

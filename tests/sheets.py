@@ -279,7 +279,11 @@ def make():
 def main():
     if command.asked(__doc__, ["--make"]):
         return make()
-    built.need(built.SHEET_PROGRAM)
+    try:
+        built.need(built.SHEET_PROGRAM)
+    except command.Trouble as trouble:
+        print(f"sheets: {trouble}")
+        return 1
     names = {name for name, _, _ in SHEETS}
     same("the folder", set(os.listdir(FOLDER)), {name + suffix for name in names for suffix in (".sheet", ".out")})
     for entry in SHEETS:
