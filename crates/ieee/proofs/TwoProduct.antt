@@ -1,6 +1,6 @@
 -- The error-free product: of two factors that are far enough from underflow and overflow, Algorithm 1.1 gives the rounded product and its error, both numbers
 -- of the format, whose sum is the exact product; the error is no larger than 2 ^ -prec times the product. Assumes nothing.
-use Rattle.std.specs.Prelude.{◌≡◌, ℕ, suc, ◌+◌, ◌-◌, ◌*◌, ◌^◌, ◌≤◌, ℤ, pos, ◌+ℤ◌, ◌*ℤ◌, Float}
+use Rattle.std.specs.Prelude.{◌≡◌, ℕ, suc, ◌+◌, ◌-◌, ◌*◌, ◌^◌, ◌≤◌, pos, ◌+ℤ◌, ◌*ℤ◌, Float}
 use Rattle.std.proofs.Math.Path.{sym}
 use Rattle.std.proofs.Common.{ap, ◌∙◌, le_trans, mul-le-mul_right, mul_comm, arith, pow-add, pow_pos, pow_mono}
 use Rattle.std.proofs.Math.Nat.{le_of_mul-le-mul_left}

@@ -1,9 +1,9 @@
 -- The error-free product: Algorithms 1.1 and 1.2 of document 000 by the format's own operations, and what they stand for: a product is its rounding and an
 -- error, both numbers of the format. Definitions only. Which factors are far enough from underflow and overflow is said by `Room`.
-use Rattle.std.specs.Prelude.{◌≡◌, ℕ, ◌+◌, ◌*◌, ◌^◌, ◌≤◌, ℤ, pos, ◌+ℤ◌, ◌*ℤ◌, Float}
+use Rattle.std.specs.Prelude.{◌≡◌, ℕ, ◌+◌, ◌*◌, ◌^◌, ◌≤◌, pos, ◌+ℤ◌, ◌*ℤ◌, Float}
 use Rattle.std.specs.Float.{Format, binary32, binary64}
 use Rattle.std.specs.Float.Ieee.{prec, emax, low, of_bits, sub, mul}
-use Rattle.ieee.specs.Units.{Number, magnitude, value}
+use Rattle.ieee.specs.Units.{Number, value}
 
 -- ---- Algorithm 1.2, Split
 

@@ -3,7 +3,6 @@ use Rattle.std.specs.Prelude.{ℕ, Float}
 use Rattle.std.specs.Float.{Format}
 use Rattle.std.specs.Float.Ieee.{prec}
 use Rattle.units.specs.Rounding.{dropped}
-use Rattle.units.proofs.Split as Units
 use Rattle.ieee.specs.Units.{magnitude}
 
 -- ---- the last place of a number, and that a factor has all its digits

@@ -6,10 +6,6 @@ use Rattle.kinds.specs.declared.Step.{Step}
 use Rattle.kinds.specs.declared.Step.TheVariants.{More, Done, Refused}
 use Rattle.kinds.specs.declared.Nearest.{Nearest}
 use Rattle.kinds.specs.declared.Nearest.TheVariants as nearests
-use Rattle.kinds.specs.declared.Parted.TheVariants as parteds
-use Rattle.kinds.specs.declared.Entry.TheVariants as entries
-use Rattle.kinds.specs.declared.Sheet.TheVariants as sheets
-use Rattle.kinds.specs.declared.Verdict.TheVariants as verdicts
 
 -- ---- the answers with floats
 

@@ -1,7 +1,7 @@
 -- A test of every member of a list, and what a look at every place that joins the tests without leaving its loop passes and ends with. Assumes nothing.
 use Rattle.std.specs.Prelude.{◌≡◌, refl, Bool, true, false, not, ◌&&◌, ◌||◌, List, [], ◌∷◌, ℕ, suc, ◌+◌, ◌≤◌, ◌<◌, length, get_or, drop}
 use Rattle.std.proofs.Math.Path.{sym}
-use Rattle.std.proofs.Common.{ap, ◌∙◌, add-one, drop_of_length-le}
+use Rattle.std.proofs.Common.{◌∙◌, add-one, drop_of_length-le}
 use Rattle.std.proofs.Math.Bool.{and-true, and_assoc}
 use Rattle.std.proofs.Math.Seq.{drop-cons}
 

@@ -1,5 +1,4 @@
 -- `bitset::full` meets its contract: the leading digits of a number of 64 ones. Assumes nothing.
-use borrow.Author.Rules.{rules}
 use Rattle.lists.proofs.BitsetLaws.{full_shift}
 use Rattle.bitset.proofs.full.Goals as goal
 

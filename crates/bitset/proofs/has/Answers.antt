@@ -1,7 +1,6 @@
 -- `bitset::has` meets its contract: the last digit of the shifted set. Assumes nothing.
 use mathlib.Core.Path.{ap}
 use Prim.Native.Nat.{ℕ, ◌/◌, ◌^◌}
-use borrow.Author.Rules.{rules}
 use lib.Bits.{and_mask}
 use lib.Dec.{eqb}
 use Rattle.bitset.proofs.has.Goals as goal

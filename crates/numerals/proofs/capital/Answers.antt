@@ -1,5 +1,4 @@
 -- `numerals::capital` meets its contract: each return is a case of the definition. Assumes nothing.
-use borrow.Author.Rules.{rules}
 use borrow.Author.Tests.{lt-ltb, le-ltb}
 use Rattle.numerals.proofs.capital.Goals as goal
 

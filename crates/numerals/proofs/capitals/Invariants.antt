@@ -1,9 +1,6 @@
 -- `numerals::capitals` meets its contract: from the last place down to i the digits stand in the area. Assumes nothing.
-use mathlib.Core.Path.{◌≡◌}
-use native.Mathlib.Omega.{arith}
-use borrow.Author.Rules.{rules}
 use lib.ListN.{length}
-use Rattle.numerals.proofs.NumeralLaws.{Spelling, spelling_begins, spelling_goes_on, spelling_ends}
+use Rattle.numerals.proofs.NumeralLaws.{Spelling}
 use Rattle.numerals.proofs.capitals.Given as goal
 
 abbrev pub invariant-loop-i : goal.invariant-loop-i

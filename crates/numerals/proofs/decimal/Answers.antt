@@ -4,7 +4,6 @@ use native.Mathlib.Omega.{arith}
 use lib.ListN.{length}
 use Rattle.numerals.proofs.TextLaws.{placed_behind}
 use Rattle.numerals.proofs.NumeralLaws.{front_decimal}
-use borrow.Author.Rules.{rules}
 use Rattle.numerals.proofs.decimal.Goals as goal
 
 pub put-requires : goal.put-requires

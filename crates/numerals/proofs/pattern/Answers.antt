@@ -3,7 +3,6 @@ use Prim.Native.Nat.{◌≤◌}
 use native.Mathlib.Omega.{arith}
 use lib.ListN.{length}
 use Rattle.numerals.proofs.TextLaws.{placed_behind}
-use borrow.Author.Rules.{rules}
 use Rattle.numerals.proofs.pattern.Goals as goal
 
 pub returns : goal.returns

@@ -1,10 +1,7 @@
 -- `octets::big_endian` meets its contract: after i bytes the number is theirs and below 2^(8 i), so that eight of them fit. Assumes nothing.
-use mathlib.Core.Path.{◌≡◌, sym}
+use mathlib.Core.Path.{◌≡◌}
 use Prim.Native.Nat.{◌*◌, ◌-◌, ◌^◌, ◌≤◌, ◌<◌}
-use native.Mathlib.Omega.{arith}
-use borrow.Author.Rules.{rules}
 use Rattle.octets.specs.Octets.{big, bytes_at}
-use Rattle.octets.proofs.OctetsLaws.{big_none, big_next, room, bound_next}
 use Rattle.octets.proofs.big_endian.Given as goal
 
 abbrev pub invariant-loop-i : goal.invariant-loop-i

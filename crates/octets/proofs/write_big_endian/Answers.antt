@@ -1,13 +1,9 @@
 -- `octets::write_big_endian` meets its contract: its last bytes so far stand in front of what was behind all of them, and the rest is the number without them.
 -- Assumes nothing.
 use mathlib.Core.Path.{◌≡◌, refl, ◌∙◌}
-use mathlib.Core.List.{◌++◌}
-use Prim.Native.Nat.{◌+◌, ◌*◌, ◌/◌, ◌-◌, ◌^◌, ◌≤◌}
 use native.Mathlib.Nat.{div-one}
 use native.Mathlib.Omega.{arith}
 use borrow.Author.Rules.{rules}
-use lib.ListN.{length, take, drop}
-use Rattle.octets.specs.Octets.{big_endian}
 use Rattle.octets.proofs.OctetsLaws.{rest_next, big_written_none, big_written_next, big_written_all}
 use Rattle.octets.proofs.write_big_endian.Goals as goal
 

@@ -1,6 +1,5 @@
 -- `octets::little::half` meets its contract: a byte is below 256, so that the sum of four fits 32 bits. Assumes nothing.
 use native.Mathlib.Omega.{arith}
-use borrow.Author.Rules.{rules}
 use Rattle.octets.proofs.OctetsLaws.{little_four}
 use Rattle.octets.proofs.little.half.Goals as goal
 

@@ -1,10 +1,10 @@
 -- `octets::little::pack` meets its contract: the bytes passed are those of the first i numbers. Assumes nothing.
 use mathlib.Core.Path.{◌≡◌, refl, ◌∙◌}
-use mathlib.Core.List.{◌++◌, append-nil}
-use Prim.Native.Nat.{◌+◌, ◌*◌, ◌-◌, ◌≤◌}
+use mathlib.Core.List.{append-nil}
+use Prim.Native.Nat.{◌*◌}
 use native.Mathlib.Omega.{arith}
 use borrow.Author.Rules.{rules}
-use lib.ListN.{length, take, drop}
+use lib.ListN.{length}
 use lib.Seq.{take_all, drop-length}
 use Rattle.octets.specs.Octets.{little_endian, packed}
 use Rattle.octets.proofs.OctetsLaws.{little_length}

@@ -1,14 +1,9 @@
 -- `octets::little::pack` meets its contract: the bytes passed are those of the first i numbers. Assumes nothing.
-use mathlib.Core.Path.{◌≡◌, refl, ◌∙◌}
-use mathlib.Core.List.{◌++◌, append-nil}
-use Prim.Native.Nat.{◌+◌, ◌*◌, ◌-◌, ◌≤◌}
-use native.Mathlib.Omega.{arith}
-use borrow.Author.Rules.{rules}
+use mathlib.Core.Path.{◌≡◌}
+use mathlib.Core.List.{◌++◌}
+use Prim.Native.Nat.{◌*◌, ◌-◌, ◌≤◌}
 use lib.ListN.{length, take, drop}
-use lib.Seq.{take_all, drop-length}
-use Rattle.octets.specs.Octets.{little_endian, packed}
-use Rattle.octets.proofs.OctetsLaws.{little_length}
-use Rattle.octets.proofs.EightsLaws.{joined_none, joined_next}
+use Rattle.octets.specs.Octets.{packed}
 use Rattle.octets.proofs.little.pack.Given as goal
 
 abbrev pub invariant-loop-i : goal.invariant-loop-i

@@ -1,7 +1,6 @@
 -- `octets::little::read` meets its contract: eight bytes are four, and four that weigh 2^32. Assumes nothing.
 use mathlib.Core.Path.{sym}
 use native.Mathlib.Omega.{arith}
-use borrow.Author.Rules.{rules}
 use Rattle.octets.proofs.OctetsLaws.{little_cut}
 use Rattle.octets.proofs.little.read.Goals as goal
 

@@ -1,14 +1,9 @@
 -- `octets::little::unpack` meets its contract: the places passed hold the numbers that the bytes stand for. Assumes nothing.
-use mathlib.Core.Path.{◌≡◌, refl, ◌∙◌}
-use mathlib.Core.List.{◌++◌, append-nil}
-use Prim.Native.Nat.{◌+◌, ◌-◌, ◌≤◌, ◌<◌}
-use native.Mathlib.Omega.{arith}
-use borrow.Author.Rules.{rules}
+use mathlib.Core.Path.{◌≡◌}
+use mathlib.Core.List.{◌++◌}
+use Prim.Native.Nat.{◌-◌, ◌≤◌}
 use lib.ListN.{length, drop}
-use lib.Seq.{drop-length}
-use Rattle.lists.proofs.Front.{store_front}
-use Rattle.octets.specs.Octets.{little, unpacked}
-use Rattle.octets.proofs.EightsLaws.{eights_none, eights_length, eights_more}
+use Rattle.octets.specs.Octets.{unpacked}
 use Rattle.octets.proofs.little.unpack.Given as goal
 
 abbrev pub invariant-loop-i : goal.invariant-loop-i

@@ -1,12 +1,12 @@
 -- `octets::little::write` meets its contract: after i bytes the first i of the number stand at the place, and the rest is the number without them.
 -- Assumes nothing.
 use mathlib.Core.Path.{◌≡◌, refl, ◌∙◌}
-use mathlib.Core.List.{◌++◌, append_assoc}
-use Prim.Native.Nat.{◌+◌, ◌*◌, ◌/◌, ◌-◌, ◌^◌, ◌≤◌}
+use mathlib.Core.List.{append_assoc}
+use Prim.Native.Nat.{◌+◌}
 use native.Mathlib.Nat.{div-one}
 use native.Mathlib.Omega.{arith}
 use borrow.Author.Rules.{rules}
-use lib.ListN.{length, take, drop}
+use lib.ListN.{take, drop}
 use Rattle.octets.specs.Octets.{little_endian}
 use Rattle.octets.proofs.OctetsLaws.{rest_next, written_none, written_next}
 use Rattle.octets.proofs.little.write.Goals as goal

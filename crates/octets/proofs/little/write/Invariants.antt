@@ -1,14 +1,10 @@
 -- `octets::little::write` meets its contract: after i bytes the first i of the number stand at the place, and the rest is the number without them.
 -- Assumes nothing.
-use mathlib.Core.Path.{◌≡◌, refl, ◌∙◌}
-use mathlib.Core.List.{◌++◌, append_assoc}
+use mathlib.Core.Path.{◌≡◌}
+use mathlib.Core.List.{◌++◌}
 use Prim.Native.Nat.{◌+◌, ◌*◌, ◌/◌, ◌-◌, ◌^◌, ◌≤◌}
-use native.Mathlib.Nat.{div-one}
-use native.Mathlib.Omega.{arith}
-use borrow.Author.Rules.{rules}
 use lib.ListN.{length, take, drop}
 use Rattle.octets.specs.Octets.{little_endian}
-use Rattle.octets.proofs.OctetsLaws.{rest_next, written_none, written_next}
 use Rattle.octets.proofs.little.write.Given as goal
 
 abbrev pub invariant-loop-i : goal.invariant-loop-i

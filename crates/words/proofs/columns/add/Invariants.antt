@@ -1,8 +1,7 @@
 -- `words::columns::add` meets its contract: at each turn the lowest i words are the sum of those that came in, but for a carry into the word i.
 -- Assumes nothing.
-use Rattle.std.proofs.Common.{◌≡◌, ℕ, ◌-◌, ◌≤◌, length, ◌∙◌, add-one, arith, rules}
+use Rattle.std.proofs.Common.{◌≡◌, ◌-◌, ◌≤◌, length}
 use Rattle.lists.specs.Carry.{Added}
-use Rattle.lists.proofs.CarryLaws.{added_none, added_next, added_all}
 use Rattle.words.specs.Words.{word_bits}
 use Rattle.words.proofs.columns.add.Given as goal
 

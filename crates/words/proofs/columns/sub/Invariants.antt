@@ -1,8 +1,7 @@
 -- `words::columns::sub` meets its contract: at each turn the lowest i words are the difference of those that came in, but for a borrow from the word i.
 -- Assumes nothing.
-use Rattle.std.proofs.Common.{◌≡◌, ℕ, ◌-◌, ◌≤◌, length, sym, ◌∙◌, add-one, arith, rules}
+use Rattle.std.proofs.Common.{◌≡◌, ◌-◌, ◌≤◌, length}
 use Rattle.lists.specs.Carry.{Added}
-use Rattle.lists.proofs.CarryLaws.{added_none, taken_next, added_all}
 use Rattle.words.specs.Words.{word_bits}
 use Rattle.words.proofs.columns.sub.Given as goal
 

@@ -1,5 +1,5 @@
 -- `words::ripple::add_at` meets its contract: the two words' sums and the carry that goes on from there, as one sum. Assumes nothing.
-use Rattle.std.proofs.Common.{◌∙◌, arith, length-set, rules}
+use Rattle.std.proofs.Common.{arith, length-set}
 use Rattle.lists.proofs.CarryLaws.{add_two}
 use Rattle.words.proofs.ripple.add_at.Goals as goal
 

@@ -1,9 +1,7 @@
 -- `words::ripple::borrow_up` meets its contract: at each turn what came in is the words and the borrow, but for a borrow from the word i.
 -- Assumes nothing.
-use Rattle.std.proofs.Common.{◌≡◌, ◌-◌, ◌*◌, ◌^◌, ◌≤◌, length, arith, rules}
-use Rattle.lists.specs.Carry.{Carried}
+use Rattle.std.proofs.Common.{◌≡◌, length, arith, rules}
 use Rattle.lists.proofs.CarryLaws.{borrowed_up}
-use Rattle.words.specs.Words.{word_bits}
 use Rattle.words.proofs.ripple.borrow_up.Goals as goal
 
 pub returns-then-i-words : goal.returns-then-i-words

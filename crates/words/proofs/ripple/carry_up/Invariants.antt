@@ -1,8 +1,7 @@
 -- `words::ripple::carry_up` meets its contract: at each turn the words are what came in and the carry, but for a carry into the word i.
 -- Assumes nothing.
-use Rattle.std.proofs.Common.{◌≡◌, ◌-◌, ◌*◌, ◌^◌, ◌≤◌, length, arith, rules}
+use Rattle.std.proofs.Common.{◌≡◌, ◌-◌, ◌*◌, ◌^◌, ◌≤◌, length}
 use Rattle.lists.specs.Carry.{Carried}
-use Rattle.lists.proofs.CarryLaws.{carried_up}
 use Rattle.words.specs.Words.{word_bits}
 use Rattle.words.proofs.ripple.carry_up.Given as goal
 

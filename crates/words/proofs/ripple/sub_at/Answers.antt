@@ -1,5 +1,5 @@
 -- `words::ripple::sub_at` meets its contract: the two words' differences and the borrow that goes on from there, as one difference. Assumes nothing.
-use Rattle.std.proofs.Common.{◌∙◌, arith, length-set, rules}
+use Rattle.std.proofs.Common.{arith, length-set}
 use Rattle.lists.proofs.CarryLaws.{sub_two}
 use Rattle.words.proofs.ripple.sub_at.Goals as goal
 
