@@ -126,7 +126,8 @@ module _ (list out : List ℕ) (l : length list ≤ list_bytes) (m : length list
 
     pub nearest_code : nearest_call list out ≡ outcome (k + 32 * (i + 1)) out
     nearest_code =
-        is_summed sum_heard ∙ ap (λ h. answered h out []) (nearest_hears ps k i given) ∙ code (nearest_refusal doubles ps k i ((nearest_refused ps k i).1 given))
+        is_summed sum_heard ∙ ap (λ h. answered h out []) (nearest_hears ps k i given)
+        ∙ code (nearest_refusal doubles ps k i ((nearest_refused ps k i).1 given))
 
 -- ---- exactly when 0 is returned
 

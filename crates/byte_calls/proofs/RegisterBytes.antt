@@ -115,7 +115,8 @@ module _ (register : List ℕ) (p : ℕ) where
       → (add_call register p).answer ≡ (answered (entry_heard a) register []).answer
   add_call_when = rows (λ ws. whole_of ws +ℤ units_of doubles p)
 
-  pub withdraw_call_when : length register ≡ register_bytes → (a : Entry) → EntryWhen (words_in register) p (whole_of (words_in register) -ℤ units_of doubles p) a
+  pub withdraw_call_when : length register ≡ register_bytes → (a : Entry)
+      → EntryWhen (words_in register) p (whole_of (words_in register) -ℤ units_of doubles p) a
       → (withdraw_call register p).answer ≡ (answered (entry_heard a) register []).answer
   withdraw_call_when = rows (λ ws. whole_of ws -ℤ units_of doubles p)
 

@@ -38,7 +38,8 @@ sum_leaves heardOf list out =
 pub register_leaves : (entered_in : List ℕ → Changed) (register : List ℕ) → ((register_call entered_in register).answer ≡ 0 → ⊥)
     → (register_call entered_in register).area ≡ register
 unfolding register_call
-register_leaves entered_in register = either_leaves (eqb (length register) register_bytes) (registered entered_in register) 4 register (answer_leaves _ register _)
+register_leaves entered_in register = either_leaves (eqb (length register) register_bytes) (registered entered_in register) 4 register
+    (answer_leaves _ register _)
 
 -- ---- a code tells the number of its refusal, and the place where one is told
 pub code_number : (k : ℕ) (p : Place) → k < 32 → (k + place_code p) % 32 ≡ k

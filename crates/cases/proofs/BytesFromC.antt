@@ -24,7 +24,8 @@ minus_one = replicate 6 0 ++ 0xF0 ∷ 0xBF ∷ []
 pub sum_in_bytes : faithful_call minus_one (replicate 16 7) ≡ outcome 0 (minus_one ++ 1 ∷ replicate 7 0)
 unfolding sum_call answered eights joined number digits judged first_fault fault_of W.opened_after W.stepped_after W.taken W.rising W.rounds_from
     R.turned R.fresh R.scaled R.finished R.closed_by
-    N.sound_sigma N.at_most N.sound_largest N.sound_numbers N.sound_pending N.bad_place N.sound N.gated remainders gathered last_sum largest largest_with power_of ceil
+    N.sound_sigma N.at_most N.sound_largest N.sound_numbers N.sound_pending N.bad_place N.sound N.gated remainders gathered last_sum largest largest_with
+    power_of ceil
     magnitude negative nearest_float of_bits to_bits add sub mul le eq
 sum_in_bytes = refl
 

@@ -60,7 +60,8 @@ allowed = refl
 run : (xs : List Float) → W.rounds_from doubles 1 51 (W.opened_after doubles 0 Good three xs) ≡ outcome (Done one 2) three_zeros
 unfolding
     W.opened_after W.stepped_after W.taken W.rising W.rounds_from R.turned R.fresh R.scaled R.finished R.closed_by
-    N.sound_sigma N.at_most N.sound_largest N.sound_numbers N.sound_pending N.bad_place N.sound N.gated remainders gathered last_sum largest largest_with power_of ceil
+    N.sound_sigma N.at_most N.sound_largest N.sound_numbers N.sound_pending N.bad_place N.sound N.gated remainders gathered last_sum largest largest_with
+    power_of ceil
     nearest_float value of_bits to_bits add sub mul le eq
 run xs = refl
 
@@ -91,7 +92,8 @@ unequal_allowed = refl
 unequal_run : (xs : List Float) → (W.rounds_from doubles 1 51 (W.opened_after doubles 0 Good unequal xs)).answer ≡ Done one 1
 unfolding
     W.opened_after W.stepped_after W.taken W.rising W.rounds_from R.turned R.fresh R.scaled R.finished R.closed_by
-    N.sound_sigma N.at_most N.sound_largest N.sound_numbers N.sound_pending N.bad_place N.sound N.gated remainders gathered last_sum largest largest_with power_of ceil
+    N.sound_sigma N.at_most N.sound_largest N.sound_numbers N.sound_pending N.bad_place N.sound N.gated remainders gathered last_sum largest largest_with
+    power_of ceil
     nearest_float value of_bits to_bits add sub mul le eq
 unequal_run xs = refl
 

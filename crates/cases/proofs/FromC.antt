@@ -60,20 +60,24 @@ opens = refl
 
 pub goes_on : step_arrays begun copied 7 0 ≡ returned 0 zeros further
 unfolding step_with W.stepped_after W.taken R.turned R.fresh R.scaled R.finished R.closed_by
-    N.sound_sigma N.at_most N.sound_largest N.sound_numbers N.sound_pending N.bad_place N.sound N.gated remainders gathered last_sum largest largest_with power_of ceil
+    N.sound_sigma N.at_most N.sound_largest N.sound_numbers N.sound_pending N.bad_place N.sound N.gated remainders gathered last_sum largest largest_with
+    power_of ceil
     magnitude negative nearest_float of_bits to_bits add sub mul le eq
 goes_on = refl
 
 pub finishes : step_arrays further zeros 7 0 ≡ returned 0 zeros (2 ∷ 0x4320000000000000 ∷ 2 ∷ replicate 7 0)
 unfolding step_with W.stepped_after W.taken R.turned R.fresh R.scaled R.finished R.closed_by
-    N.sound_sigma N.at_most N.sound_largest N.sound_numbers N.sound_pending N.bad_place N.sound N.gated remainders gathered last_sum largest largest_with power_of ceil
+    N.sound_sigma N.at_most N.sound_largest N.sound_numbers N.sound_pending N.bad_place N.sound N.gated remainders gathered last_sum largest largest_with
+    power_of ceil
     magnitude negative nearest_float of_bits to_bits add sub mul le eq
 finishes = refl
 
 -- ---- the sums in one call: 2^51, in 2 rounds
 pub undivided : faithful_arrays numbers zeros (7 ∷ 7 ∷ []) ≡ returned 0 zeros (0x4320000000000000 ∷ 2 ∷ [])
-unfolding faithful_with judged first_fault fault_of W.opened_after W.stepped_after W.taken W.rising W.rounds_from R.turned R.fresh R.scaled R.finished R.closed_by
-    N.sound_sigma N.at_most N.sound_largest N.sound_numbers N.sound_pending N.bad_place N.sound N.gated remainders gathered last_sum largest largest_with power_of ceil
+unfolding faithful_with judged first_fault fault_of W.opened_after W.stepped_after W.taken W.rising W.rounds_from R.turned R.fresh R.scaled R.finished
+    R.closed_by
+    N.sound_sigma N.at_most N.sound_largest N.sound_numbers N.sound_pending N.bad_place N.sound N.gated remainders gathered last_sum largest largest_with
+    power_of ceil
     magnitude negative nearest_float of_bits to_bits add sub mul le eq
 undivided = refl
 
@@ -174,14 +178,16 @@ half_done = replicate 64 (of_bits binary64 0) ++ one ∷ []
 pub half_way : step_arrays (7 ∷ 0x4060000000000000 ∷ 0 ∷ 0 ∷ 65 ∷ 3 ∷ 0 ∷ 7 ∷ 0 ∷ 7 ∷ []) (replicate 65 one) 7 0
     ≡ returned 0 half_done (1 ∷ 0x4060000000000000 ∷ 0 ∷ 0x4050000000000000 ∷ 65 ∷ 2 ∷ 0 ∷ 7 ∷ 0 ∷ 0 ∷ [])
 unfolding step_with W.stepped_after W.taken R.turned R.fresh R.scaled R.finished R.closed_by
-    N.sound_sigma N.at_most N.sound_largest N.sound_numbers N.sound_pending N.bad_place N.sound N.gated remainders gathered last_sum largest largest_with power_of ceil
+    N.sound_sigma N.at_most N.sound_largest N.sound_numbers N.sound_pending N.bad_place N.sound N.gated remainders gathered last_sum largest largest_with
+    power_of ceil
     magnitude negative nearest_float of_bits to_bits add sub mul le eq
 half_way = refl
 
 pub second_half : step_arrays (7 ∷ 0x4060000000000000 ∷ 0 ∷ 0x4050000000000000 ∷ 65 ∷ 2 ∷ 0 ∷ 7 ∷ 0 ∷ 7 ∷ []) half_done 7 1
     ≡ returned 0 (replicate 65 (of_bits binary64 0)) (2 ∷ 0x4050400000000000 ∷ 1 ∷ replicate 7 0)
 unfolding step_with W.stepped_after W.taken R.turned R.fresh R.scaled R.finished R.closed_by
-    N.sound_sigma N.at_most N.sound_largest N.sound_numbers N.sound_pending N.bad_place N.sound N.gated remainders gathered last_sum largest largest_with power_of ceil
+    N.sound_sigma N.at_most N.sound_largest N.sound_numbers N.sound_pending N.bad_place N.sound N.gated remainders gathered last_sum largest largest_with
+    power_of ceil
     magnitude negative nearest_float of_bits to_bits add sub mul le eq
 second_half = refl
 
@@ -192,7 +198,8 @@ keeping largest = 7 ∷ 0x4070000000000000 ∷ 0 ∷ 0 ∷ 1 ∷ 1 ∷ 0 ∷ 7 �
 pub restarts : step_arrays (keeping 0x3C30000000000000) (of_bits binary64 0 ∷ []) 7 0
     ≡ returned 0 (of_bits binary64 0 ∷ []) (1 ∷ 0x3C50000000000000 ∷ 0 ∷ 0 ∷ 1 ∷ 1 ∷ 1 ∷ 7 ∷ 0 ∷ 0x3C30000000000000 ∷ [])
 unfolding step_with W.stepped_after W.taken R.turned R.fresh R.scaled R.finished R.closed_by
-    N.sound_sigma N.at_most N.sound_largest N.sound_numbers N.sound_pending N.bad_place N.sound N.gated remainders gathered last_sum largest largest_with power_of ceil
+    N.sound_sigma N.at_most N.sound_largest N.sound_numbers N.sound_pending N.bad_place N.sound N.gated remainders gathered last_sum largest largest_with
+    power_of ceil
     magnitude negative nearest_float of_bits to_bits add sub mul le eq
 restarts = refl
 
@@ -207,7 +214,8 @@ many_rounds = 1 ∷ 0x4660000000000000 ∷ 0 ∷ 0 ∷ 3 ∷ 1 ∷ 0x100000000 �
 
 pub rounds_of_33_bits : step_arrays many_rounds copied 7 0 ≡ returned 8 copied many_rounds
 unfolding step_with W.stepped_after W.taken R.turned R.fresh R.scaled R.finished R.closed_by
-    N.sound_sigma N.at_most N.sound_largest N.sound_numbers N.sound_pending N.bad_place N.sound N.gated remainders gathered last_sum largest largest_with power_of ceil
+    N.sound_sigma N.at_most N.sound_largest N.sound_numbers N.sound_pending N.bad_place N.sound N.gated remainders gathered last_sum largest largest_with
+    power_of ceil
     magnitude negative nearest_float of_bits to_bits add sub mul le eq
 rounds_of_33_bits = refl
 
@@ -251,7 +259,8 @@ opens_minus = refl
 
 pub undivided_minus : faithful_arrays (0x8000000000000000 ∷ []) (one ∷ []) (7 ∷ 7 ∷ [])
     ≡ returned 0 (of_bits binary64 0x8000000000000000 ∷ []) (0x8000000000000000 ∷ 0 ∷ [])
-unfolding faithful_with judged first_fault fault_of zero_sign every W.opened_after W.rising W.rounds_from R.fresh largest magnitude nearest_float of_bits to_bits
+unfolding faithful_with judged first_fault fault_of zero_sign every W.opened_after W.rising W.rounds_from R.fresh largest magnitude nearest_float of_bits
+    to_bits
 undivided_minus = refl
 
 pub nearest_minus : nearest_arrays (0x8000000000000000 ∷ []) (7 ∷ []) ≡ outcome 0 (0x8000000000000000 ∷ [])

@@ -130,7 +130,8 @@ computed : every table ≡ true
 unfolding
     every table judged first_fault fault_of zero_sign L.every
     W.opened_after W.stepped_after W.taken W.rising W.rounds_from R.turned R.fresh R.scaled R.finished R.closed_by
-    N.sound_sigma N.at_most N.sound_largest N.sound_numbers N.sound_pending N.bad_place N.sound N.gated remainders gathered last_sum largest largest_with power_of ceil
+    N.sound_sigma N.at_most N.sound_largest N.sound_numbers N.sound_pending N.bad_place N.sound N.gated remainders gathered last_sum largest largest_with
+    power_of ceil
     S.nearest_after S.parts_after S.parts enter rounded number digits signed residue nearest_float value
     of_bits to_bits add sub mul le eq
 computed = refl
@@ -139,8 +140,10 @@ computed_bounds : every bounds ≡ true
 unfolding
     every bounds judged first_fault fault_of zero_sign L.every
     W.opened_after W.stepped_after W.taken W.rising W.rounds_from R.turned R.fresh R.scaled R.finished R.closed_by
-    N.sound_sigma N.at_most N.sound_largest N.sound_numbers N.sound_pending N.bad_place N.sound N.gated remainders gathered last_sum largest largest_with power_of ceil
-    S.nearest_after S.parts_after S.parts rounded merged number digits signed residue nearest_float value read_of eights written_of sheet_of joined rescued_of filter
+    N.sound_sigma N.at_most N.sound_largest N.sound_numbers N.sound_pending N.bad_place N.sound N.gated remainders gathered last_sum largest largest_with
+    power_of ceil
+    S.nearest_after S.parts_after S.parts rounded merged number digits signed residue nearest_float value read_of eights written_of sheet_of joined rescued_of
+    filter
     H.weight_good H.weight_of H.pattern_for H.total H.spread H.bad_weight H.weighed H.handed_after Q.other_side Q.grade_at Q.graded_after
     of_bits to_bits add sub mul le eq
 computed_bounds = refl
@@ -162,7 +165,8 @@ computed_pairs = refl
 computed_largests : every largests ≡ true
 unfolding
     every largests W.stepped_after W.taken R.turned R.fresh R.scaled R.finished R.closed_by
-    N.sound_sigma N.at_most N.sound_largest N.sound_numbers N.sound_pending N.bad_place N.sound N.gated remainders gathered last_sum largest largest_with power_of ceil
+    N.sound_sigma N.at_most N.sound_largest N.sound_numbers N.sound_pending N.bad_place N.sound N.gated remainders gathered last_sum largest largest_with
+    power_of ceil
     nearest_float value of_bits to_bits add sub mul le eq
 computed_largests = refl
 

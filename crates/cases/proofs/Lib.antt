@@ -1,3 +1,4 @@
+-- The crate's theorems and lemmas.
 pub mod BytesFromC
 pub mod Example
 pub mod FromC

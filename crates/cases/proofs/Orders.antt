@@ -46,7 +46,8 @@ computed : Sum one 0x3FF0000000000000 1 (0 ∷ 0x3CA0000000000000 ∷ 0x39500000
     × Sum cancelled 0 1 (0 ∷ 0 ∷ [])
 unfolding
     judged first_fault fault_of W.opened_after W.stepped_after W.taken W.rising W.rounds_from R.turned R.fresh R.scaled R.finished R.closed_by
-    N.sound_sigma N.at_most N.sound_largest N.sound_numbers N.sound_pending N.bad_place N.sound N.gated remainders gathered last_sum largest largest_with power_of ceil
+    N.sound_sigma N.at_most N.sound_largest N.sound_numbers N.sound_pending N.bad_place N.sound N.gated remainders gathered last_sum largest largest_with
+    power_of ceil
     nearest_float value of_bits to_bits add sub mul le eq
 computed = (
   undivided (map (of_bits binary64) one) refl,

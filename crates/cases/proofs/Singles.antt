@@ -75,7 +75,8 @@ nearest_at_2046 = refl
 -- one more is too many
 pub at_2047 : summed singles 2042 ≡ refused 1 nowhere
 unfolding judged first_fault fault_of W.opened_after W.stepped_after W.taken W.rising W.rounds_from R.turned R.fresh R.scaled R.finished R.closed_by
-    N.sound_sigma N.at_most N.sound_largest N.sound_numbers N.sound_pending N.bad_place N.sound N.gated remainders gathered last_sum largest largest_with power_of ceil
+    N.sound_sigma N.at_most N.sound_largest N.sound_numbers N.sound_pending N.bad_place N.sound N.gated remainders gathered last_sum largest largest_with
+    power_of ceil
     magnitude negative nearest_float of_bits to_bits add sub mul le eq
 at_2047 = refl
 
@@ -90,7 +91,8 @@ longer = record { format = binary32; length = 2047; magnitude = 0x71800000; bloc
 
 pub were_2047_allowed : summed longer 2042 ≡ done 0x3FC00000 3
 unfolding judged first_fault fault_of W.opened_after W.stepped_after W.taken W.rising W.rounds_from R.turned R.fresh R.scaled R.finished R.closed_by
-    N.sound_sigma N.at_most N.sound_largest N.sound_numbers N.sound_pending N.bad_place N.sound N.gated remainders gathered last_sum largest largest_with power_of ceil
+    N.sound_sigma N.at_most N.sound_largest N.sound_numbers N.sound_pending N.bad_place N.sound N.gated remainders gathered last_sum largest largest_with
+    power_of ceil
     magnitude negative nearest_float of_bits to_bits add sub mul le eq
 were_2047_allowed = refl
 
@@ -113,13 +115,16 @@ pub goes_on : step_singles begun copied 7 0
     ≡ returned 0 (of_bits binary32 0 ∷ of_bits binary32 0x4A000000 ∷ of_bits binary32 0 ∷ [])
     (1 ∷ 0x4B800000 ∷ 0 ∷ 0 ∷ 3 ∷ 1 ∷ 1 ∷ 7 ∷ 0 ∷ 0x4A000000 ∷ [])
 unfolding step_with W.stepped_after W.taken R.turned R.fresh R.scaled R.finished R.closed_by
-    N.sound_sigma N.at_most N.sound_largest N.sound_numbers N.sound_pending N.bad_place N.sound N.gated remainders gathered last_sum largest largest_with power_of ceil
+    N.sound_sigma N.at_most N.sound_largest N.sound_numbers N.sound_pending N.bad_place N.sound N.gated remainders gathered last_sum largest largest_with
+    power_of ceil
     magnitude negative nearest_float of_bits to_bits add sub mul le eq
 goes_on = refl
 
 pub undivided : faithful_singles numbers (work 3) (7 ∷ 7 ∷ []) ≡ returned 0 (work 3) (0x4A000000 ∷ 2 ∷ [])
-unfolding faithful_with judged first_fault fault_of W.opened_after W.stepped_after W.taken W.rising W.rounds_from R.turned R.fresh R.scaled R.finished R.closed_by
-    N.sound_sigma N.at_most N.sound_largest N.sound_numbers N.sound_pending N.bad_place N.sound N.gated remainders gathered last_sum largest largest_with power_of ceil
+unfolding faithful_with judged first_fault fault_of W.opened_after W.stepped_after W.taken W.rising W.rounds_from R.turned R.fresh R.scaled R.finished
+    R.closed_by
+    N.sound_sigma N.at_most N.sound_largest N.sound_numbers N.sound_pending N.bad_place N.sound N.gated remainders gathered last_sum largest largest_with
+    power_of ceil
     magnitude negative nearest_float of_bits to_bits add sub mul le eq
 undivided = refl
 
@@ -133,6 +138,7 @@ of33bits = 1 ∷ 0x15A000000 ∷ 0 ∷ 0 ∷ 3 ∷ 1 ∷ 0 ∷ 7 ∷ 0 ∷ 0 ∷
 
 pub sigma_of_33_bits : step_singles of33bits copied 7 0 ≡ returned 8 copied of33bits
 unfolding step_with W.stepped_after W.taken R.turned R.fresh R.scaled R.finished R.closed_by
-    N.sound_sigma N.at_most N.sound_largest N.sound_numbers N.sound_pending N.bad_place N.sound N.gated remainders gathered last_sum largest largest_with power_of ceil
+    N.sound_sigma N.at_most N.sound_largest N.sound_numbers N.sound_pending N.bad_place N.sound N.gated remainders gathered last_sum largest largest_with
+    power_of ceil
     magnitude negative nearest_float of_bits to_bits add sub mul le eq
 sigma_of_33_bits = refl

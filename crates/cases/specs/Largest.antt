@@ -3,7 +3,7 @@
 -- 2^-43 3D40000000000000.
 use Rattle.std.specs.Prelude.{List, [], ◌∷◌, ◌++◌, ℕ, replicate}
 use Rattle.kinds.specs.Outcome.{outcome}
-use Rattle.kinds.specs.Heard.{nowhere, at, refused, more, done}
+use Rattle.kinds.specs.Heard.{nowhere, refused, more, done}
 use Rattle.cases.specs.Calls.{Given, Case, step}
 
 -- a state of so many numbers with a pending set, under sigma = 2^8; one number with a sigma

@@ -1,3 +1,4 @@
+-- The crate's theorems and lemmas.
 pub mod Determined
 pub mod Graded
 pub mod Hearing

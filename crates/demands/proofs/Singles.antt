@@ -42,7 +42,8 @@ module _ (ps : List ℕ) where
 -- ---- single_walk::open, single_walk::faithful
 
 -- what a contract says of the answer and the area determines both
-both : (w : Outcome wide_step_lem.Step Float) {r q : Step} {xs ys : List Float} → outcome (wide_step r) xs ≡ w → outcome (wide_step q) ys ≡ w → (r ≡ q) × (xs ≡ ys)
+both : (w : Outcome wide_step_lem.Step Float) {r q : Step} {xs ys : List Float} → outcome (wide_step r) xs ≡ w → outcome (wide_step q) ys ≡ w
+    → (r ≡ q) × (xs ≡ ys)
 both w {r} {q} e f = let d = determined w e f in (step_same r q d.0, d.1)
 
 module _ (ps : List ℕ) (work : List Float) where

@@ -20,7 +20,8 @@ use Rattle.demands.specs.Tables.{StepWhen, WalkWhen}
 use Rattle.demands.proofs.WalkRefusals.{open_refused, faithful_refused, step_refused}
 
 module _ (W : Width) (ps : List ℕ) where
-  pub nearest_heard_lem : (k : ℕ) (p : Place) → (nearest_heard W (nearest_of W ps) ≡ refused k p) ↔ Row (λ k i. ListWhen W true true ps (verdicts.Refused k i)) k p
+  pub nearest_heard_lem : (k : ℕ) (p : Place)
+      → (nearest_heard W (nearest_of W ps) ≡ refused k p) ↔ Row (λ k i. ListWhen W true true ps (verdicts.Refused k i)) k p
   nearest_heard_lem = hears (nearest_heard W) nearests.Refused (λ k i. refl) (nearest_of W ps) (nearest_is W (nearest_of W ps))
       (λ k i. ListWhen W true true ps (verdicts.Refused k i)) (nearest_refusals W ps) (λ k i h. (list_refusal h).as_told)
 

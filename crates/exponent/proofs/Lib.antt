@@ -1,2 +1,3 @@
+-- The crate's theorems and lemmas.
 pub mod CeilingLaws
 pub mod PowerLaws

@@ -22,7 +22,8 @@ module _ (f : Format) (sigma : Float) where
   gathered_join tau [] ys = refl
   gathered_join tau (x ∷ xs) ys = gathered_join (add f tau (high_part f sigma x)) xs ys
 
-  pub gathered_next : (tau : Float) (xs : List Float) (x : Float) → gathered f sigma tau (xs ++ (x ∷ [])) ≡ add f (gathered f sigma tau xs) (high_part f sigma x)
+  pub gathered_next : (tau : Float) (xs : List Float) (x : Float)
+      → gathered f sigma tau (xs ++ (x ∷ [])) ≡ add f (gathered f sigma tau xs) (high_part f sigma x)
   unfolding gathered
   gathered_next tau xs x = gathered_join tau xs (x ∷ [])
 

@@ -3,15 +3,14 @@ use mathlib.Core.Path.{◌≡◌, sym, ap, ◌∙◌}
 use mathlib.Core.Logic.{inl, inr}
 use mathlib.Core.Bool.{true, false, cond}
 use mathlib.Core.List.{List}
-use Prim.Native.Nat.{ℕ, zero, suc, ◌+◌, ◌-◌, ◌*◌, ◌%◌, ◌^◌, ◌<◌}
+use Prim.Native.Nat.{ℕ, ◌+◌, ◌-◌, ◌%◌, ◌^◌, ◌<◌}
 use native.Mathlib.Nat.{eq-zero-or-pos}
-use native.Mathlib.Omega.{arith}
 use borrow.Author.Tests.{eqb-true, eqb-false}
 use lib.Dec.{T, leb, eqb}
 use lib.IntN.{ℤ, nat_abs, ◌-ℤ◌}
 use lib.Ieee.{Float, Format, binary64, top, of_bits, to_bits}
 use lib.Ieee.Scale.{finite}
-use Rattle.ieee.specs.Units.{Number, magnitude, value, sign_of, limit, pattern_units}
+use Rattle.ieee.specs.Units.{Number, value, sign_of, limit, pattern_units}
 use Rattle.ieee.proofs.Nearest.{nearest_number}
 use Rattle.ieee.proofs.Pattern.{no_units, bits_units}
 use Rattle.lists.specs.Digits.{number}

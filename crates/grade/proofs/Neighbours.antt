@@ -62,7 +62,8 @@ module _ (f : Format) where
     signed_negative = (bits_units signed_number).0 ∙ ap (leb (top f)) signed_bits_lem ∙ (signed_rest s r below_top).1
 
     pub signed_magnitude : magnitude f (of_bits f (signed_bits s r)) ≡ pattern_units f r
-    signed_magnitude = (bits_units signed_number).1 ∙ ap (λ (b : ℕ). pattern_units f (b % top f)) signed_bits_lem ∙ ap (pattern_units f) (signed_rest s r below_top).0
+    signed_magnitude = (bits_units signed_number).1 ∙ ap (λ (b : ℕ). pattern_units f (b % top f)) signed_bits_lem
+        ∙ ap (pattern_units f) (signed_rest s r below_top).0
 
   -- ---- the least patterns: 0 stands for nothing, and 1 for one unit
   pub one_unit : pattern_units f 1 ≡ 1

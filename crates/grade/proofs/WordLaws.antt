@@ -4,22 +4,22 @@ use mathlib.Core.Path.{◌≡◌, refl, sym, ap, ◌∙◌}
 use mathlib.Core.Logic.{inl, inr}
 use mathlib.Core.Bool.{Bool, true, false, cond}
 use mathlib.Core.List.{List}
-use Prim.Native.Nat.{ℕ, zero, suc, ◌+◌, ◌-◌, ◌*◌, ◌%◌, ◌^◌, ◌≤◌, ◌<◌}
+use Prim.Native.Nat.{ℕ, zero, suc, ◌+◌, ◌-◌, ◌*◌, ◌^◌, ◌≤◌, ◌<◌}
 use native.Mathlib.Nat.{zero-add, not-le_of_lt, lt_of_le_of_lt}
 use native.Mathlib.Omega.{arith}
 use borrow.Author.Tests.{le-leb, lt-leb, eqb-true, eqb-false}
 use lib.Dec.{T, leb, eqb, lit<}
 use lib.IntN.{ℤ, pos, negsuc, ◌-ℤ◌, nat_abs}
 use lib.ListN.{length, get_or}
-use lib.Ieee.{Float, Format, binary64, prec, hid, ones, top, of_bits, to_bits}
+use lib.Ieee.{Float, Format, binary64, prec, hid, top, of_bits, to_bits}
 use lib.Ieee.Bits.{of_bits-to_bits}
 use lib.Ieee.Nearest.{closest}
 use lib.Ieee.Scale.{finite}
-use Rattle.units.specs.Whole.{Whole, nat, ◌⊖◌, ◌≈◌, ◌≼◌, ◌≺◌, difference}
+use Rattle.units.specs.Whole.{◌⊖◌, ◌≈◌, difference}
 use Rattle.units.specs.Rounding.{dropped}
 use Rattle.units.proofs.Powers.{le_or_lt}
 use Rattle.units.proofs.Integers.{mag_difference}
-use Rattle.ieee.specs.Units.{Number, negative, magnitude, signed_whole, value, whole, sign_of, nearest_float, limit, rounded_bits}
+use Rattle.ieee.specs.Units.{Number, magnitude, signed_whole, value, whole, sign_of, limit, rounded_bits}
 use Rattle.ieee.proofs.Write.{round_bits}
 use Rattle.ieee.proofs.Overflow.{rnd_finite, nearest_round, nearest_negative}
 use Rattle.ieee.proofs.Nearest.{nearest_number}
@@ -43,7 +43,8 @@ sign_positive : (n : ℕ) → sign_of false (pos n) ≡ false
 sign_positive zero = refl
 sign_positive (suc n) = refl
 
-pub top_word : (ds : List ℕ) → length ds ≡ word_count → Digits word_bits ds → leb (2 ^ (word_bits - 1)) (get_or ds (word_count - 1) 0) ≡ sign_of false (whole_of ds)
+pub top_word : (ds : List ℕ) → length ds ≡ word_count → Digits word_bits ds
+    → leb (2 ^ (word_bits - 1)) (get_or ds (word_count - 1) 0) ≡ sign_of false (whole_of ds)
 top_word ds l D = elim (le_or_lt (2 ^ (word_bits - 1)) (get_or ds (word_count - 1) 0)) [
   | inr h ↦
       lt-leb (2 ^ (word_bits - 1)) (get_or ds (word_count - 1) 0) h

@@ -1,7 +1,9 @@
 -- What a float that a format holds is in units: a whole number of at most prec bits, below 2 ^ (emax + 1). It is determined by its sign and its units.
 -- Assumes nothing.
-use Rattle.std.specs.Prelude.{◌≡◌, refl, Bool, true, false, ◌&&◌, cond, not, ℕ, zero, suc, ◌+◌, ◌-◌, ◌*◌, ◌/◌, ◌%◌, ◌^◌, ◌≤◌, ◌<◌, ℤ, pos, negsuc, nat_abs, T, leb, ltb, eqb, Float}
-use Rattle.std.proofs.Common.{sym, ap, ◌∙◌, le_of_lt, zero-mul, mul-one, one-mul, mul_assoc, mul_comm, mul_right_comm, mul-div_cancel, mul-lt-mul_of_pos_right, lt_of_mul-lt-mul_right, arith, leb→le, ltb→lt, pow-add, pow_pos}
+use Rattle.std.specs.Prelude.{◌≡◌, refl, Bool, true, false, ◌&&◌, cond, not, ℕ, zero, suc, ◌+◌, ◌-◌, ◌*◌, ◌/◌, ◌%◌, ◌^◌, ◌≤◌, ◌<◌, ℤ, pos, negsuc, nat_abs, T}
+use Rattle.std.specs.Prelude.{leb, ltb, eqb, Float}
+use Rattle.std.proofs.Common.{sym, ap, ◌∙◌, le_of_lt, zero-mul, mul-one, one-mul, mul_assoc, mul_comm, mul_right_comm, mul-div_cancel, mul-lt-mul_of_pos_right}
+use Rattle.std.proofs.Common.{lt_of_mul-lt-mul_right, arith, leb→le, ltb→lt, pow-add, pow_pos}
 use Rattle.std.proofs.Math.IntN.{pos-ne-negsuc}
 use Rattle.std.specs.Float.{nan, inf, fin, Format}
 use Rattle.std.specs.Float.Ieee.{prec, emax, low, up, down, size, fits, is_nan, to_bits, of_bits, top, hid}

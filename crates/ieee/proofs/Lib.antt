@@ -1,3 +1,4 @@
+-- The crate's theorems and lemmas.
 pub mod Compare
 pub mod Exponent
 pub mod FaithfulFloat

@@ -2,7 +2,9 @@
 -- magnitudes, and what the pattern of a number is. r and L are patterns without their sign; the infinity's is `ones f * hid f`. Assumes nothing.
 use Rattle.std.specs.Prelude.{◌≡◌, ◌⊎◌, ◌↔◌, Bool, cond, not, leb, ltb, eqb, Float}
 use Rattle.std.proofs.Math.Path.{refl, ap}
-use Rattle.std.proofs.Common.{sym, ◌∙◌, inl, inr, le_of_eq, le_of_lt, le_antisymm, le_of_suc-le-suc, lt_of_not-le, not-le_of_lt, eq-or-lt_of_le, zero-lt-suc, mul-one, mul_comm, mul-pos, mul-le-mul_left, mul-le-mul_right, mul-lt-mul_of_pos_right, mod-lt, mod-eq_of_lt, div-lt_iff_lt-mul, le-div_iff_mul-le, arith, eqb→eq, lt→ltb, ltb→lt, pow_pos, pow_mono}
+use Rattle.std.proofs.Common.{sym, ◌∙◌, inl, inr, le_of_eq, le_of_lt, le_antisymm, le_of_suc-le-suc, lt_of_not-le, not-le_of_lt, eq-or-lt_of_le, zero-lt-suc}
+use Rattle.std.proofs.Common.{mul-one, mul_comm, mul-pos, mul-le-mul_left, mul-le-mul_right, mul-lt-mul_of_pos_right, mod-lt, mod-eq_of_lt, div-lt_iff_lt-mul}
+use Rattle.std.proofs.Common.{le-div_iff_mul-le, arith, eqb→eq, lt→ltb, ltb→lt, pow_pos, pow_mono}
 use Rattle.std.proofs.Math.Bool.{true, false}
 use Prim.Native.Nat.{ℕ, zero, suc, ◌+◌, ◌-◌, ◌*◌, ◌/◌, ◌%◌, ◌^◌, ◌≤◌, ◌<◌}
 use Rattle.std.proofs.Math.Nat.{lt_of_lt_of_le, pow-succ', div-add-mod', mod-mod_of_dvd, dvd-mul_right, zero-div, zero-mod}

@@ -1,7 +1,8 @@
 -- Split in floats is Split in units: where a factor is far enough from underflow and overflow, nothing overflows, and its halves are numbers of the format
 -- whose units are the halves of its units. Assumes nothing.
 use Rattle.std.specs.Prelude.{◌≡◌, refl, Bool, true, false, ℕ, suc, ◌+◌, ◌-◌, ◌*◌, ◌^◌, ◌≤◌, ◌<◌, Float}
-use Rattle.std.proofs.Common.{sym, ◌∙◌, inl, inr, le_of_lt, one-mul, mul-le-mul_left, mul-le-mul_right, eq-zero-or-pos, arith, lit<, lit≤, pow-add, pow_pos, pow_mono}
+use Rattle.std.proofs.Common.{sym, ◌∙◌, inl, inr, le_of_lt, one-mul, mul-le-mul_left, mul-le-mul_right, eq-zero-or-pos, arith, lit<, lit≤, pow-add, pow_pos}
+use Rattle.std.proofs.Common.{pow_mono}
 use Rattle.std.proofs.Math.Nat.{pow-succ'}
 use Rattle.std.specs.Float.{Format, binary32, binary64}
 use Rattle.std.specs.Float.Ieee.{prec, low, unlike, of_bits, mul}

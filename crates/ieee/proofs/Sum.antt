@@ -1,6 +1,7 @@
 -- The sum and the difference of two floats are the nearest float to the exact sum and difference of their units, overflow included. A sum that is exactly
 -- zero is -0 where both are negative, and +0 otherwise. Assumes nothing.
-use Rattle.std.specs.Prelude.{◌≡◌, refl, Bool, true, false, not, ◌&&◌, ℕ, zero, suc, ◌+◌, ◌-◌, ◌*◌, ◌^◌, ◌≤◌, ◌<◌, pos, neg_ℤ, nat_abs, ◌+ℤ◌, ◌-ℤ◌, T, ltb, Float}
+use Rattle.std.specs.Prelude.{◌≡◌, refl, Bool, true, false, not, ◌&&◌, ℕ, zero, suc, ◌+◌, ◌-◌, ◌*◌, ◌^◌, ◌≤◌, ◌<◌, pos, neg_ℤ, nat_abs, ◌+ℤ◌, ◌-ℤ◌, T, ltb}
+use Rattle.std.specs.Prelude.{Float}
 use Rattle.std.proofs.Common.{sym, ap, ◌∙◌, inl, inr, mul-pos, arith, lt→ltb}
 use Rattle.std.proofs.Math.Nat.{mul-sub}
 use Rattle.std.proofs.Math.Arith.{le→nltb}

@@ -1,7 +1,8 @@
 -- The pattern of a rounded number of units: the digits dropped, times the weight of the exponent's field, plus the rounded quotient. A quotient that rounds
 -- up to 2 ^ prec makes the exponent's field come out right by itself. Assumes nothing.
 use Rattle.std.specs.Prelude.{◌≡◌, ◌⊎◌, Bool, cond, ℕ, suc, ◌+◌, ◌-◌, ◌*◌, ◌/◌, ◌^◌, ◌≤◌, ◌<◌, Float}
-use Rattle.std.proofs.Common.{ap, ◌∙◌, inl, inr, zero-le, add_assoc, le_antisymm, eq-or-lt_of_le, eq-zero-or-pos, mul-div_cancel, mul-lt-mul_of_pos_right, arith, pow_pos}
+use Rattle.std.proofs.Common.{ap, ◌∙◌, inl, inr, zero-le, add_assoc, le_antisymm, eq-or-lt_of_le, eq-zero-or-pos, mul-div_cancel, mul-lt-mul_of_pos_right}
+use Rattle.std.proofs.Common.{arith, pow_pos}
 use Rattle.std.proofs.Math.Nat.{pow-succ'}
 use Rattle.std.specs.Float.{Format}
 use Rattle.std.specs.Float.Ieee.{prec, low, hid, top, round, to_bits, of_bits}

@@ -1,3 +1,4 @@
+-- The crate's theorems and lemmas.
 pub mod AllowedLaws
 pub mod FaultlessLaws
 pub mod FirstBadLaws

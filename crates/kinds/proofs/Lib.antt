@@ -1,3 +1,4 @@
+-- The crate's theorems and lemmas.
 pub mod HeardLaws
 pub mod Hearing
 pub mod LimitsLaws

@@ -81,6 +81,7 @@ module _ (zs : List ℤ) (calls : ℕ) (ws : List ℕ) where
         unfolding settled
         settled_out h = rw (eq-eqb (length zs) lane_count l, eq-eqb (length ws) word_count w, R, h)
 
-        pub settled_in : inside register_bits (lane_sum zs) ≡ true → settled zs calls ws ≡ settling (Counted 0) (settled_lanes (lane_sum zs)) (words_of (lane_sum zs))
+        pub settled_in : inside register_bits (lane_sum zs) ≡ true
+            → settled zs calls ws ≡ settling (Counted 0) (settled_lanes (lane_sum zs)) (words_of (lane_sum zs))
         unfolding settled
         settled_in h = rw (eq-eqb (length zs) lane_count l, eq-eqb (length ws) word_count w, R, h)

@@ -1,6 +1,7 @@
 -- Lanes with room: what the test says of each lane, that no sum of a lane and its carry leaves 63 bits, and that an addition or a withdrawal leaves room for
 -- one call more. Assumes nothing.
-use Rattle.std.specs.Prelude.{◌≡◌, refl, ◌↔◌, Bool, true, false, ◌&&◌, List, [], ◌∷◌, ℕ, zero, suc, ◌+◌, ◌^◌, ◌≤◌, ◌<◌, leb, ℤ, pos, negsuc, neg_ℤ, nat_abs, ◌+ℤ◌, length, get_or, take}
+use Rattle.std.specs.Prelude.{◌≡◌, refl, ◌↔◌, Bool, true, false, ◌&&◌, List, [], ◌∷◌, ℕ, zero, suc, ◌+◌, ◌^◌, ◌≤◌, ◌<◌, leb, ℤ, pos, negsuc, neg_ℤ, nat_abs}
+use Rattle.std.specs.Prelude.{◌+ℤ◌, length, get_or, take}
 use Rattle.std.proofs.Common.{ap, ◌∙◌, arith, leb-true, le-leb}
 use Rattle.std.proofs.lemmas.List.{length-map}
 use Rattle.units.proofs.ExactSum.{abs_plus}
@@ -50,7 +51,8 @@ handed_small calls (negsuc n) f h = omega arith
 pub sum_small : (calls : ℕ) (z c : ℤ) → nat_abs z ≤ lane_limit calls → nat_abs c ≤ calls + 2 → nat_abs (z +ℤ c) ≤ lane_limit calls + (calls + 2)
 sum_small calls z c h k = omega (arith, abs_plus z c)
 
-carry_small : (calls : ℕ) (c : ℤ) (zs : List ℤ) → calls ≤ most_calls → Each (WithinLimit calls) zs → nat_abs c ≤ calls + 2 → nat_abs (lane_carry c zs) ≤ calls + 2
+carry_small : (calls : ℕ) (c : ℤ) (zs : List ℤ) → calls ≤ most_calls → Each (WithinLimit calls) zs → nat_abs c ≤ calls + 2
+    → nat_abs (lane_carry c zs) ≤ calls + 2
 unfolding lane_carry
 carry_small calls c [] f E h = h
 carry_small calls c (z ∷ zs) f E h =

@@ -46,7 +46,8 @@ module _ (n : ℕ) {ds : List ℕ} (D : Words lane_bits (suc n) ds) where
       let t-is = rw (← (signed_is lane_bits (lit< tt) top_digit (D.below.below n))) at (int_is (stands_for lane_bits top_digit)) in
       let all : w ≡ int (stands_for (lane_bits * suc n) (number lane_bits ds)) =
       signed_is (lane_bits * suc n) some (number lane_bits ds) (words_lt lane_bits (suc n) D) in
-      let w-is = rw (← all, top_digit_lem lane_bits (lit< tt) n D, weight_next lane_bits n) at (int_is (stands_for (lane_bits * suc n) (number lane_bits ds))) in
+      let w-is =
+      rw (← all, top_digit_lem lane_bits (lit< tt) n D, weight_next lane_bits n) at (int_is (stands_for (lane_bits * suc n) (number lane_bits ds))) in
       same_is (lane_sum (low ++ (t ∷ []))) w
       (omega (
         arith,

@@ -106,7 +106,8 @@ module _ (zs : List ℤ) (l : length zs ≡ lane_count) where
   lanes_digits = lane_digits_lem lane_count zs l ∙ all_digits
 
   -- rule N5, by the digits
-  pub lanes_settled_lem : inside register_bits (lane_sum zs) ≡ true → settled_lanes (lane_sum zs) ≡ map pos (lane_digits (pos 0) (take low_lanes zs)) ++ (top_lane zs ∷ [])
+  pub lanes_settled_lem : inside register_bits (lane_sum zs) ≡ true
+      → settled_lanes (lane_sum zs) ≡ map pos (lane_digits (pos 0) (take low_lanes zs)) ++ (top_lane zs ∷ [])
   lanes_settled_lem h =
       let ds = lane_digits (pos 0) (take 65 zs) in
       let count : length ds ≡ 65 = digits_count (pos 0) (take 65 zs) ∙ low_count in

@@ -1,5 +1,6 @@
 -- The register that carries later: its lanes and the whole number that they stand for, an addition, a withdrawal and settling. Definitions only.
-use Rattle.std.specs.Prelude.{Bool, cond, not, ◌&&◌, List, [], ◌∷◌, ◌++◌, map, ℕ, suc, ◌+◌, ◌*◌, ◌^◌, eqb, leb, ℤ, pos, negsuc, neg_ℤ, nat_abs, ◌+ℤ◌, ◌*ℤ◌, length, take, get_or, replicate}
+use Rattle.std.specs.Prelude.{Bool, cond, not, ◌&&◌, List, [], ◌∷◌, ◌++◌, map, ℕ, suc, ◌+◌, ◌*◌, ◌^◌, eqb, leb, ℤ, pos, negsuc, neg_ℤ, nat_abs, ◌+ℤ◌, ◌*ℤ◌}
+use Rattle.std.specs.Prelude.{length, take, get_or, replicate}
 use Rattle.lists.specs.Digits.{digits, signed, residue, inside}
 use Rattle.lists.specs.Every.{every}
 use Rattle.kinds.specs.Limits.{doubles}

@@ -86,7 +86,8 @@ module _ (sheet numbers others : List ℕ) (h : doubles.length ≤ length number
         let p : take n (read_of doubles sheet numbers).area ≡ take n (read_of doubles sheet others).area =
         read_list sheet numbers work text refl n e ∙ sym (read_list sheet others works text refl n f) in
         let w : length (take n work) ≡ length (take n works) = length-take-le n work (omega arith) ∙ sym (length-take-le n works (omega arith)) in
-        let s : list_lines (take n (read_of doubles sheet numbers).area) (take n work) ≡ list_lines (take n (read_of doubles sheet others).area) (take n works) =
+        let s : list_lines (take n (read_of doubles sheet numbers).area) (take n work)
+        ≡ list_lines (take n (read_of doubles sheet others).area) (take n works) =
         ap (λ (ps : List ℕ). list_lines ps (take n work)) p ∙ list_same (take n (read_of doubles sheet others).area) (take n work) (take n works) w in (
           ap (λ (q : Printed). q.count) one ∙ ap length s ∙ sym (ap (λ (q : Printed). q.count) two),
           ap (λ (q : Printed). q.text) one ∙ ap (λ (bytes : List ℕ). bytes ++ drop (length bytes) text) s ∙ sym (ap (λ (q : Printed). q.text) two),

@@ -1,7 +1,8 @@
 -- A set as the digits of one number: the code's shifts and masks are the definitions, which members a set keeps where one is taken out or where it is full,
 -- and that a set without members is 0. Assumes nothing.
 use Rattle.std.specs.Prelude.{◌≡◌, refl, true, false, ℕ, zero, suc, ◌+◌, ◌-◌, ◌*◌, ◌/◌, ◌%◌, ◌^◌, ◌≤◌, ◌<◌, min, eqb}
-use Rattle.std.proofs.Common.{sym, ap, ◌∙◌, inl, inr, pow-suc, one-mul, mul-div_cancel, mod-lt, div-lt_iff_lt-mul, arith, eqb-true, eq-eqb, ne_eqb, pow_pos, pow-add, pow_mono, shl_exact, shr-shr, lit<}
+use Rattle.std.proofs.Common.{sym, ap, ◌∙◌, inl, inr, pow-suc, one-mul, mul-div_cancel, mod-lt, div-lt_iff_lt-mul, arith, eqb-true, eq-eqb, ne_eqb, pow_pos}
+use Rattle.std.proofs.Common.{pow-add, pow_mono, shl_exact, shr-shr, lit<}
 use Rattle.std.proofs.Math.Nat.{zero-min, div-eq_of_lt, add-mul-div_right, add-mul-mod_self_right}
 use Rattle.std.proofs.lemmas.Bool.{eqb-false}
 use Rattle.std.specs.Int.Bits.{bit_and, and_step}

@@ -1,7 +1,8 @@
 -- A list whose first i places are done, `a ++ drop i l`: what a loop that stores at i reads and leaves, and what a loop that maps one list into another
 -- leaves at each place and at the end. Assumes nothing.
 use Rattle.std.specs.Prelude.{◌≡◌, refl, List, [], ◌∷◌, ◌++◌, map, ℕ, zero, suc, ◌+◌, ◌≤◌, ◌<◌, length, take, drop, get_or, set}
-use Rattle.std.proofs.Common.{sym, ◌∙◌, append_assoc, append-nil, add-one, arith, length-append, length-drop, drop_of_length-le, drop-cons, take-suc, take_all, length-take-le}
+use Rattle.std.proofs.Common.{sym, ◌∙◌, append_assoc, append-nil, add-one, arith, length-append, length-drop, drop_of_length-le, drop-cons, take-suc, take_all}
+use Rattle.std.proofs.Common.{length-take-le}
 use Rattle.std.proofs.lemmas.List.{map-append, length-map, get_or_at, set_at}
 
 module _ {A : Type 0} (d : A) (a l : List A) (i : ℕ) (e : length a ≡ i) (h : i < length l) where

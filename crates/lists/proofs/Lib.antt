@@ -1,3 +1,4 @@
+-- The crate's theorems and lemmas.
 pub mod Apart
 pub mod BitsetLaws
 pub mod CarryLaws

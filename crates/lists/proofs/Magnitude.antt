@@ -18,7 +18,8 @@ magnitude_negative b u h l = rw (signed_high b h) (back (2 ^ b) l)
     back B l = omega arith
 
 -- the sign is told by the top digit
-pub top_digit_lem : {w : ℕ} (ds : List ℕ) (m : ℕ) → 0 < w → length ds ≡ suc m → Digits w ds → (get_or ds m 0 < 2 ^ (w - 1)) ↔ (number w ds < 2 ^ (w * suc m - 1))
+pub top_digit_lem : {w : ℕ} (ds : List ℕ) (m : ℕ) → 0 < w → length ds ≡ suc m → Digits w ds
+    → (get_or ds m 0 < 2 ^ (w - 1)) ↔ (number w ds < 2 ^ (w * suc m - 1))
 top_digit_lem {w} ds m W l D =
     rw (split, half)
     (λ h. digits_lt h (number_take_lt w ds D (omega arith)), λ h. lt_of_not-le (λ g. omega (arith, h, mul-le-mul_right (2 ^ (w * m)) g)))

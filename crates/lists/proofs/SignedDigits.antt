@@ -90,10 +90,12 @@ module _ (w : ℕ) where
       after : (z : ℤ) → top (w * suc i) (residue (w * suc i) z) ≡ top_bit i (cut w (suc i) z)
       after z = ap (top (w * suc i)) (sym (cut_number w (suc i) z)) ∙ top_digit_lem (cut_words w (suc i) z)
 
-      pub cut_plus_inside : inside (w * suc i) (whole w (suc i) ds +ℤ pos m) ≡ not (ltb (top_bit i ds) (top_bit i (cut w (suc i) (whole w (suc i) ds +ℤ pos m))))
+      pub cut_plus_inside : inside (w * suc i) (whole w (suc i) ds +ℤ pos m)
+          ≡ not (ltb (top_bit i ds) (top_bit i (cut w (suc i) (whole w (suc i) ds +ℤ pos m))))
       cut_plus_inside =
           rw (top_digit_lem D, after (whole w (suc i) ds +ℤ pos m)) at (plus_inside (w * suc i) some (number w ds) m (words_lt w (suc i) D) h)
 
-      pub cut_minus_inside : inside (w * suc i) (whole w (suc i) ds -ℤ pos m) ≡ not (ltb (top_bit i (cut w (suc i) (whole w (suc i) ds -ℤ pos m))) (top_bit i ds))
+      pub cut_minus_inside : inside (w * suc i) (whole w (suc i) ds -ℤ pos m)
+          ≡ not (ltb (top_bit i (cut w (suc i) (whole w (suc i) ds -ℤ pos m))) (top_bit i ds))
       cut_minus_inside =
           rw (top_digit_lem D, after (whole w (suc i) ds -ℤ pos m)) at (minus_inside (w * suc i) some (number w ds) m (words_lt w (suc i) D) h)

@@ -1,6 +1,7 @@
 -- Shifts of words of w digits: the leading w digits of two words, and whether anything is left of the lower one. Assumes nothing.
 use Rattle.std.specs.Prelude.{◌≡◌, ℕ, ◌+◌, ◌-◌, ◌*◌, ◌/◌, ◌%◌, ◌^◌, ◌≤◌, ◌<◌, ltb}
-use Rattle.std.proofs.Common.{sym, ap, ◌∙◌, inl, inr, eq-zero-or-pos, le_of_eq, add-zero, zero-mul, mul-pos, arith, lt-ltb, pow-add, pow_pos, shl_exact, shr-shr, shr_lt}
+use Rattle.std.proofs.Common.{sym, ap, ◌∙◌, inl, inr, eq-zero-or-pos, le_of_eq, add-zero, zero-mul, mul-pos, arith, lt-ltb, pow-add, pow_pos, shl_exact}
+use Rattle.std.proofs.Common.{shr-shr, shr_lt}
 use Rattle.std.proofs.Math.Nat.{mul-mod_left}
 use Rattle.std.proofs.Math.Arith.{digits_lt}
 use Rattle.std.proofs.lemmas.Nat.{shl-shr, mod-pow-add}

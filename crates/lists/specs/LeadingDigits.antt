@@ -1,7 +1,8 @@
 -- The leading digits of a number in base 2 ^ w: the two words at its top give its leading w binary digits, how many stand below those, and with the words
 -- under them whether any of these is set. Assumes nothing.
 use Rattle.std.specs.Prelude.{◌≡◌, refl, List, [], ◌∷◌, ℕ, zero, suc, ◌+◌, ◌-◌, ◌*◌, ◌/◌, ◌%◌, ◌^◌, ◌≤◌, ◌<◌, ltb, length, get_or, take}
-use Rattle.std.proofs.Common.{sym, ap, ◌∙◌, add_comm, mul_comm, le_antisymm, lt_of_not-le, mul-pos, mod-lt, div-add-mod', mul-le-mul_right, arith, lt-ltb, pow-add, pow_pos, pow_mono}
+use Rattle.std.proofs.Common.{sym, ap, ◌∙◌, add_comm, mul_comm, le_antisymm, lt_of_not-le, mul-pos, mod-lt, div-add-mod', mul-le-mul_right, arith, lt-ltb}
+use Rattle.std.proofs.Common.{pow-add, pow_pos, pow_mono}
 use Rattle.std.proofs.Math.Arith.{digits_div, digits_mod, digits_lt}
 use Rattle.std.proofs.Math.Seq.{take-length}
 use Rattle.std.specs.Float.Ieee.{size}

@@ -1,3 +1,4 @@
+-- The crate's theorems and lemmas.
 pub mod BitsLaws
 pub mod HeadLaws
 pub mod NearestBits

@@ -1,7 +1,9 @@
 -- The pattern of the float nearest to S units, put together from its sign and its magnitude: without the sign it reaches the infinity's exactly where the
 -- nearest float isn't finite, and it is zero only at zero. Assumes nothing.
-use Rattle.std.specs.Prelude.{◌≡◌, ℕ, suc, ◌+◌, ◌-◌, ◌*◌, ◌%◌, ◌^◌, ◌<◌, ◌≤◌, Bool, true, false, cond, not, T, ◌↔◌, ℤ, ◌==◌, from_bits, nat_eq, unsigned_abs, refl}
-use Rattle.std.proofs.Common.{sym, ap, ◌∙◌, inl, inr, eq-zero-or-pos, not-le_of_lt, lt_of_not-le, zero-add, mod-eq_of_lt, mul-pos, mul-le-mul_left, mul-le-mul_right, mul-lt-mul_of_pos_right, le_of_mul-le-mul_right, lt_of_mul-lt-mul_right, arith, ne_eqb, pow-add, pow_pos}
+use Rattle.std.specs.Prelude.{◌≡◌, ℕ, suc, ◌+◌, ◌-◌, ◌*◌, ◌%◌, ◌^◌, ◌<◌, ◌≤◌, Bool, true, false, cond, not, T, ◌↔◌, ℤ, ◌==◌, from_bits, nat_eq, unsigned_abs}
+use Rattle.std.specs.Prelude.{refl}
+use Rattle.std.proofs.Common.{sym, ap, ◌∙◌, inl, inr, eq-zero-or-pos, not-le_of_lt, lt_of_not-le, zero-add, mod-eq_of_lt, mul-pos, mul-le-mul_left}
+use Rattle.std.proofs.Common.{mul-le-mul_right, mul-lt-mul_of_pos_right, le_of_mul-le-mul_right, lt_of_mul-lt-mul_right, arith, ne_eqb, pow-add, pow_pos}
 use Prim.Native.Nat.{compare, Ordering}
 use Rattle.std.proofs.Math.Nat.{add-mod_left}
 use Rattle.std.proofs.Math.Arith.{le→nltb}
@@ -80,7 +82,8 @@ module _ (f : Format) where
           let r : closest n (2 ^ 0) * 2 ^ 0 ≡ n = rw e at (sym (rnd_is (prec f) n) ∙ rnd_whole (prec f) (prec_pos f) e) in
           rw e (omega arith)
 
-  pub bits_nearest : (z : Bool) (S : ℤ) → unsigned_abs S < limit f → from_bits f (cond (sign_of z S) (top f) 0 + rounded_bits f false (unsigned_abs S)) ≡ nearest_float f z S
+  pub bits_nearest : (z : Bool) (S : ℤ) → unsigned_abs S < limit f
+      → from_bits f (cond (sign_of z S) (top f) 0 + rounded_bits f false (unsigned_abs S)) ≡ nearest_float f z S
   bits_nearest z S l = rw (plain (unsigned_abs S)) (bits_round f (sign_of z S) (unsigned_abs S) (rnd_finite f l) ∙ sym (nearest_round f z S))
 
   -- below the infinity's it is no NaN's pattern

@@ -1,6 +1,7 @@
 -- Rounding needs only the leading digits of a number, and whether anything stands below them. Assumes nothing.
 use Rattle.std.specs.Prelude.{◌≡◌, ℕ, suc, ◌+◌, ◌-◌, ◌*◌, ◌/◌, ◌%◌, ◌^◌, ◌<◌, ◌≤◌, Bool, cond, ◌⊎◌, nat_lt, refl}
-use Rattle.std.proofs.Common.{sym, ap, ◌∙◌, inl, inr, le_antisymm, le_of_lt, lt_of_lt_of_le, eq-zero-or-pos, add_comm, mul_comm, mul-le-mul_right, mod-lt, div-lt_iff_lt-mul, arith, lt-ltb, pow-add, pow_pos, shr-shr}
+use Rattle.std.proofs.Common.{sym, ap, ◌∙◌, inl, inr, le_antisymm, le_of_lt, lt_of_lt_of_le, eq-zero-or-pos, add_comm, mul_comm, mul-le-mul_right, mod-lt}
+use Rattle.std.proofs.Common.{div-lt_iff_lt-mul, arith, lt-ltb, pow-add, pow_pos, shr-shr}
 use Prim.Native.Nat.{compare, Ordering}
 use Rattle.std.proofs.lemmas.Nat.{mod-pow-add}
 use Rattle.std.specs.Float.Ieee.{size, nearest}

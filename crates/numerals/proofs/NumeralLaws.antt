@@ -1,6 +1,7 @@
 -- Numerals: the fewest decimal digits of the kit are ours, how many there are at most, and hex digits stored from the last on. Assumes nothing.
 use Rattle.std.specs.Prelude.{◌≡◌, refl, Bool, cond, List, [], ◌∷◌, ◌++◌, ℕ, zero, suc, ◌+◌, ◌-◌, ◌*◌, ◌/◌, ◌%◌, ◌^◌, ◌≤◌, ◌<◌, length, take, drop, set}
-use Rattle.std.proofs.Common.{sym, ap, ◌∙◌, inl, inr, mod-lt, mod-eq_of_lt, div-one, div-lt_iff_lt-mul, le-div_iff_mul-le, pow-suc, arith, lt-ltb, le-ltb, length-append, length-set, drop_at, length-take-le}
+use Rattle.std.proofs.Common.{sym, ap, ◌∙◌, inl, inr, mod-lt, mod-eq_of_lt, div-one, div-lt_iff_lt-mul, le-div_iff_mul-le, pow-suc, arith, lt-ltb, le-ltb}
+use Rattle.std.proofs.Common.{length-append, length-set, drop_at, length-take-le}
 use Rattle.std.proofs.Math.Nat.{div-div-eq-div-mul, pow-zero, one-le-pow}
 use Rattle.std.proofs.lemmas.List.{set_split}
 use Rattle.std.proofs.Math.Seq.{drop-length}

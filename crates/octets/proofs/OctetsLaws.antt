@@ -1,7 +1,8 @@
 -- Numbers in bytes: one byte more, bytes cut in two, the bound, and that bytes and number determine each other, most significant byte first and least.
 -- Assumes nothing.
 use Rattle.std.specs.Prelude.{◌≡◌, ℕ, suc, ◌+◌, ◌-◌, ◌*◌, ◌/◌, ◌%◌, ◌^◌, ◌≤◌, ◌<◌, length, get_or, take, drop, set}
-use Rattle.std.proofs.Common.{sym, ap, ◌∙◌, add-zero, mod-eq_of_lt, add-one, arith, pow_pos, pow_mono, take-append-drop, length-append, length-drop, take-suc, take-add, drop-cons, drop-drop, get_or-drop, length-take-le}
+use Rattle.std.proofs.Common.{sym, ap, ◌∙◌, add-zero, mod-eq_of_lt, add-one, arith, pow_pos, pow_mono, take-append-drop, length-append, length-drop, take-suc}
+use Rattle.std.proofs.Common.{take-add, drop-cons, drop-drop, get_or-drop, length-take-le}
 use mathlib.Core.List.{List, [], ◌∷◌, ◌++◌, append_assoc, append-nil, reverse, reverse_aux, reverse-append, reverse-reverse}
 use Rattle.std.proofs.Math.Nat.{div-div-eq-div-mul}
 use Rattle.std.proofs.lemmas.List.{length-reverse, set_at}

@@ -70,4 +70,5 @@ pub products_refusal : (ps qs out : List ℕ) (k i : ℕ) → (multiplied_of dou
 products_refusal ps qs out k i e = wider (pairs_refusal ((multiplied_when double_pairs ps qs out (Refused k i)).0 e))
 
 pub weighted_refusal : (ps qs : List ℕ) → NearestRefusal (weighted_of double_pairs ps qs)
-weighted_refusal ps qs = nearest_by doubles (lit≤ tt) (weighted_of double_pairs ps qs) (λ k i e. wider (pairs_refusal ((weighted_when double_pairs ps qs k i).0 e)))
+weighted_refusal ps qs = nearest_by doubles (lit≤ tt) (weighted_of double_pairs ps qs)
+    (λ k i e. wider (pairs_refusal ((weighted_when double_pairs ps qs k i).0 e)))

@@ -32,10 +32,12 @@ module _ (ps qs out : List ℕ) where
       (λ p e. pairs_some ((weighted_heard double_pairs ps qs 0 p).0 e).1 refl) (other_nonzero ps qs)
 
   -- ---- determined
-  pub products_determined : {r q : ℕ} {us vs : List ℕ} → outcome r us ≡ products_arrays ps qs out → outcome q vs ≡ products_arrays ps qs out → (r ≡ q) × (us ≡ vs)
+  pub products_determined : {r q : ℕ} {us vs : List ℕ} → outcome r us ≡ products_arrays ps qs out → outcome q vs ≡ products_arrays ps qs out
+      → (r ≡ q) × (us ≡ vs)
   products_determined = determined (products_arrays ps qs out)
 
-  pub weighted_determined : {r q : ℕ} {us vs : List ℕ} → outcome r us ≡ weighted_arrays ps qs out → outcome q vs ≡ weighted_arrays ps qs out → (r ≡ q) × (us ≡ vs)
+  pub weighted_determined : {r q : ℕ} {us vs : List ℕ} → outcome r us ≡ weighted_arrays ps qs out → outcome q vs ≡ weighted_arrays ps qs out
+      → (r ≡ q) × (us ≡ vs)
   weighted_determined = determined (weighted_arrays ps qs out)
 
   -- ---- what a refusal leaves

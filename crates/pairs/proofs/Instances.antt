@@ -33,5 +33,6 @@ roomy_doubles = record {
   twice = lit≤ tt;
 }
 
-pub pair_64 : (c : Pair) → pair_fault double_pairs c ≡ 0 → TwoNumbers doubles c (to_bits binary64 (product_of binary64 c)) (to_bits binary64 (error_of binary64 c))
+pub pair_64 : (c : Pair) → pair_fault double_pairs c ≡ 0
+    → TwoNumbers doubles c (to_bits binary64 (product_of binary64 c)) (to_bits binary64 (error_of binary64 c))
 pair_64 = each_pair double_pairs roomy_doubles

@@ -75,7 +75,8 @@ module _ (ws : List ℕ) (xs ys zs : List Change) (p : ℕ) where
   without_p = (changed leaves (withdraw p)).area
 
   pub farewell_any : Held ws → (changed joins (add p)).answer ≡ Entered → (changed leaves (withdraw p)).answer ≡ Entered
-      → run ws (history xs ys zs p) ≡ words_of (whole_of ws +ℤ exact_sum (map change_of (stayed (entered_of ws xs) (entered_of with_p ys) (entered_of without_p zs))))
+      → run ws (history xs ys zs p)
+      ≡ words_of (whole_of ws +ℤ exact_sum (map change_of (stayed (entered_of ws xs) (entered_of with_p ys) (entered_of without_p zs))))
   farewell_any H a b =
       let parts = history (entered_of ws xs) (entered_of with_p ys) (entered_of without_p zs) p in
       let e : entered_of ws (history xs ys zs p) ≡ parts =

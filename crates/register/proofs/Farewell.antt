@@ -23,7 +23,8 @@ module _ (ws : List ℕ) (H : Held ws) where
   run_words cs A = sym (cut_whole word_bits word_count (lit< tt) (run_held ws cs H)) ∙ ap words_of (run_whole ws cs A)
 
   -- two histories with the same changes in all end in the same words
-  pub run_same : (cs ds : List Change) → AllEntered ws cs → AllEntered ws ds → exact_sum (map change_of cs) ≡ exact_sum (map change_of ds) → run ws cs ≡ run ws ds
+  pub run_same : (cs ds : List Change) → AllEntered ws cs → AllEntered ws ds → exact_sum (map change_of cs) ≡ exact_sum (map change_of ds)
+      → run ws cs ≡ run ws ds
   run_same cs ds A B e = run_words cs A ∙ ap (λ (z : ℤ). words_of (whole_of ws +ℤ z)) e ∙ sym (run_words ds B)
 
 pub gone : (xs ys zs : List Change) (p : ℕ) → exact_sum (map change_of (history xs ys zs p)) ≡ exact_sum (map change_of (stayed xs ys zs))
@@ -35,7 +36,8 @@ gone [] ys zs p =
   where
     leaves : (ys : List Change) → exact_sum (map change_of (ys ++ (withdraw p ∷ zs))) ≡ exact_sum (map change_of (ys ++ zs)) -ℤ units_of doubles p
     leaves [] = +ℤ_comm (neg_ℤ (units_of doubles p)) (exact_sum (map change_of zs))
-    leaves (y ∷ ys) = ap (λ (z : ℤ). change_of y +ℤ z) (leaves ys) ∙ sym (+ℤ_assoc (change_of y) (exact_sum (map change_of (ys ++ zs))) (neg_ℤ (units_of doubles p)))
+    leaves (y ∷ ys) = ap (λ (z : ℤ). change_of y +ℤ z) (leaves ys)
+        ∙ sym (+ℤ_assoc (change_of y) (exact_sum (map change_of (ys ++ zs))) (neg_ℤ (units_of doubles p)))
 
 -- after it the words are those of what stayed
 pub farewell_words : (ws : List ℕ) (xs ys zs : List Change) (p : ℕ) → Held ws → AllEntered ws (history xs ys zs p)

@@ -29,7 +29,8 @@ use Rattle.register.proofs.EnterLaws.{enter_out, enter_in}
 module _ {ws : List ℕ} (W : Held ws) where
   pub undone : (u : ℤ) → words_of (whole_of (words_of (whole_of ws +ℤ u)) -ℤ u) ≡ ws
   undone u =
-      cut_plus word_bits word_count (lit< tt) (neg_ℤ u) (whole_of ws +ℤ u) ∙ ap words_of (+ℤ-neg_ℤ_cancel (whole_of ws) u) ∙ cut_whole word_bits word_count (lit< tt) W
+      cut_plus word_bits word_count (lit< tt) (neg_ℤ u) (whole_of ws +ℤ u) ∙ ap words_of (+ℤ-neg_ℤ_cancel (whole_of ws) u)
+      ∙ cut_whole word_bits word_count (lit< tt) W
 
   pub in_range_lem : (p : ℕ) → fault_of doubles p ≡ 0
       → inside register_bits (whole_of ws +ℤ units_of doubles p) ≡ not (leaves p (sign_bit ws) (sign_bit (words_of (whole_of ws +ℤ units_of doubles p))))
@@ -53,5 +54,6 @@ module _ {ws es : List ℕ} (W : Held ws) (p : ℕ) (e : fault_of doubles p ≡ 
   pub stayed : leaves p (sign_bit ws) (sign_bit es) ≡ false → outcome Entered es ≡ added ws p
   stayed l = rw s (sym (enter_in ws p (whole_of ws +ℤ units_of doubles p) W.long e (out false l)))
 
-  pub left : {vs : List ℕ} → leaves p (sign_bit ws) (sign_bit es) ≡ true → vs ≡ words_of (whole_of es -ℤ units_of doubles p) → outcome (Refused 9 0) vs ≡ added ws p
+  pub left : {vs : List ℕ} → leaves p (sign_bit ws) (sign_bit es) ≡ true → vs ≡ words_of (whole_of es -ℤ units_of doubles p)
+      → outcome (Refused 9 0) vs ≡ added ws p
   left l v = rw (v, s, undone W (units_of doubles p)) (sym (enter_out ws p (whole_of ws +ℤ units_of doubles p) W.long e (out true l)))

@@ -59,7 +59,8 @@ module _ (us vs out : List ℕ) where
 
 module _ (ws out : List ℕ) where
   pub round_coded : Coded 1 (length out) 4 (nearest_heard doubles (rounded ws)) (round_arrays ws out).answer
-  round_coded = coded 1 (length out) 4 (nearest_heard doubles (rounded ws)) (λ l. ap answer_in (round_rounded ws out l)) (λ l. ap answer_in (round_other ws out l))
+  round_coded = coded 1 (length out) 4 (nearest_heard doubles (rounded ws)) (λ l. ap answer_in (round_rounded ws out l))
+      (λ l. ap answer_in (round_other ws out l))
       (λ p e. round_some ((round_heard ws 0 p).0 e).1 refl) (λ z. omega arith)
 
 -- ---- determined

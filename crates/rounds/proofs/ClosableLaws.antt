@@ -1,5 +1,4 @@
 -- What the code of a close takes from `Closable`: M is at most 12, and sigma is a power of two of the format. Assumes nothing.
-use Prim.Native.Nat.{ℕ, ◌≤◌}
 use native.Mathlib.Omega.{arith}
 use lib.Ieee.{binary64}
 use Rattle.kinds.specs.Limits.{doubles}

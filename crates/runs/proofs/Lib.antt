@@ -1,3 +1,4 @@
+-- The crate's theorems and lemmas.
 pub mod AnswerNumbers
 pub mod AnyOrder
 pub mod AnyRun

@@ -1,7 +1,8 @@
 -- A pending block that is taken: it turns exactly its own places, and what was taken before and the block are what is taken then. Assumes nothing.
 use Rattle.std.specs.Prelude.{◌≡◌, ◌⊎◌, Bool, true, false, ℕ, suc, ◌+◌, ◌-◌, ◌*◌, ◌/◌, ◌≤◌, ◌<◌, max, drop, Float}
 use Rattle.std.proofs.Math.Path.{sym, ap}
-use Rattle.std.proofs.Common.{◌∙◌, mul_comm, suc-mul, le-div_iff_mul-le, div-lt_iff_lt-mul, arith, length-take, take-append-drop, take_all, take_at, drop_at, drop-drop}
+use Rattle.std.proofs.Common.{◌∙◌, mul_comm, suc-mul, le-div_iff_mul-le, div-lt_iff_lt-mul, arith, length-take, take-append-drop, take_all, take_at, drop_at}
+use Rattle.std.proofs.Common.{drop-drop}
 use Rattle.std.proofs.Math.Logic.{inl, inr}
 use mathlib.Core.List.{List, [], ◌∷◌, ◌++◌, append-nil, map}
 use Rattle.std.proofs.Math.ListN.{length, take, length-drop, drop_of_length-le, length-append}

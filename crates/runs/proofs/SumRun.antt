@@ -94,5 +94,7 @@ module _ {W : Width} {F : Fitting W} {S : Whole} {n : ℕ} where
 
   pub run_faithful : {s : State} {xs : List Float} (k : ℕ) (told : Float) → SumRunning W F S n s xs → s.rounds + k ≡ W.rounds
       → Faithfully W S (rounds_from W (blocks_of W n) (suc k) (outcome (More s told) xs))
-  run_faithful {s = s} {xs = xs} zero told A h = closing A 0 told (λ s' m e. let N = sum_goes A s' m e in absurd (omega (arith, N.1, begun_rounds N.0.summing.begun)))
-  run_faithful {s = s} {xs = xs} (suc k) told A h = closing A (suc k) told (λ s' m e. let N = sum_goes A s' m e in run_faithful {s = s'} {xs = all_left W s xs} k m N.0 (omega (arith, N.1)))
+  run_faithful {s = s} {xs = xs} zero told A h = closing A 0 told
+      (λ s' m e. let N = sum_goes A s' m e in absurd (omega (arith, N.1, begun_rounds N.0.summing.begun)))
+  run_faithful {s = s} {xs = xs} (suc k) told A h = closing A (suc k) told
+      (λ s' m e. let N = sum_goes A s' m e in run_faithful {s = s'} {xs = all_left W s xs} k m N.0 (omega (arith, N.1)))

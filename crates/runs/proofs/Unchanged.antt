@@ -41,7 +41,6 @@ use Rattle.runs.specs.Runs.{Ran, heeded, tried, run_of, tried_before, run_before
 use Rattle.runs.proofs.Reached.{During, Reached, reached_opens, reached_step}
 use Rattle.runs.proofs.GoingLaws.{accepted_walk}
 use Rattle.runs.proofs.Faithful.{faithful_promised}
-use Rattle.runs.specs.ReorderedRounds.{going}
 
 module _ {W : Width} (F : Fitting W) (k : ℕ) (ps : List ℕ) (work : List Float) where
   -- ---- a step of a run, at any block

@@ -27,7 +27,6 @@ use Rattle.runs.specs.OpenedSum.{zero_of}
 use Rattle.runs.proofs.OpenedSum.{minus_all_zero, opened_zero}
 use Rattle.runs.specs.Faithful.{FaithfulSum}
 use Rattle.runs.proofs.Faithful.{faithful_promised}
-use Rattle.runs.specs.ReorderedRounds.{going}
 
 module _ {W : Width} (F : Fitting W) (ps : List ℕ) (work : List Float) (G : ListWhen W (eqb (length work) (length ps)) true ps Good) where
   -- ---- nothing but -0

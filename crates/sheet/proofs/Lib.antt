@@ -1,3 +1,4 @@
+-- The crate's theorems and lemmas.
 pub mod HeaderLaws
 pub mod Instances
 pub mod LayoutLaws

@@ -1,3 +1,4 @@
+-- The crate's theorems and lemmas.
 pub mod RescueCodes
 pub mod SheetArraysLaws
 pub mod SheetCodes

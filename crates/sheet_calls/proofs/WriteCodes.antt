@@ -33,7 +33,8 @@ module _ (ps area out : List ℕ) where
   -- ---- exactly when
   pub write_coded : Coded 1 (length out) (too_many_or_4 ps) (written_heard (written_of doubles ps area).answer) (write_arrays ps area out).code
   write_coded = coded 1 (length out) (too_many_or_4 ps) (written_heard (written_of doubles ps area).answer)
-      (λ l. ap code_in (write_written l)) (λ l. ap code_in (write_other l)) (λ p e. some ((write_heard doubles ps area 0 p).0 e).1 refl) (list_nonzero doubles ps)
+      (λ l. ap code_in (write_written l)) (λ l. ap code_in (write_other l)) (λ p e. some ((write_heard doubles ps area 0 p).0 e).1 refl)
+      (list_nonzero doubles ps)
 
   -- ---- determined
   pub write_determined : {r q : ℕ} {xs ys us vs : List ℕ} → returned r xs us ≡ write_arrays ps area out → returned q ys vs ≡ write_arrays ps area out

@@ -1,1 +1,2 @@
+-- The crate's theorems and lemmas.
 pub mod WideLaws

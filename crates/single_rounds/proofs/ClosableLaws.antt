@@ -1,6 +1,5 @@
 -- scripts/singles writes this file, from crates/rounds/proofs/ClosableLaws.antt.
 -- What the code of a close takes from `Closable`: M is at most 11, and sigma is a power of two of the format. Assumes nothing.
-use Prim.Native.Nat.{ℕ, ◌≤◌}
 use native.Mathlib.Omega.{arith}
 use lib.Ieee.{binary32}
 use Rattle.kinds.specs.Limits.{singles}

@@ -1,3 +1,4 @@
+-- The crate's theorems and lemmas.
 pub mod AdmittedLaws
 pub mod GateLaws
 pub mod LimitLaws

@@ -70,7 +70,8 @@ module _ {f : Format} {x : Float} (X : Number f x) (s : negative x ≡ false) (r
   power_bits : eqb (to_bits f (power_of f (exponent_in f x))) (to_bits f x) ≡ eqb (magnitude f x) (2 ^ exponent_in f x)
   power_bits =
       same_test (eqb (to_bits f (power_of f (exponent_in f x))) (to_bits f x)) (eqb (magnitude f x) (2 ^ exponent_in f x))
-      (λ t. eq→eqb (units (eqb→eq (to_bits f (power_of f (exponent_in f x))) (to_bits f x) t))) (λ t. eq→eqb (bits (eqb→eq (magnitude f x) (2 ^ exponent_in f x) t)))
+      (λ t. eq→eqb (units (eqb→eq (to_bits f (power_of f (exponent_in f x))) (to_bits f x) t)))
+      (λ t. eq→eqb (bits (eqb→eq (magnitude f x) (2 ^ exponent_in f x) t)))
     where
       units : to_bits f (power_of f (exponent_in f x)) ≡ to_bits f x → magnitude f x ≡ 2 ^ exponent_in f x
       units e =

@@ -1,3 +1,4 @@
+-- The crate's theorems and lemmas.
 pub mod OpenZeros
 pub mod Readable
 pub mod StepArraysLaws

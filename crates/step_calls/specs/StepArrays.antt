@@ -33,7 +33,8 @@ float_in W numbers i = float_at W.format (get_or numbers i 0)
 
 abbrev pub state_in : Width → List ℕ → State
 state_in W numbers =
-    state_of (get_or numbers 4 0) (float_in W numbers 1) (float_in W numbers 2) (float_in W numbers 3) (get_or numbers 5 0) (get_or numbers 6 0) (get_or numbers 7 0)
+    state_of (get_or numbers 4 0) (float_in W numbers 1) (float_in W numbers 2) (float_in W numbers 3) (get_or numbers 5 0) (get_or numbers 6 0)
+    (get_or numbers 7 0)
     (float_in W numbers 8)
 
 -- ---- of any width

@@ -1,5 +1,6 @@
 -- The sums of a list's positive and of its negative numbers: one number more, how large they are, and their difference, which is the sum. Assumes nothing.
-use Rattle.std.specs.Prelude.{◌≡◌, refl, List, [], ◌∷◌, ◌++◌, map, ℕ, suc, ◌+◌, ◌-◌, ◌*◌, ◌/◌, ◌%◌, ◌^◌, ◌≤◌, ◌<◌, ℤ, pos, negsuc, ◌+ℤ◌, ◌-ℤ◌, nat_abs, length, take, drop, get_or, replicate}
+use Rattle.std.specs.Prelude.{◌≡◌, refl, List, [], ◌∷◌, ◌++◌, map, ℕ, suc, ◌+◌, ◌-◌, ◌*◌, ◌/◌, ◌%◌, ◌^◌, ◌≤◌, ◌<◌, ℤ, pos, negsuc, ◌+ℤ◌, ◌-ℤ◌, nat_abs, length}
+use Rattle.std.specs.Prelude.{take, drop, get_or, replicate}
 use Rattle.std.proofs.Common.{sym, ap, ◌∙◌, le_trans, lt_trans, lt_of_le_of_lt, lt_of_lt_of_le, mul-le-mul_right, arith, lit<, length-take, get_or-take}
 use Rattle.std.proofs.lemmas.List.{map-append, length-map}
 use Rattle.std.proofs.Math.Arith.{digits_div, digits_mod}

@@ -48,7 +48,8 @@ total_goes_on W {ws} z ps i h e =
     s = sum_of W.format (take i ps)
 
 -- ---- how large the sum of an allowed list is
-pub each_most : (W : Width) (ps : List ℕ) → Allowed W ps → (j : ℕ) → j < length (map (units_of W) ps) → nat_abs (get_or (map (units_of W) ps) j (pos 0)) ≤ most W
+pub each_most : (W : Width) (ps : List ℕ) → Allowed W ps → (j : ℕ) → j < length (map (units_of W) ps)
+    → nat_abs (get_or (map (units_of W) ps) j (pos 0)) ≤ most W
 each_most W ps C j h =
     let l : j < length ps = rw (length-map ps (units_of W)) at h in
     rw (map_at (units_of W) ps j 0 (pos 0) l, value_mag W.format (of_bits W.format (get_or ps j 0))) ((fault_0 W (get_or ps j 0)).0 (C.none j l)).1

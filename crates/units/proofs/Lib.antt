@@ -1,3 +1,4 @@
+-- The crate's theorems and lemmas.
 pub mod AnyOrder
 pub mod Ceiling
 pub mod Closing

@@ -2,7 +2,8 @@
 -- larger number rounds to no smaller one; how far off the result is, and which of its digits are zero. Assumes nothing.
 use Rattle.std.specs.Prelude.{◌≡◌, ◌⊎◌, not, T}
 use Rattle.std.proofs.Math.Path.{refl}
-use Rattle.std.proofs.Common.{sym, ap, ◌∙◌, inl, inr, le_of_eq, eq-or-lt_of_le, eq-zero-or-pos, mul-le-mul_left, mul-le-mul_right, div-add-mod', mod-lt, mul_assoc, leb→le, eqb→eq, pow-add, pow_pos, pow_mono}
+use Rattle.std.proofs.Common.{sym, ap, ◌∙◌, inl, inr, le_of_eq, eq-or-lt_of_le, eq-zero-or-pos, mul-le-mul_left, mul-le-mul_right, div-add-mod', mod-lt}
+use Rattle.std.proofs.Common.{mul_assoc, leb→le, eqb→eq, pow-add, pow_pos, pow_mono}
 use Prim.Native.Nat.{ℕ, suc, ◌+◌, ◌-◌, ◌*◌, ◌/◌, ◌%◌, ◌^◌, ◌≤◌, ◌<◌, compare, Ordering}
 use Rattle.std.proofs.Math.Nat.{lt_of_lt_of_le}
 use native.Mathlib.Omega.{arith}

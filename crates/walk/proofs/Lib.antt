@@ -1,3 +1,4 @@
+-- The crate's theorems and lemmas.
 pub mod Admitted
 pub mod BeforeLaws
 pub mod Ensembles

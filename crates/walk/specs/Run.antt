@@ -206,5 +206,7 @@ module _ {W : Width} {F : Fitting W} {n : ℕ} where
 
   pub run_finishes : {s : State} {xs : List Float} (k : ℕ) (told : Float) → Running W F n s xs → s.rounds + k ≡ W.rounds
       → Ended W (rounds_from W (blocks_of W n) (suc k) (outcome (More s told) xs))
-  run_finishes {s = s} {xs = xs} zero told R h = closing 0 told R (λ s' m e. let N = run_running R s' m e in absurd (omega (arith, N.1, begun_rounds N.0.begun)))
-  run_finishes {s = s} {xs = xs} (suc k) told R h = closing (suc k) told R (λ s' m e. let N = run_running R s' m e in run_finishes {s = s'} {xs = all_left W s xs} k m N.0 (omega (arith, N.1)))
+  run_finishes {s = s} {xs = xs} zero told R h = closing 0 told R
+      (λ s' m e. let N = run_running R s' m e in absurd (omega (arith, N.1, begun_rounds N.0.begun)))
+  run_finishes {s = s} {xs = xs} (suc k) told R h = closing (suc k) told R
+      (λ s' m e. let N = run_running R s' m e in run_finishes {s = s'} {xs = all_left W s xs} k m N.0 (omega (arith, N.1)))

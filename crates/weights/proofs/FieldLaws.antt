@@ -1,6 +1,7 @@
 -- A weight in grains read off its pattern's field and digits, and the pattern of so many grains written so. Assumes nothing.
 use Rattle.std.specs.Prelude.{◌≡◌, ℕ, suc, ◌+◌, ◌-◌, ◌*◌, ◌/◌, ◌%◌, ◌^◌, ◌≤◌, ◌<◌}
-use Rattle.std.proofs.Common.{sym, ◌∙◌, le_trans, mul-pos, zero-mul, mul_comm, mul-le-mul_right, mul-lt-mul_of_pos_right, div-lt_iff_lt-mul, le-div_iff_mul-le, lit≤, pow_mono, pow_pos}
+use Rattle.std.proofs.Common.{sym, ◌∙◌, le_trans, mul-pos, zero-mul, mul_comm, mul-le-mul_right, mul-lt-mul_of_pos_right, div-lt_iff_lt-mul, le-div_iff_mul-le}
+use Rattle.std.proofs.Common.{lit≤, pow_mono, pow_pos}
 use Rattle.std.proofs.Math.Path.{ap}
 use Rattle.std.proofs.Math.Nat.{lt_of_le_of_lt, mul_assoc, pow-succ', mul-div-mul_right, div-eq_of_lt}
 use native.Mathlib.Omega.{arith}

@@ -1,3 +1,4 @@
+-- The crate's theorems and lemmas.
 pub mod AcceptedLaws
 pub mod FieldLaws
 pub mod GrainLaws

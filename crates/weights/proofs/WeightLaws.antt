@@ -1,7 +1,8 @@
 -- Weights by their patterns: what a good one is in units, that the pattern of so many grains is a good weight of so many, that there is no other pattern of
 -- it, and which patterns are good. Assumes nothing.
 use Rattle.std.specs.Prelude.{◌≡◌, refl, Bool, true, ◌&&◌, List, ℕ, zero, suc, ◌+◌, ◌-◌, ◌*◌, ◌%◌, ◌^◌, ◌≤◌, ◌<◌, length, get_or, pos, Float}
-use Rattle.std.proofs.Common.{sym, ◌∙◌, le_trans, le_of_eq, lt_of_le_of_lt, mul_comm, mul-le-mul_right, mul-lt-mul_of_pos_right, mul-div_cancel, mod-eq_of_lt, arith, leb→le, ltb→lt, pow_pos, pow_mono}
+use Rattle.std.proofs.Common.{sym, ◌∙◌, le_trans, le_of_eq, lt_of_le_of_lt, mul_comm, mul-le-mul_right, mul-lt-mul_of_pos_right, mul-div_cancel, mod-eq_of_lt}
+use Rattle.std.proofs.Common.{arith, leb→le, ltb→lt, pow_pos, pow_mono}
 use Rattle.std.proofs.Math.Path.{ap}
 use Rattle.std.proofs.Math.Bool.{false, not}
 use Rattle.std.proofs.Math.Nat.{mul-mod_left, div-add-mod', div-le_of_le-mul}

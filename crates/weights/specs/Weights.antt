@@ -1,5 +1,6 @@
 -- Handing on the weight of a clock that leaves: what a weight is, the new weights to the last grain, and what the call refuses. Definitions only.
-use Rattle.std.specs.Prelude.{Bool, true, false, cond, not, ◌&&◌, List, [], ◌∷◌, map, ℕ, zero, suc, ◌+◌, ◌-◌, ◌*◌, ◌/◌, ◌%◌, ◌^◌, leb, ltb, eqb, pos, length, get_or, set}
+use Rattle.std.specs.Prelude.{Bool, true, false, cond, not, ◌&&◌, List, [], ◌∷◌, map, ℕ, zero, suc, ◌+◌, ◌-◌, ◌*◌, ◌/◌, ◌%◌, ◌^◌, leb, ltb, eqb, pos, length}
+use Rattle.std.specs.Prelude.{get_or, set}
 use Rattle.std.specs.Float.{Format}
 use Rattle.std.specs.Float.Ieee.{low, of_bits, to_bits}
 use Rattle.std.specs.Float.Ieee.Scale.{finite}

@@ -1,5 +1,4 @@
 -- `addend::add` meets its contract: a positive number is added at its place, and a negative one's magnitude taken there. Assumes nothing.
-use borrow.Author.Rules.{rules}
 use mathlib.Core.Path.{◌∙◌}
 use Rattle.kinds.specs.Limits.{doubles}
 use Rattle.addend.proofs.RegisterWords.{held, rises, falls, units_plus, units_minus}

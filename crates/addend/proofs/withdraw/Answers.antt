@@ -1,5 +1,4 @@
 -- `addend::withdraw` meets its contract: the opposite number has the opposite units. Assumes nothing.
-use borrow.Author.Rules.{rules}
 use mathlib.Core.Path.{◌≡◌, ap, ◌∙◌}
 use lib.Dec.{T}
 use lib.Ieee.{of_bits}

@@ -1,6 +1,5 @@
 -- `calls::lengths` meets its contract. Assumes nothing.
 use mathlib.Core.Path.{sym}
-use borrow.Author.Rules.{rules}
 use lib.ListN.{length}
 use Rattle.calls.proofs.CallsLaws.{fault_1, fault_list, fault_out, fault_0}
 use Rattle.calls.proofs.lengths.Goals as goal

@@ -2,7 +2,6 @@
 use native.Mathlib.Nat.{add-zero}
 use mathlib.Core.Path.{sym, ap, ◌∙◌}
 use Prim.Native.Nat.{ℕ, ◌+◌}
-use borrow.Author.Rules.{rules}
 use Rattle.calls.proofs.CallsLaws.{code_told, code_silent}
 use Rattle.calls.proofs.refusal.Goals as goal
 

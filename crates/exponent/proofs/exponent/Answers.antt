@@ -1,5 +1,4 @@
 -- `exponent::exponent` meets its contract: a field of 0 has its digits as units, and any other is a power of two or lies between two. Assumes nothing.
-use borrow.Author.Rules.{rules}
 use mathlib.Core.Path.{◌≡◌, sym, ◌∙◌}
 use Prim.Native.Nat.{suc, ◌+◌, ◌-◌, ◌/◌}
 use native.Mathlib.Omega.{arith}

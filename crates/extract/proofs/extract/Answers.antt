@@ -1,7 +1,6 @@
 -- `extract::extract` meets its contract: the places passed hold their remainders, their high parts are gathered, and the greatest pattern stands for the
 -- largest magnitude among those remainders and the one that was handed in. Assumes nothing.
 use mathlib.Core.Path.{◌≡◌, refl, sym, subst, ◌∙◌}
-use mathlib.Core.Logic.{inl, inr}
 use mathlib.Core.List.{List, [], ◌++◌}
 use Prim.Native.Nat.{ℕ, ◌+◌, ◌-◌, ◌%◌, ◌<◌, max}
 use native.Mathlib.Omega.{arith}
@@ -43,7 +42,8 @@ float_to_bits-most c = finite_no_nan c.args.largest c.requires.0
 pub loop-i-init : goal.loop-i-init
 unfolding remainders gathered
 loop-i-init c =
-    let positive : Positive binary64 c.args.largest (magnitude binary64 c.args.largest) = record { number = record { fit = subst T (sym c.well_formed.1.1.1.0.1) tt; fini = c.requires.0 }; sign = c.requires.1; units = refl } in
+    let positive : Positive binary64 c.args.largest (magnitude binary64 c.args.largest) =
+    record { number = record { fit = subst T (sym c.well_formed.1.1.1.0.1) tt; fini = c.requires.0 }; sign = c.requires.1; units = refl } in
     let m = magnitude binary64 c.args.largest in
     let e : max m (largest binary64 []) ≡ m = rw (largest_none binary64) (omega arith) in
     (refl, refl, refl, rw e (positive_stands binary64 positive))
@@ -91,7 +91,8 @@ float_from_bits-result c = pattern_no_nan binary64 c.loop-i.invariant.3.below
 pub returns : goal.returns
 unfolding remainders
 returns c =
-    let positive : Positive binary64 c.args.largest (magnitude binary64 c.args.largest) = record { number = record { fit = subst T (sym c.well_formed.1.1.1.0.1) tt; fini = c.requires.0 }; sign = c.requires.1; units = refl } in
+    let positive : Positive binary64 c.args.largest (magnitude binary64 c.args.largest) =
+    record { number = record { fit = subst T (sym c.well_formed.1.1.1.0.1) tt; fini = c.requires.0 }; sign = c.requires.1; units = refl } in
     let a = c.args in
     let e : take c.loop-i.i a.block.now ≡ a.block.now = take_all c.loop-i.i a.block.now (omega arith) in
     let left = remainders binary64 a.sigma a.block.now in (

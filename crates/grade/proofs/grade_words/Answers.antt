@@ -1,6 +1,5 @@
 -- `grade::grade_words` meets its contract: with the nearest double taken out, the words are zero exactly where it is S, and else tell its other side.
 -- Assumes nothing.
-use borrow.Author.Rules.{rules}
 use mathlib.Core.Path.{sym, ap, ◌∙◌}
 use mathlib.Core.Bool.{Bool, cond}
 use Prim.Native.Nat.{ℕ, ◌+◌, ◌-◌}

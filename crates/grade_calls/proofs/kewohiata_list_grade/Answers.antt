@@ -1,7 +1,6 @@
 -- `grade_calls::kewohiata_list_grade` meets its contract: each grade is its number, and what is refused is one of the table's. Assumes nothing.
 use mathlib.Core.Path.{sym, ap, ◌∙◌}
 use Prim.Native.Nat.{ℕ}
-use borrow.Author.Rules.{rules}
 use Rattle.kinds.specs.Outcome.{outcome}
 use Rattle.grade.specs.declared.Graded.TheVariants.{Exact, Nearest, Faithful, Wrong, Refused}
 use Rattle.grade_calls.proofs.GradeArraysLaws.{grade_other, grade_answered, grade_refusal}

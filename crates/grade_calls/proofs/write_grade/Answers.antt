@@ -1,5 +1,4 @@
 -- `grade_calls::write_grade` meets its contract: the one value is the array's. Assumes nothing.
-use borrow.Author.Rules.{rules}
 use mathlib.Core.Path.{ap}
 use mathlib.Core.List.{List}
 use Prim.Native.Nat.{ℕ}

@@ -3,10 +3,7 @@ use mathlib.Core.Path.{sym, ◌∙◌}
 use Prim.Native.Nat.{◌-◌}
 use native.Mathlib.Numerals.{add-one}
 use native.Mathlib.Omega.{arith}
-use borrow.Author.Rules.{rules}
-use lib.ListN.{length}
 use Rattle.kinds.specs.Limits.{doubles}
-use Rattle.judge.specs.Table.{Clean}
 use Rattle.judge.proofs.FirstFaultLaws.{clean_none, clean_more, clean_fewer, first_good, first_refused}
 use Rattle.judge.proofs.first_fault.Goals as goal
 

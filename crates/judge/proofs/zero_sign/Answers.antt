@@ -4,11 +4,8 @@ use mathlib.Core.Path.{sym}
 use mathlib.Core.Bool.{true}
 use Prim.Native.Nat.{◌-◌}
 use native.Mathlib.Omega.{arith}
-use borrow.Author.Rules.{rules}
 use borrow.Author.Tests.{eq-eqb}
-use lib.Dec.{eqb}
-use lib.ListN.{length}
-use Rattle.lists.specs.Every.{Looked, looked_none, looked_next}
+use Rattle.lists.specs.Every.{looked_none, looked_next}
 use Rattle.kinds.specs.Limits.{doubles}
 use Rattle.judge.specs.Judge.{minus_pattern}
 use Rattle.judge.proofs.ZeroLaws.{sign_stops, sign_ends}

@@ -1,7 +1,6 @@
 -- `lane_calls::answer` meets its contract: a refusal is one of the table. Assumes nothing.
 use mathlib.Core.Path.{sym, ap, subst, ◌∙◌}
 use Prim.Native.Nat.{ℕ}
-use borrow.Author.Rules.{rules}
 use Rattle.kinds.specs.Outcome.{outcome}
 use Rattle.lanes.specs.Lanes.{laid_heard}
 use Rattle.lanes.specs.declared.Laid.{Laid}

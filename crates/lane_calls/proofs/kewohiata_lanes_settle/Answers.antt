@@ -1,6 +1,5 @@
 -- `lane_calls::kewohiata_lanes_settle` meets its contract: what is refused is one of the table's. Assumes nothing.
 use mathlib.Core.Path.{sym, ap, subst}
-use borrow.Author.Rules.{rules}
 use Rattle.lanes.specs.Lanes.{Settling}
 use Rattle.lane_calls.specs.LaneArrays.{LaidRefusal}
 use Rattle.lane_calls.proofs.LaneArraysLaws.{settle_other, settle_answered, settle_laid}

@@ -1,5 +1,4 @@
 -- `lanes::withdraw` meets its contract: a withdrawal is the addition of the opposite number. Assumes nothing.
-use borrow.Author.Rules.{rules}
 use Rattle.lanes.proofs.LayLaws.{lane_withdrawn_added}
 use Rattle.lanes.proofs.withdraw.Goals as goal
 

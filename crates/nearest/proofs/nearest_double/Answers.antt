@@ -1,5 +1,5 @@
 -- `nearest::nearest_double` meets its contract: below the limit the nearest double's bits are a finite one's. Assumes nothing.
-use Rattle.std.proofs.Common.{nat_abs, ◌∙◌, rules}
+use Rattle.std.proofs.Common.{nat_abs, ◌∙◌}
 use lib.Ieee.{binary64}
 use Rattle.nearest.proofs.NearestBits.{bits_finite, bits_nearest}
 use Rattle.words.specs.Words.{whole_of}

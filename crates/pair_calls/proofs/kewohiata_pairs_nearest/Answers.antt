@@ -1,7 +1,6 @@
 -- `pair_calls::kewohiata_pairs_nearest` meets its contract: what is refused is one of the table's. Assumes nothing.
 use mathlib.Core.Path.{sym, ap, subst, ◌∙◌}
 use Prim.Native.Nat.{ℕ}
-use borrow.Author.Rules.{rules}
 use Rattle.kinds.specs.Limits.{doubles}
 use Rattle.kinds.specs.Outcome.{outcome}
 use Rattle.kinds.specs.Heard.{nearest_heard}

@@ -1,7 +1,6 @@
 -- `pair_calls::kewohiata_pairs_products` meets its contract: what is refused is one of the table's. Assumes nothing.
 use mathlib.Core.Path.{refl, sym, ap, ◌∙◌}
 use Prim.Native.Nat.{ℕ}
-use borrow.Author.Rules.{rules}
 use Rattle.kinds.specs.Outcome.{Outcome}
 use Rattle.pairs.specs.Pairs.{paired_heard}
 use Rattle.pairs.specs.declared.Paired.{Paired}

@@ -1,14 +1,13 @@
 -- `pairs::write` meets its contract: after i pairs the first 2 i places hold their products and errors. Assumes nothing.
 use mathlib.Core.Path.{◌≡◌, refl, sym, ap, ◌∙◌}
-use mathlib.Core.List.{◌++◌, zip}
+use mathlib.Core.List.{zip}
 use Prim.Native.Nat.{◌+◌, ◌-◌, ◌*◌, ◌≤◌, ◌<◌}
 use native.Mathlib.Omega.{arith}
-use borrow.Author.Rules.{rules}
-use lib.ListN.{length, get_or, set, take, drop, length-set}
+use lib.ListN.{length, get_or, set, length-set}
 use lib.Ieee.{to_bits}
 use Rattle.kinds.specs.Limits.{doubles}
 use Rattle.pairs.specs.Limits.{double_pairs}
-use Rattle.pairs.specs.Pairs.{Pair, product_of, error_of, products_of}
+use Rattle.pairs.specs.Pairs.{Pair, product_of, error_of}
 use Rattle.pairs.proofs.ZipLaws.{zip_length, zip_at}
 use Rattle.pairs.proofs.WriteLaws.{written_none, written_next, written_all}
 use Rattle.pairs.proofs.write.Goals as goal

@@ -1,6 +1,5 @@
 -- `register::add` meets its contract: the top bits before and after say whether the sum left the range, and taking the number again gives the words back.
 -- Assumes nothing.
-use borrow.Author.Rules.{rules}
 use mathlib.Core.Path.{◌≡◌, sym, ◌∙◌}
 use native.Mathlib.Omega.{arith}
 use Rattle.kinds.specs.Limits.{doubles}
@@ -27,7 +26,8 @@ pub returns-then-left : goal.returns-then-left
 returns-then-left c =
     let words : Held c.args.register.now = held c.if-n-ne-WORDS.false c.slice_known-1.given in
     let allowed : fault_of doubles c.args.p ≡ 0 = sym c.fault-fault.ensures ∙ c.if-fault-ne0.false in
-    let tested : c.left.result ≡ leaves c.args.p (sign_bit c.args.register.now) (sign_bit c.add.new.words) = rw (← c.sign-before.ensures, ← c.sign.ensures) c.left.ensures in
+    let tested : c.left.result ≡ leaves c.args.p (sign_bit c.args.register.now) (sign_bit c.add.new.words) =
+    rw (← c.sign-before.ensures, ← c.sign.ensures) c.left.ensures in
     left words c.args.p allowed c.add.ensures (sym tested ∙ c.if-left.true)
     c.withdraw.ensures
 
@@ -35,7 +35,8 @@ pub returns : goal.returns
 returns c =
     let words : Held c.args.register.now = held c.if-n-ne-WORDS.false c.slice_known-1.given in
     let allowed : fault_of doubles c.args.p ≡ 0 = sym c.fault-fault.ensures ∙ c.if-fault-ne0.false in
-    let tested : c.left.result ≡ leaves c.args.p (sign_bit c.args.register.now) (sign_bit c.add.new.words) = rw (← c.sign-before.ensures, ← c.sign.ensures) c.left.ensures in
+    let tested : c.left.result ≡ leaves c.args.p (sign_bit c.args.register.now) (sign_bit c.add.new.words) =
+    rw (← c.sign-before.ensures, ← c.sign.ensures) c.left.ensures in
     stayed words c.args.p allowed c.add.ensures (sym tested ∙ c.if-left.false)
 
 -- ---- what the calls ask

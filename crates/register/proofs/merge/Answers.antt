@@ -1,5 +1,4 @@
 -- `register::merge` meets its contract: past the test of the lengths there are three registers. Assumes nothing.
-use borrow.Author.Rules.{rules}
 use mathlib.Core.Path.{sym}
 use Rattle.register.proofs.MergeLaws.{right_lengths_lem, merged_wrong}
 use Rattle.register.proofs.merge.Goals as goal

@@ -1,5 +1,4 @@
 -- `register::round` meets its contract: the pattern reaches the infinity's exactly where the nearest double isn't finite. Assumes nothing.
-use borrow.Author.Rules.{rules}
 use mathlib.Core.Path.{◌≡◌, sym, ap, ◌∙◌}
 use mathlib.Core.Bool.{false}
 use Prim.Native.Nat.{◌*◌, ◌≤◌}

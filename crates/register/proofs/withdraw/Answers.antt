@@ -1,5 +1,4 @@
 -- `register::withdraw` meets its contract: a withdrawal is the addition of the opposite number. Assumes nothing.
-use borrow.Author.Rules.{rules}
 use Rattle.register.proofs.EnterLaws.{withdrawn_added}
 use Rattle.register.proofs.withdraw.Goals as goal
 

@@ -1,6 +1,5 @@
 -- `register_calls::code` meets its contract: a refusal is one of the table. Assumes nothing.
 use mathlib.Core.Path.{sym, ap, subst, ◌∙◌}
-use borrow.Author.Rules.{rules}
 use Rattle.kinds.specs.Heard.{entry_heard}
 use Rattle.kinds.specs.declared.Entry.{Entry}
 use Rattle.calls.specs.Inner.{EntryRefusal}

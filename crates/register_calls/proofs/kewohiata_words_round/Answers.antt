@@ -1,6 +1,5 @@
 -- `register_calls::kewohiata_words_round` meets its contract: what is refused is one of the table's. Assumes nothing.
 use mathlib.Core.Path.{sym, ap, subst, ◌∙◌}
-use borrow.Author.Rules.{rules}
 use Rattle.kinds.specs.Limits.{doubles}
 use Rattle.kinds.specs.Outcome.{outcome}
 use Rattle.kinds.specs.Heard.{nearest_heard}

@@ -1,6 +1,5 @@
 -- `register_calls::kewohiata_words_withdraw` meets its contract: what is refused is one of the table's. Assumes nothing.
 use mathlib.Core.Path.{refl, sym, ap, subst}
-use borrow.Author.Rules.{rules}
 use Rattle.register.specs.Register.{Changed}
 use Rattle.kinds.specs.Heard.{entry_heard}
 use Rattle.calls.specs.Inner.{EntryRefusal}

@@ -3,7 +3,6 @@ use mathlib.Core.Path.{◌≡◌, sym, ap, ◌∙◌}
 use mathlib.Core.List.{List, ◌∷◌, ◌++◌, map}
 use Prim.Native.Nat.{ℕ, ◌+◌, ◌-◌, ◌*◌, ◌/◌, min}
 use native.Mathlib.Omega.{arith}
-use borrow.Author.Rules.{rules}
 use lib.ListN.{length, drop}
 use Rattle.kinds.specs.Limits.{doubles}
 use Rattle.octets.specs.Octets.{big_endian}
@@ -61,7 +60,8 @@ returns-then-sheet-written c =
     let begun : Begun bytes = record { header = omega arith; version = sym c.read_header-h.ensures.0 ∙ c.if-h-ne-VERSION.false } in
     let count : c.read_header-h.result.count ≡ count_of bytes = c.read_header-h.ensures.1 in
     let taken : c.taken_of-taken.result ≡ taken_of bytes = c.taken_of-taken.ensures ∙ ap (λ (n : ℕ). min n ((length bytes - 5) / 8)) count in
-    let kept : c.count_kept-kept.result ≡ length (kept_of doubles (entries_of bytes)) = c.count_kept-kept.ensures ∙ ap (λ (n : ℕ). length (kept_of doubles (patterns_of n (drop 5 bytes)))) taken in
+    let kept : c.count_kept-kept.result ≡ length (kept_of doubles (entries_of bytes)) =
+    c.count_kept-kept.ensures ∙ ap (λ (n : ℕ). length (kept_of doubles (patterns_of n (drop 5 bytes)))) taken in
     let a = c.args in
     sym (rescue_no_room doubles bytes a.sheet.now a.marks.now begun (omega (arith, count)) (omega (arith, kept)))
 
@@ -81,7 +81,8 @@ returns c =
     let begun : Begun bytes = record { header = omega arith; version = sym c.read_header-h.ensures.0 ∙ c.if-h-ne-VERSION.false } in
     let count : c.read_header-h.result.count ≡ count_of bytes = c.read_header-h.ensures.1 in
     let taken : c.taken_of-taken.result ≡ taken_of bytes = c.taken_of-taken.ensures ∙ ap (λ (n : ℕ). min n ((length bytes - 5) / 8)) count in
-    let kept : c.count_kept-kept.result ≡ length (kept_of doubles (entries_of bytes)) = c.count_kept-kept.ensures ∙ ap (λ (n : ℕ). length (kept_of doubles (patterns_of n (drop 5 bytes)))) taken in
+    let kept : c.count_kept-kept.result ≡ length (kept_of doubles (entries_of bytes)) =
+    c.count_kept-kept.ensures ∙ ap (λ (n : ℕ). length (kept_of doubles (patterns_of n (drop 5 bytes)))) taken in
     let a = c.args in
     let t = c.taken_of-taken.result in
     let n = c.read_header-h.result.count in

@@ -1,14 +1,9 @@
 -- `sheet::copy` meets its contract: the places passed hold the sheet's patterns, and the others what they held. Assumes nothing.
-use mathlib.Core.Path.{◌≡◌, refl}
+use mathlib.Core.Path.{◌≡◌}
 use mathlib.Core.List.{◌++◌}
-use Prim.Native.Nat.{◌-◌, ◌≤◌, ◌<◌}
-use native.Mathlib.Omega.{arith}
-use borrow.Author.Rules.{rules}
+use Prim.Native.Nat.{◌-◌, ◌≤◌}
 use lib.ListN.{length, drop}
-use Rattle.lists.proofs.Front.{store_front}
 use Rattle.sheet.specs.Sheet.{patterns_of}
-use Rattle.octets.specs.Octets.{big}
-use Rattle.octets.proofs.EightsLaws.{eights_none, eights_length, eights_next}
 use Rattle.sheet.proofs.copy.Given as goal
 
 abbrev pub invariant-loop-i : goal.invariant-loop-i

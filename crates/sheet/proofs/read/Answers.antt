@@ -8,7 +8,6 @@ use Rattle.kinds.specs.Outcome.{outcome}
 use Rattle.kinds.specs.declared.Sheet.TheVariants.{Read}
 use Rattle.sheet.specs.Sheet.{version_of, count_of, patterns_of}
 use Rattle.sheet.proofs.SheetLaws.{read_no_header, read_version, read_many, read_short, read_long, read_no_room, read_all}
-use borrow.Author.Rules.{rules}
 use Rattle.sheet.proofs.read.Goals as goal
 
 pub returns-then-sheet-lt-HEADER : goal.returns-then-sheet-lt-HEADER

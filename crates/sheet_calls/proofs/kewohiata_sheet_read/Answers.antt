@@ -1,6 +1,5 @@
 -- `sheet_calls::kewohiata_sheet_read` meets its contract: what is refused is one of the table's. Assumes nothing.
 use mathlib.Core.Path.{refl, sym, ap, ◌∙◌}
-use borrow.Author.Rules.{rules}
 use Rattle.kinds.specs.Heard.{sheet_heard}
 use Rattle.kinds.specs.declared.Sheet.TheVariants.{Read, Refused}
 use Rattle.sheet.specs.Sheet.{Reading}

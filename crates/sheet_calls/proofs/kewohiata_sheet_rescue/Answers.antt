@@ -1,6 +1,5 @@
 -- `sheet_calls::kewohiata_sheet_rescue` meets its contract: what is refused is one of the table's. Assumes nothing.
 use mathlib.Core.Path.{refl, sym, ap, ◌∙◌}
-use borrow.Author.Rules.{rules}
 use Rattle.rescue.specs.Rescue.{Rescuing}
 use Rattle.rescue.specs.declared.Rescued.TheVariants.{Saved, Refused}
 use Rattle.sheet_calls.specs.RescueArrays.{rescue_returned}

@@ -1,7 +1,6 @@
 -- `sheet_calls::kewohiata_sheet_write` meets its contract: what is refused is one of the table's. Assumes nothing.
 use mathlib.Core.Path.{refl, sym, ap, ◌∙◌}
 use Prim.Native.Nat.{ℕ}
-use borrow.Author.Rules.{rules}
 use Rattle.sheet.specs.declared.Written.TheVariants.{Wrote, Refused}
 use Rattle.sheet.specs.Write.{Writing, written_heard}
 use Rattle.arrays.specs.Arrays.{values_of, returned}

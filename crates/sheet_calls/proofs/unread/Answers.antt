@@ -1,7 +1,6 @@
 -- `sheet_calls::unread` meets its contract: the reader over nothing refuses as over the area, and 4 is the rest. Assumes nothing.
 use mathlib.Core.Path.{sym, ap, ◌∙◌}
 use mathlib.Core.List.{[]}
-use borrow.Author.Rules.{rules}
 use Rattle.sheet.specs.Sheet.{Reading}
 use Rattle.sheet_calls.proofs.SheetArraysLaws.{nothing_before, unread_read, unread_refused}
 use Rattle.sheet_calls.proofs.unread.Goals as goal

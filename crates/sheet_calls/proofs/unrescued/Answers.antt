@@ -1,7 +1,6 @@
 -- `sheet_calls::unrescued` meets its contract: over areas without a byte the rescue is refused for the bytes alone, or with 4. Assumes nothing.
 use mathlib.Core.Path.{◌≡◌, refl, sym, ap, ◌∙◌}
 use mathlib.Core.List.{[]}
-use borrow.Author.Rules.{rules}
 use Rattle.lists.proofs.Apart.{apart}
 use Rattle.rescue.specs.Rescue.{Rescuing}
 use Rattle.rescue.specs.declared.Rescued.TheVariants.{Saved, Refused}

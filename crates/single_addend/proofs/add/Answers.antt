@@ -1,6 +1,5 @@
 -- scripts/singles writes this file, from crates/addend/proofs/add/Answers.antt.
 -- `single_addend::add` meets its contract: a positive number is added at its place, and a negative one's magnitude taken there. Assumes nothing.
-use borrow.Author.Rules.{rules}
 use mathlib.Core.Path.{◌∙◌}
 use Rattle.kinds.specs.Limits.{singles}
 use Rattle.addend.proofs.RegisterWords.{held, rises, falls, units_plus, units_minus}

@@ -1,6 +1,5 @@
 -- scripts/singles writes this file, from crates/exponent/proofs/exponent/Answers.antt.
 -- `single_exponent::exponent` meets its contract: a field of 0 has its digits as units, and any other is a power of two or lies between two. Assumes nothing.
-use borrow.Author.Rules.{rules}
 use mathlib.Core.Path.{◌≡◌, sym, ◌∙◌}
 use Prim.Native.Nat.{suc, ◌+◌, ◌-◌, ◌/◌}
 use native.Mathlib.Omega.{arith}

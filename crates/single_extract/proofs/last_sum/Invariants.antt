@@ -1,15 +1,10 @@
 -- scripts/singles writes this file, from crates/extract/proofs/last_sum/Invariants.antt.
 -- `single_extract::last_sum` meets its contract: the sum is that of the places passed. Assumes nothing.
-use mathlib.Core.Path.{◌≡◌, refl, ◌∙◌}
-use Prim.Native.Nat.{◌-◌, ◌<◌}
-use native.Mathlib.Omega.{arith}
-use borrow.Author.Rules.{rules}
-use lib.Ieee.{nan, binary32}
+use mathlib.Core.Path.{◌≡◌}
+use Prim.Native.Nat.{◌-◌}
+use lib.Ieee.{binary32}
 use lib.ListN.{length, take}
-use lib.Seq.{take_all}
-use Rattle.lists.proofs.Front.{take_next}
 use Rattle.extract.specs.Extract.{last_sum}
-use Rattle.extract.specs.ExtractLaws.{sum_next}
 use Rattle.single_extract.proofs.last_sum.Given as goal
 
 abbrev pub invariant-loop-place : goal.invariant-loop-place

@@ -1,14 +1,9 @@
 -- scripts/singles writes this file, from crates/judge/proofs/first_fault/Invariants.antt.
 -- `single_judge::first_fault` meets its contract: the places passed have no fault, so the first that has one is the lowest. Assumes nothing.
-use mathlib.Core.Path.{sym, ◌∙◌}
 use Prim.Native.Nat.{◌-◌}
-use native.Mathlib.Numerals.{add-one}
-use native.Mathlib.Omega.{arith}
-use borrow.Author.Rules.{rules}
 use lib.ListN.{length}
 use Rattle.kinds.specs.Limits.{singles}
 use Rattle.judge.specs.Table.{Clean}
-use Rattle.judge.proofs.FirstFaultLaws.{clean_none, clean_more, clean_fewer, first_good, first_refused}
 use Rattle.single_judge.proofs.first_fault.Given as goal
 
 abbrev pub invariant-loop-place : goal.invariant-loop-place

@@ -1,18 +1,13 @@
 -- scripts/singles writes this file, from crates/judge/proofs/zero_sign/Invariants.antt.
 -- `single_judge::zero_sign` meets its contract: the patterns passed are all that of -0, so the first other one decides, and where there is none the length. Assumes
 -- nothing.
-use mathlib.Core.Path.{sym}
 use mathlib.Core.Bool.{true}
 use Prim.Native.Nat.{◌-◌}
-use native.Mathlib.Omega.{arith}
-use borrow.Author.Rules.{rules}
-use borrow.Author.Tests.{eq-eqb}
 use lib.Dec.{eqb}
 use lib.ListN.{length}
-use Rattle.lists.specs.Every.{Looked, looked_none, looked_next}
+use Rattle.lists.specs.Every.{Looked}
 use Rattle.kinds.specs.Limits.{singles}
 use Rattle.judge.specs.Judge.{minus_pattern}
-use Rattle.judge.proofs.ZeroLaws.{sign_stops, sign_ends}
 use Rattle.single_judge.proofs.zero_sign.Given as goal
 
 abbrev pub invariant-loop-at : goal.invariant-loop-at

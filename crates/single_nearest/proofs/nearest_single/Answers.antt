@@ -1,6 +1,6 @@
 -- scripts/singles writes this file, from crates/nearest/proofs/nearest_double/Answers.antt.
 -- `single_nearest::nearest_single` meets its contract: below the limit the nearest single's bits are a finite one's. Assumes nothing.
-use Rattle.std.proofs.Common.{nat_abs, ◌∙◌, rules}
+use Rattle.std.proofs.Common.{nat_abs, ◌∙◌}
 use lib.Ieee.{binary32}
 use Rattle.nearest.proofs.NearestBits.{bits_finite, bits_nearest}
 use Rattle.words.specs.Words.{whole_of}

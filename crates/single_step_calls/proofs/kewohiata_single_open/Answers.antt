@@ -2,7 +2,6 @@
 -- `single_step_calls::kewohiata_single_open` meets its contract: what is refused is one of the table's. Assumes nothing.
 use mathlib.Core.Path.{sym, ap, subst, ◌∙◌}
 use Prim.Native.Nat.{ℕ}
-use borrow.Author.Rules.{rules}
 use Rattle.kinds.specs.Limits.{singles}
 use Rattle.walk.specs.Walk.{Walked}
 use Rattle.arrays.specs.Arrays.{returned}

@@ -2,7 +2,6 @@
 -- `single_sum_calls::kewohiata_single_nearest` meets its contract: what is refused is one of the table's. Assumes nothing.
 use mathlib.Core.Path.{sym, ap, subst, ◌∙◌}
 use Prim.Native.Nat.{ℕ}
-use borrow.Author.Rules.{rules}
 use lib.Dec.{lit≤}
 use Rattle.kinds.specs.Limits.{singles}
 use Rattle.kinds.specs.Outcome.{outcome}

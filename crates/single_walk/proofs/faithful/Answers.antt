@@ -1,7 +1,6 @@
 -- scripts/singles writes this file, from crates/walk/proofs/faithful/Answers.antt.
 -- `single_walk::faithful` meets its contract: a refusal is the judge's, and of an allowed list the call is the undivided walk. Assumes nothing.
 use mathlib.Core.Path.{refl, sym, ◌∙◌}
-use borrow.Author.Rules.{rules}
 use Rattle.kinds.specs.Limits.{singles}
 use Rattle.rounds.specs.Instances.{singles_fit}
 use Rattle.walk.specs.OpeningLaws.{opened_refused}

@@ -2,7 +2,6 @@
 -- `single_walk::open` meets its contract: a refusal is the judge's, and an allowed list is started. Assumes nothing.
 use mathlib.Core.Path.{sym, ap, ◌∙◌}
 use mathlib.Core.Bool.{true}
-use borrow.Author.Rules.{rules}
 use lib.Dec.{eqb→eq}
 use Rattle.kinds.specs.Limits.{singles}
 use Rattle.kinds.specs.declared.Verdict.{Verdict}

@@ -1,16 +1,14 @@
 -- `sound::gate` meets its contract, a law for each answer; with sound numbers, the first work number above 2^-M sigma is the first bad place. Assumes nothing.
-use borrow.Author.Rules.{rules}
-use borrow.Author.Tests.{not-true, not-false}
 use mathlib.Core.Path.{◌≡◌, sym, ap, ◌∙◌}
 use mathlib.Core.Bool.{true}
-use Prim.Native.Nat.{ℕ, ◌+◌, ◌≤◌, ◌<◌}
+use Prim.Native.Nat.{◌+◌, ◌≤◌, ◌<◌}
 use native.Mathlib.Omega.{arith}
 use lib.ListN.{length}
 use lib.Ieee.{Float, binary64}
 use Rattle.ieee.specs.Units.{magnitude}
 use Rattle.exponent.specs.Power.{powers}
 use Rattle.kinds.specs.Limits.{doubles, exponent_of, blocks_of}
-use Rattle.sound.specs.Sound.{sound_numbers, sound_pending, bad_place, sound}
+use Rattle.sound.specs.Sound.{sound_numbers, bad_place, sound}
 use Rattle.sound.specs.Places.{first_above}
 use Rattle.sound.specs.Numbers.{Numbers}
 use Rattle.judge.specs.FaultLaws.{most_doubles}

@@ -1,7 +1,6 @@
 -- `step_calls::kewohiata_walk_open` meets its contract: what is refused is one of the table's. Assumes nothing.
 use mathlib.Core.Path.{sym, ap, subst, ◌∙◌}
 use Prim.Native.Nat.{ℕ}
-use borrow.Author.Rules.{rules}
 use Rattle.kinds.specs.Limits.{doubles}
 use Rattle.walk.specs.Walk.{Walked}
 use Rattle.arrays.specs.Arrays.{returned}

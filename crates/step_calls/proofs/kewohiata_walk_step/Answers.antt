@@ -1,7 +1,6 @@
 -- `step_calls::kewohiata_walk_step` meets its contract: rounds above 32 bits are no sound state's, and what else is refused is one of the table's.
 -- Assumes nothing.
 use mathlib.Core.Path.{sym, ap, subst, ◌∙◌}
-use native.Mathlib.Omega.{arith}
 use borrow.Author.Rules.{rules}
 use Rattle.kinds.specs.Limits.{doubles}
 use Rattle.kinds.specs.declared.State.{State}

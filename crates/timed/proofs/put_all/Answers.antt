@@ -2,16 +2,13 @@
 use borrow.Author.Rules.{rules}
 use native.Mathlib.Omega.{arith}
 use mathlib.Core.Path.{◌≡◌, ◌∙◌}
-use Prim.Native.Nat.{◌+◌, ◌-◌, ◌≤◌}
-use lib.ListN.{length, take, get_or}
+use Prim.Native.Nat.{◌-◌}
+use lib.ListN.{take, get_or}
 use lib.Seq.{take_all}
 use Rattle.kinds.specs.Limits.{doubles}
 use Rattle.judge.specs.FaultLaws.{allowed_number}
 use Rattle.addend.specs.Addend.{units_of}
-use Rattle.lanes.specs.Lanes.{lane_count}
-use Rattle.lanes.specs.Table.{Roomy}
 use Rattle.lanes.proofs.RoomLaws.{roomy_most, room_kept}
-use Rattle.timed.specs.Timed.{put_all}
 use Rattle.timed.proofs.TimedLaws.{put_none, put_next}
 use Rattle.timed.proofs.put_all.Goals as goal
 

@@ -1,16 +1,12 @@
 -- `timed::timed_lanes` meets its contract: the list is judged, the lanes are looked at, and then every number is put. Assumes nothing.
-use borrow.Author.Rules.{rules}
 use mathlib.Core.Path.{◌≡◌, sym, ap, ◌∙◌}
 use mathlib.Core.Bool.{true}
-use Prim.Native.Nat.{ℕ}
 use Rattle.kinds.specs.Limits.{doubles}
 use Rattle.kinds.specs.Outcome.{outcome}
 use Rattle.kinds.specs.declared.Verdict.TheVariants.{Good}
 use Rattle.judge.specs.Judge.{judged}
 use Rattle.judge.proofs.JudgeLaws.{list_when, list_passed, list_allowed}
 use Rattle.lanes.specs.declared.Laid.{Laid}
-use Rattle.lanes.specs.declared.Laid.TheVariants.{Counted}
-use Rattle.lanes.specs.Lanes.{lane_added}
 use Rattle.timed.proofs.TimedLaws.{timed_refused, timed_tight, timed_put, looked}
 use Rattle.timed.proofs.timed_lanes.Goals as goal
 

@@ -1,6 +1,5 @@
 -- `walk::faithful` meets its contract: a refusal is the judge's, and of an allowed list the call is the undivided walk. Assumes nothing.
 use mathlib.Core.Path.{refl, sym, ◌∙◌}
-use borrow.Author.Rules.{rules}
 use Rattle.kinds.specs.Limits.{doubles}
 use Rattle.rounds.specs.Instances.{doubles_fit}
 use Rattle.walk.specs.OpeningLaws.{opened_refused}

@@ -1,7 +1,6 @@
 -- `walk::step` meets its contract: a refusal is the gate's, and a block that it lets pass is taken. Assumes nothing.
 use mathlib.Core.Path.{◌≡◌, sym, subst, ◌∙◌}
 use Prim.Native.Nat.{ℕ}
-use borrow.Author.Rules.{rules}
 use Rattle.kinds.specs.Limits.{doubles}
 use Rattle.kinds.specs.declared.Verdict.TheVariants.{Good}
 use Rattle.sound.specs.Sound.{gated}

@@ -1,7 +1,6 @@
 -- `weight_calls::kewohiata_weights_hand_on` meets its contract: what is refused is one of the table's. Assumes nothing.
 use mathlib.Core.Path.{refl, sym, ap, ◌∙◌}
 use Prim.Native.Nat.{ℕ}
-use borrow.Author.Rules.{rules}
 use Rattle.kinds.specs.Limits.{doubles}
 use Rattle.kinds.specs.Outcome.{Outcome}
 use Rattle.weights.specs.declared.Handed.{Handed}

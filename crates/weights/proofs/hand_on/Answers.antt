@@ -1,5 +1,4 @@
 -- `weights::hand_on` meets its contract: what was not refused is a weight list, in which the shares are no more than the leaver had. Assumes nothing.
-use borrow.Author.Rules.{rules}
 use mathlib.Core.Path.{sym, ap, ◌∙◌}
 use mathlib.Core.List.{map}
 use Prim.Native.Nat.{ℕ, ◌-◌}

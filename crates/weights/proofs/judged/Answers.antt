@@ -1,5 +1,4 @@
 -- `weights::judged` meets its contract: the list's own refusal comes first. Assumes nothing.
-use borrow.Author.Rules.{rules}
 use mathlib.Core.Path.{sym, ap, ◌∙◌}
 use mathlib.Core.Bool.{true}
 use Rattle.kinds.specs.Limits.{doubles}

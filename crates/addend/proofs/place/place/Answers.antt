@@ -1,5 +1,4 @@
 -- `addend::place::place` meets its contract: the significand, shifted. Assumes nothing.
-use borrow.Author.Rules.{rules}
 use mathlib.Core.Path.{◌∙◌}
 use native.Mathlib.Omega.{arith}
 use Rattle.addend.proofs.place.place.Goals as goal

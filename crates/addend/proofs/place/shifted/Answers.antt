@@ -1,5 +1,4 @@
 -- `addend::place::shifted` meets its contract: a shifted number lies in two adjacent words. Assumes nothing.
-use borrow.Author.Rules.{rules}
 use native.Mathlib.Omega.{arith}
 use Rattle.addend.proofs.TwoDigits.{two_shifted}
 use Rattle.words.specs.Words.{word_bits}

@@ -1,5 +1,4 @@
 -- `addend::sides::add` meets its contract: the two words of a magnitude, added at the place of its sign. Assumes nothing.
-use borrow.Author.Rules.{rules}
 use mathlib.Core.Path.{subst}
 use native.Mathlib.Omega.{arith}
 use Prim.Native.Nat.{ℕ, ◌/◌, ◌^◌, ◌≤◌, ◌<◌}

@@ -1,5 +1,4 @@
 -- `addend::sides::settle` meets its contract: the borrow equation of the two halves gives every word. Assumes nothing.
-use borrow.Author.Rules.{rules}
 use mathlib.Core.Path.{◌∙◌}
 use Rattle.addend.proofs.RegisterWords.{held}
 use Rattle.addend.proofs.SidesLaws.{side_less}

@@ -1,10 +1,10 @@
 -- `arrays::values::write` meets its contract: the places passed are the values. Assumes nothing.
 use mathlib.Core.Path.{◌≡◌, ◌∙◌}
-use mathlib.Core.List.{◌++◌, append-nil}
+use mathlib.Core.List.{append-nil}
 use Prim.Native.Nat.{ℕ, ◌<◌, ◌-◌}
 use native.Mathlib.Omega.{arith}
 use borrow.Author.Rules.{rules}
-use lib.ListN.{length, take, drop, get_or, drop_of_length-le}
+use lib.ListN.{length, take, get_or, drop_of_length-le}
 use lib.Seq.{take_all, length-take-le}
 use Rattle.lists.proofs.Front.{store_front, take_next}
 use Rattle.arrays.proofs.values.write.Goals as goal

@@ -1,7 +1,6 @@
 -- `byte_calls::entries::written` meets its contract. Assumes nothing.
 use mathlib.Core.Path.{sym, ap, subst, ◌∙◌}
 use Prim.Native.Nat.{ℕ}
-use borrow.Author.Rules.{rules}
 use Rattle.kinds.specs.Outcome.{outcome}
 use Rattle.kinds.specs.Heard.{entry_heard}
 use Rattle.kinds.specs.declared.Entry.{Entry}

@@ -1,6 +1,5 @@
 -- `byte_calls::faithful::short` meets its contract: 64 places hold the list. Assumes nothing.
 use mathlib.Core.Path.{sym}
-use borrow.Author.Rules.{rules}
 use lib.Ieee.{of_bits, binary64}
 use Rattle.calls.proofs.CallsLaws.{front_length, front_bytes, front_own}
 use Rattle.byte_calls.proofs.faithful.short.Goals as goal

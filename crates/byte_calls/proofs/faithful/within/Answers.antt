@@ -1,6 +1,5 @@
 -- `byte_calls::faithful::within` meets its contract: the numbers are those that the bytes are. Assumes nothing.
 use mathlib.Core.Path.{◌∙◌}
-use borrow.Author.Rules.{rules}
 use lib.ListN.{length}
 use Rattle.calls.proofs.CallsLaws.{faithful_within_lem}
 use Rattle.byte_calls.proofs.faithful.within.Goals as goal

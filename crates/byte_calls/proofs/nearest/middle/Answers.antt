@@ -1,6 +1,5 @@
 -- `byte_calls::nearest::middle` meets its contract: 512 places hold the list. Assumes nothing.
 use mathlib.Core.Path.{sym}
-use borrow.Author.Rules.{rules}
 use Rattle.calls.proofs.CallsLaws.{front_length, front_bytes}
 use Rattle.byte_calls.proofs.nearest.middle.Goals as goal
 

@@ -1,6 +1,5 @@
 -- `byte_calls::nearest::short` meets its contract: 64 places hold the list. Assumes nothing.
 use mathlib.Core.Path.{sym}
-use borrow.Author.Rules.{rules}
 use Rattle.calls.proofs.CallsLaws.{front_length, front_bytes}
 use Rattle.byte_calls.proofs.nearest.short.Goals as goal
 

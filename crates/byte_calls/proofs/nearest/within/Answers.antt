@@ -1,6 +1,5 @@
 -- `byte_calls::nearest::within` meets its contract: the numbers are those that the bytes are. Assumes nothing.
 use mathlib.Core.Path.{◌∙◌}
-use borrow.Author.Rules.{rules}
 use lib.ListN.{length}
 use Rattle.calls.proofs.CallsLaws.{nearest_within}
 use Rattle.byte_calls.proofs.nearest.within.Goals as goal

@@ -5,11 +5,11 @@ use Prim.Native.Nat.{ℕ, ◌+◌, ◌-◌, ◌*◌, ◌/◌, ◌≤◌, max}
 use native.Mathlib.Omega.{arith}
 use borrow.Author.Rules.{rules}
 use lib.Dec.{T}
-use lib.Ieee.{Float, binary64, of_bits}
+use lib.Ieee.{Float, binary64}
 use lib.Ieee.Scale.{finite}
 use lib.ListN.{length, take, drop, length-drop, take-append-drop, drop_of_length-le}
 use lib.Seq.{take_all}
-use Rattle.lists.specs.Each.{Each, each_take, each_drop}
+use Rattle.lists.specs.Each.{each_take, each_drop}
 use Rattle.ieee.specs.Units.{magnitude}
 use Rattle.ieee.proofs.Pattern.{pattern_no_nan}
 use Rattle.extract.specs.Extract.{remainder_of, remainders, gathered, largest, largest_with}
@@ -17,7 +17,7 @@ use Rattle.extract.specs.ExtractLaws.{remainders_join}
 use Rattle.extract.proofs.TurnLaws.{part_read, part_stored}
 use Rattle.extract.specs.LargestLaws.{Positive, Stands}
 use Rattle.extract.proofs.LargestWithLaws.{positive_stands, stands_positive, stands_with, with_join, remainders_numbers}
-use Rattle.extract.specs.Grouped.{joined, spreads}
+use Rattle.extract.specs.Grouped.{joined}
 use Rattle.extract.proofs.grouped.extract_grouped.Goals as goal
 
 -- the area after the turns: k numbers are taken, and n are left
@@ -39,14 +39,16 @@ module _ (sigma : Float) (l area : List Float) (k : ℕ) (h : k ≤ length l) (e
 
 pub float_from_bits-most : goal.float_from_bits-most
 float_from_bits-most c =
-    let positive : Positive binary64 c.args.largest (magnitude binary64 c.args.largest) = record { number = record { fit = subst T (sym c.well_formed.1.1.0.1) tt; fini = c.requires.0 }; sign = c.requires.1; units = refl } in
+    let positive : Positive binary64 c.args.largest (magnitude binary64 c.args.largest) =
+    record { number = record { fit = subst T (sym c.well_formed.1.1.0.1) tt; fini = c.requires.0 }; sign = c.requires.1; units = refl } in
     let stands : (let a = c.args in Stands binary64 c.turns-sums.result.most
     (max (magnitude binary64 a.largest) (largest binary64 (remainders binary64 a.sigma (take (8 * (length a.work.now / 8)) a.work.now))))) = c.turns-sums.ensures.2.stands _ (positive_stands binary64 positive) in
     pattern_no_nan binary64 stands.below
 
 pub extract-requires : goal.extract-requires
 extract-requires c =
-    let positive : Positive binary64 c.args.largest (magnitude binary64 c.args.largest) = record { number = record { fit = subst T (sym c.well_formed.1.1.0.1) tt; fini = c.requires.0 }; sign = c.requires.1; units = refl } in
+    let positive : Positive binary64 c.args.largest (magnitude binary64 c.args.largest) =
+    record { number = record { fit = subst T (sym c.well_formed.1.1.0.1) tt; fini = c.requires.0 }; sign = c.requires.1; units = refl } in
     let stands : (let a = c.args in Stands binary64 c.turns-sums.result.most
     (max (magnitude binary64 a.largest) (largest binary64 (remainders binary64 a.sigma (take (8 * (length a.work.now / 8)) a.work.now))))) = c.turns-sums.ensures.2.stands _ (positive_stands binary64 positive) in
     let xs = c.args.work.now in
@@ -57,7 +59,8 @@ extract-requires c =
 
 pub returns : goal.returns
 returns c =
-    let positive : Positive binary64 c.args.largest (magnitude binary64 c.args.largest) = record { number = record { fit = subst T (sym c.well_formed.1.1.0.1) tt; fini = c.requires.0 }; sign = c.requires.1; units = refl } in
+    let positive : Positive binary64 c.args.largest (magnitude binary64 c.args.largest) =
+    record { number = record { fit = subst T (sym c.well_formed.1.1.0.1) tt; fini = c.requires.0 }; sign = c.requires.1; units = refl } in
     let stands : (let a = c.args in Stands binary64 c.turns-sums.result.most
     (max (magnitude binary64 a.largest) (largest binary64 (remainders binary64 a.sigma (take (8 * (length a.work.now / 8)) a.work.now))))) = c.turns-sums.ensures.2.stands _ (positive_stands binary64 positive) in
     let a = c.args in

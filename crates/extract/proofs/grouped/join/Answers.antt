@@ -1,6 +1,5 @@
 -- `extract::grouped::join` meets its contract: its additions are those of the definition. Assumes nothing.
 use mathlib.Core.Path.{refl}
-use borrow.Author.Rules.{rules}
 use Rattle.extract.specs.Grouped.{joined}
 use Rattle.extract.proofs.grouped.join.Goals as goal
 

@@ -1,26 +1,12 @@
 -- `extract::grouped::turn` meets its contract: the places passed hold their remainders, and their high parts are in sums of their own. Assumes nothing.
-use mathlib.Core.Path.{◌≡◌, refl, sym, ap, ◌∙◌}
-use mathlib.Core.Logic.{inl, inr}
-use mathlib.Core.List.{List, [], ◌∷◌, ◌++◌}
-use Prim.Native.Nat.{ℕ, ◌+◌, ◌-◌, ◌%◌, ◌≤◌, ◌<◌}
-use native.Mathlib.Omega.{arith}
-use borrow.Author.Rules.{rules}
-use lib.Dec.{T}
-use lib.Ieee.{Float, nan, binary64, top, to_bits, add}
-use lib.Ieee.Fits.{sub-fits}
-use lib.Ieee.Scale.{finite}
-use lib.ListN.{length, take, drop, get_or, set}
-use lib.Seq.{take_all}
-use Rattle.lists.specs.Each.{each_at}
-use Rattle.lists.proofs.Front.{end_map, take_next}
-use Rattle.ieee.specs.Units.{Number, magnitude}
-use Rattle.ieee.proofs.Finite.{finite_no_nan}
-use Rattle.extract.specs.Extract.{remainder_of, remainders}
-use Rattle.extract.specs.ExtractLaws.{remainders_next}
-use Rattle.extract.proofs.TurnLaws.{turn_read, turn_stored}
-use Rattle.extract.specs.LargestLaws.{Stands, number_stands}
+use mathlib.Core.Path.{◌≡◌}
+use mathlib.Core.List.{◌++◌}
+use Prim.Native.Nat.{◌+◌, ◌-◌, ◌≤◌}
+use lib.Ieee.{binary64}
+use lib.ListN.{length, take, drop}
+use Rattle.extract.specs.Extract.{remainders}
 use Rattle.extract.specs.Grouped.{spread}
-use Rattle.extract.specs.GroupedLaws.{spread_none, spread_next, Raised, raised_none, raised_larger, raised_kept}
+use Rattle.extract.specs.GroupedLaws.{Raised}
 use Rattle.extract.proofs.grouped.turn.Given as goal
 
 abbrev pub invariant-loop-k : goal.invariant-loop-k

@@ -1,23 +1,12 @@
 -- `extract::grouped::turns` meets its contract: eight numbers at a time, the places passed hold their remainders. Assumes nothing.
-use mathlib.Core.Path.{◌≡◌, refl, sym, ap, ◌∙◌}
-use mathlib.Core.List.{List, ◌++◌}
-use Prim.Native.Nat.{ℕ, ◌+◌, ◌-◌, ◌*◌, ◌/◌, ◌≤◌, ◌<◌}
-use native.Mathlib.Numerals.{add-one}
-use native.Mathlib.Omega.{arith}
-use borrow.Author.Rules.{rules}
-use lib.Dec.{T}
-use lib.Ieee.{Float, binary64}
-use lib.Ieee.Scale.{finite}
-use lib.ListN.{length, take, drop, length-drop}
-use lib.Seq.{length-take-le, take-add}
-use Rattle.lists.specs.Each.{each_take, each_drop}
-use Rattle.lists.proofs.Front.{length_front}
-use Rattle.ieee.proofs.Finite.{finite_no_nan}
-use Rattle.extract.specs.Extract.{remainder_of, remainders}
-use Rattle.extract.specs.ExtractLaws.{remainders_length, remainders_join}
-use Rattle.extract.proofs.TurnLaws.{part_read, part_stored}
+use mathlib.Core.Path.{◌≡◌}
+use mathlib.Core.List.{◌++◌}
+use Prim.Native.Nat.{◌+◌, ◌-◌, ◌*◌, ◌/◌, ◌≤◌}
+use lib.Ieee.{binary64}
+use lib.ListN.{length, take, drop}
+use Rattle.extract.specs.Extract.{remainders}
 use Rattle.extract.specs.Grouped.{spreads}
-use Rattle.extract.specs.GroupedLaws.{Raised, raised_none, raised_join}
+use Rattle.extract.specs.GroupedLaws.{Raised}
 use Rattle.extract.proofs.grouped.turns.Given as goal
 
 abbrev pub invariant-loop-i : goal.invariant-loop-i

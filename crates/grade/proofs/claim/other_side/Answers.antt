@@ -1,5 +1,4 @@
 -- `grade::claim::other_side` meets its contract: above a finite pattern there is another. Assumes nothing.
-use borrow.Author.Rules.{rules}
 use mathlib.Core.Path.{◌≡◌, refl}
 use mathlib.Core.Bool.{Bool, beq, true, false, cond}
 use Prim.Native.Nat.{ℕ, ◌+◌, ◌-◌}

@@ -1,5 +1,4 @@
 -- `grade::near::is_negative` meets its contract: the top word tells the sign. Assumes nothing.
-use borrow.Author.Rules.{rules}
 use Rattle.grade.proofs.WordLaws.{top_word}
 use Rattle.grade.proofs.near.is_negative.Goals as goal
 

@@ -1,13 +1,12 @@
 -- `judge::greatest::of_four` meets its contract: the pattern kept is the greatest of the places passed in all four. Assumes nothing.
-use mathlib.Core.Path.{◌≡◌, refl, ◌∙◌}
-use Prim.Native.Nat.{◌+◌, ◌-◌, ◌<◌, max}
+use mathlib.Core.Path.{refl, ◌∙◌}
+use Prim.Native.Nat.{◌-◌, ◌<◌, max}
 use native.Mathlib.Omega.{arith}
-use borrow.Author.Rules.{rules}
 use lib.ListN.{length, take, get_or}
 use lib.Seq.{take_all}
 use Rattle.lists.proofs.Front.{take_next}
 use Rattle.kinds.specs.Limits.{doubles}
-use Rattle.judge.specs.GreatestLaws.{greatest, greatest_of_four, four_next}
+use Rattle.judge.specs.GreatestLaws.{greatest, four_next}
 use Rattle.judge.proofs.greatest.of_four.Goals as goal
 
 pub loop-i-init : goal.loop-i-init

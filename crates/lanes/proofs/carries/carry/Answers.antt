@@ -1,13 +1,11 @@
 -- `lanes::carries::carry` meets its contract: at each turn the lowest i lanes hold their digits, and the carry is the one into the lane i. Assumes nothing.
-use mathlib.Core.Path.{◌≡◌, refl, sym, ap, ◌∙◌}
-use mathlib.Core.List.{List}
-use Prim.Native.Nat.{◌-◌, ◌≤◌, ◌<◌}
+use mathlib.Core.Path.{◌≡◌, refl, ◌∙◌}
+use Prim.Native.Nat.{◌-◌, ◌<◌}
 use native.Mathlib.Omega.{arith}
-use borrow.Author.Rules.{rules}
-use lib.IntN.{ℤ, pos, ◌+ℤ◌}
+use lib.IntN.{pos}
 use lib.ListN.{length, get_or, set, length-set}
 use mir.Syntax.{w64}
-use mir.Val.{to_z, of_z}
+use mir.Val.{to_z}
 use Rattle.lanes.specs.Settle.{lane_digits, lane_carry, carry_into}
 use Rattle.lanes.proofs.Carrying.{addends, sum_back, handed, rested, settled_to, settled_ahead, settled_next, settled_last}
 use Rattle.lanes.proofs.carries.carry.Goals as goal
@@ -19,13 +17,15 @@ loop-i-init c = (refl, omega arith, refl, refl)
 pub plus-sum-requires : goal.plus-sum-requires
 plus-sum-requires c =
     let turn : c.loop-i.i < length c.args.lanes.now = omega (arith, c.requires.0) in
-    let held : get_or c.loop-i.lanes c.loop-i.i (pos 0) ≡ get_or c.args.lanes.now c.loop-i.i (pos 0) = rw c.loop-i.invariant.2 (settled_ahead c.args.lanes.now c.loop-i.i turn) in
+    let held : get_or c.loop-i.lanes c.loop-i.i (pos 0) ≡ get_or c.args.lanes.now c.loop-i.i (pos 0) =
+    rw c.loop-i.invariant.2 (settled_ahead c.args.lanes.now c.loop-i.i turn) in
     rw held (addends c.requires.1 turn c.loop-i.carry-bits c.loop-i.invariant.0)
 
 pub loop-i-preserved : goal.loop-i-preserved
 loop-i-preserved c =
     let turn : c.loop-i.i < length c.args.lanes.now = omega (arith, c.requires.0) in
-    let held : get_or c.loop-i.lanes c.loop-i.i (pos 0) ≡ get_or c.args.lanes.now c.loop-i.i (pos 0) = rw c.loop-i.invariant.2 (settled_ahead c.args.lanes.now c.loop-i.i turn) in
+    let held : get_or c.loop-i.lanes c.loop-i.i (pos 0) ≡ get_or c.args.lanes.now c.loop-i.i (pos 0) =
+    rw c.loop-i.invariant.2 (settled_ahead c.args.lanes.now c.loop-i.i turn) in
     let zs = c.args.lanes.now in
     let sum = rw held at c.plus-sum.ensures in
     let digit = rested c.requires.1 turn c.loop-i.carry-bits c.loop-i.invariant.0 sum c.rest-digit.ensures in (

@@ -1,15 +1,9 @@
 -- `lanes::carries::carry` meets its contract: at each turn the lowest i lanes hold their digits, and the carry is the one into the lane i. Assumes nothing.
-use mathlib.Core.Path.{◌≡◌, refl, sym, ap, ◌∙◌}
-use mathlib.Core.List.{List}
-use Prim.Native.Nat.{◌-◌, ◌≤◌, ◌<◌}
-use native.Mathlib.Omega.{arith}
-use borrow.Author.Rules.{rules}
-use lib.IntN.{ℤ, pos, ◌+ℤ◌}
-use lib.ListN.{length, get_or, set, length-set}
-use mir.Syntax.{w64}
-use mir.Val.{to_z, of_z}
-use Rattle.lanes.specs.Settle.{lane_digits, lane_carry, carry_into}
-use Rattle.lanes.proofs.Carrying.{addends, sum_back, handed, rested, settled_to, settled_ahead, settled_next, settled_last}
+use mathlib.Core.Path.{◌≡◌}
+use Prim.Native.Nat.{◌-◌, ◌≤◌}
+use lib.ListN.{length}
+use Rattle.lanes.specs.Settle.{carry_into}
+use Rattle.lanes.proofs.Carrying.{settled_to}
 use Rattle.lanes.proofs.carries.carry.Given as goal
 
 abbrev pub invariant-loop-i : goal.invariant-loop-i

@@ -1,13 +1,7 @@
 -- `lanes::carries::top` meets its contract: at each turn the carry is the one into the lane i. Assumes nothing.
-use mathlib.Core.Path.{◌≡◌, refl}
-use Prim.Native.Nat.{◌-◌, ◌≤◌, ◌<◌}
-use native.Mathlib.Omega.{arith}
-use borrow.Author.Rules.{rules}
-use lib.ListN.{length}
-use mir.Syntax.{w64}
-use mir.Val.{to_z}
-use Rattle.lanes.specs.Settle.{carry_into, lane_carry}
-use Rattle.lanes.proofs.Carrying.{addends, sum_back, handed}
+use mathlib.Core.Path.{◌≡◌}
+use Prim.Native.Nat.{◌-◌, ◌≤◌}
+use Rattle.lanes.specs.Settle.{carry_into}
 use Rattle.lanes.proofs.carries.top.Given as goal
 
 abbrev pub invariant-loop-i : goal.invariant-loop-i

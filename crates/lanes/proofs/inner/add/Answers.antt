@@ -1,12 +1,11 @@
 -- `lanes::inner::add` meets its contract: each of the number's three digits is put into its lane, and no lane is met twice. Assumes nothing.
-use mathlib.Core.Path.{◌≡◌, sym, ap, subst, ◌∙◌}
+use mathlib.Core.Path.{◌≡◌, ap, subst, ◌∙◌}
 use mathlib.Core.List.{List}
 use Prim.Native.Nat.{ℕ, ◌+◌, ◌<◌, ◌≤◌}
 use native.Mathlib.Omega.{arith}
-use borrow.Author.Rules.{rules}
 use lib.Ieee.{of_bits}
 use lib.IntN.{ℤ, pos, nat_abs}
-use lib.ListN.{length, get_or}
+use lib.ListN.{get_or}
 use lib.Seq.{get_or-set_other}
 use Rattle.ieee.specs.Units.{magnitude}
 use Rattle.kinds.specs.Limits.{doubles}
@@ -31,7 +30,8 @@ above zs k j d h = get_or-set_other zs k j _ (pos 0) (λ s. omega arith)
 -- ---- what is asked of each
 pub put-requires : goal.put-requires
 put-requires c =
-    let room : (j : ℕ) → j < lane_count → nat_abs (get_or (lanes c.before.before) j (pos 0)) ≤ lane_limit most_calls = λ j h. lane_bound c.requires.1 j (omega (arith, c.requires.0)) in
+    let room : (j : ℕ) → j < lane_count → nat_abs (get_or (lanes c.before.before) j (pos 0)) ≤ lane_limit most_calls =
+    λ j h. lane_bound c.requires.1 j (omega (arith, c.requires.0)) in
     let r = c.shifted-at.result in
     let D = c.shifted-at.ensures in (
       omega (arith, D.within, c.requires.0),
@@ -42,12 +42,17 @@ put-requires c =
 pub put-requires-2 : goal.put-requires-2
 put-requires-2 c =
     let first : (let r = c.shifted-at.result in
-    c.put.new.lanes ≡ put (lanes c.before.before.before.before.before.before) r.lane (with_sign (pattern c.before.before.before.before.before.before) r.low)) = let r = c.shifted-at.result in
-    c.put.ensures ∙ ap (put (lanes c.before.before.before.before.before.before) r.lane) (sign_back c.with_sign.result (pattern c.before.before.before.before.before.before) r.low c.with_sign.ensures c.shifted-at.ensures.low) in
-    let room : (j : ℕ) → j < lane_count → nat_abs (get_or (lanes c.before.before.before.before.before.before) j (pos 0)) ≤ lane_limit most_calls = λ j h. lane_bound c.requires.1 j (omega (arith, c.requires.0)) in
+    c.put.new.lanes ≡ put (lanes c.before.before.before.before.before.before) r.lane
+    (with_sign (pattern c.before.before.before.before.before.before) r.low)) = let r = c.shifted-at.result in
+    c.put.ensures ∙ ap (put (lanes c.before.before.before.before.before.before) r.lane)
+    (sign_back c.with_sign.result (pattern c.before.before.before.before.before.before) r.low c.with_sign.ensures c.shifted-at.ensures.low) in
+    let room : (j : ℕ) → j < lane_count → nat_abs (get_or (lanes c.before.before.before.before.before.before) j (pos 0)) ≤ lane_limit most_calls =
+    λ j h. lane_bound c.requires.1 j (omega (arith, c.requires.0)) in
     let r = c.shifted-at.result in
     let D = c.shifted-at.ensures in
-    let same = ap (λ (zs : List ℤ). get_or zs (r.lane + 1) (pos 0)) first ∙ above (lanes c.before.before.before.before.before.before) r.lane (r.lane + 1) _ (omega arith) in (
+    let same =
+    ap (λ (zs : List ℤ). get_or zs (r.lane + 1) (pos 0)) first
+    ∙ above (lanes c.before.before.before.before.before.before) r.lane (r.lane + 1) _ (omega arith) in (
       omega (arith, D.within, c.put.auto.lanes, c.requires.0),
       rw same (room (r.lane + 1) (omega (arith, D.within))),
       sign_room c.with_sign-2.result (pattern c.before.before.before.before.before.before) r.middle c.with_sign-2.ensures D.middle,
@@ -56,20 +61,29 @@ put-requires-2 c =
 pub put-requires-3 : goal.put-requires-3
 put-requires-3 c =
     let first : (let r = c.shifted-at.result in
-    c.put.new.lanes ≡ put (lanes c.before.before.before.before.before.before.before.before.before.before) r.lane (with_sign (pattern c.before.before.before.before.before.before.before.before.before.before) r.low)) = let r = c.shifted-at.result in
-    c.put.ensures ∙ ap (put (lanes c.before.before.before.before.before.before.before.before.before.before) r.lane) (sign_back c.with_sign.result (pattern c.before.before.before.before.before.before.before.before.before.before) r.low c.with_sign.ensures c.shifted-at.ensures.low) in
+    c.put.new.lanes ≡ put (lanes c.before.before.before.before.before.before.before.before.before.before) r.lane
+    (with_sign (pattern c.before.before.before.before.before.before.before.before.before.before) r.low)) = let r = c.shifted-at.result in
+    c.put.ensures ∙ ap (put (lanes c.before.before.before.before.before.before.before.before.before.before) r.lane)
+    (sign_back c.with_sign.result (pattern c.before.before.before.before.before.before.before.before.before.before) r.low c.with_sign.ensures c.shifted-at.ensures.low) in
     let second : (let r = c.shifted-at.result in
-    c.put-2.new.lanes ≡ put (put (lanes c.before.before.before.before.before.before.before.before.before.before) r.lane (with_sign (pattern c.before.before.before.before.before.before.before.before.before.before) r.low)) (r.lane + 1) (with_sign (pattern c.before.before.before.before.before.before.before.before.before.before) r.middle)) = let r = c.shifted-at.result in
-    let digit = sign_back c.with_sign-2.result (pattern c.before.before.before.before.before.before.before.before.before.before) r.middle c.with_sign-2.ensures c.shifted-at.ensures.middle in
+    c.put-2.new.lanes
+    ≡ put (put (lanes c.before.before.before.before.before.before.before.before.before.before) r.lane (with_sign (pattern c.before.before.before.before.before.before.before.before.before.before) r.low)) (r.lane + 1) (with_sign (pattern c.before.before.before.before.before.before.before.before.before.before) r.middle)) = let r = c.shifted-at.result in
+    let digit =
+    sign_back c.with_sign-2.result
+    (pattern c.before.before.before.before.before.before.before.before.before.before) r.middle c.with_sign-2.ensures c.shifted-at.ensures.middle in
     c.put-2.ensures
     ∙ ap (put c.put.new.lanes (r.lane + 1)) digit
     ∙ ap (λ (zs : List ℤ). put zs (r.lane + 1) (with_sign (pattern c.before.before.before.before.before.before.before.before.before.before) r.middle)) first in
-    let room : (j : ℕ) → j < lane_count → nat_abs (get_or (lanes c.before.before.before.before.before.before.before.before.before.before) j (pos 0)) ≤ lane_limit most_calls = λ j h. lane_bound c.requires.1 j (omega (arith, c.requires.0)) in
+    let room : (j : ℕ) → j < lane_count
+    → nat_abs (get_or (lanes c.before.before.before.before.before.before.before.before.before.before) j (pos 0)) ≤ lane_limit most_calls = λ j h. lane_bound c.requires.1 j (omega (arith, c.requires.0)) in
     let r = c.shifted-at.result in
     let D = c.shifted-at.ensures in
-    let once = put (lanes c.before.before.before.before.before.before.before.before.before.before) r.lane (with_sign (pattern c.before.before.before.before.before.before.before.before.before.before) r.low) in
+    let once =
+    put (lanes c.before.before.before.before.before.before.before.before.before.before) r.lane
+    (with_sign (pattern c.before.before.before.before.before.before.before.before.before.before) r.low) in
     let same = ap (λ (zs : List ℤ). get_or zs (r.lane + 2) (pos 0)) second
-    ∙ above once (r.lane + 1) (r.lane + 2) _ (omega arith) ∙ above (lanes c.before.before.before.before.before.before.before.before.before.before) r.lane (r.lane + 2) _ (omega arith) in (
+    ∙ above once (r.lane + 1) (r.lane + 2) _ (omega arith)
+    ∙ above (lanes c.before.before.before.before.before.before.before.before.before.before) r.lane (r.lane + 2) _ (omega arith) in (
       omega (arith, D.within, c.put-2.auto.lanes, c.put.auto.lanes, c.requires.0),
       rw same (room (r.lane + 2) (omega (arith, D.within))),
       sign_room c.with_sign-3.result (pattern c.before.before.before.before.before.before.before.before.before.before) r.high c.with_sign-3.ensures D.high,
@@ -78,11 +92,16 @@ put-requires-3 c =
 pub returns : goal.returns
 returns c =
     let first : (let r = c.shifted-at.result in
-    c.put.new.lanes ≡ put (lanes c.before.before.before.before.before.before.before.before.before.before.before.before) r.lane (with_sign (pattern c.before.before.before.before.before.before.before.before.before.before.before.before) r.low)) = let r = c.shifted-at.result in
-    c.put.ensures ∙ ap (put (lanes c.before.before.before.before.before.before.before.before.before.before.before.before) r.lane) (sign_back c.with_sign.result (pattern c.before.before.before.before.before.before.before.before.before.before.before.before) r.low c.with_sign.ensures c.shifted-at.ensures.low) in
+    c.put.new.lanes ≡ put (lanes c.before.before.before.before.before.before.before.before.before.before.before.before) r.lane
+    (with_sign (pattern c.before.before.before.before.before.before.before.before.before.before.before.before) r.low)) = let r = c.shifted-at.result in
+    c.put.ensures ∙ ap (put (lanes c.before.before.before.before.before.before.before.before.before.before.before.before) r.lane)
+    (sign_back c.with_sign.result (pattern c.before.before.before.before.before.before.before.before.before.before.before.before) r.low c.with_sign.ensures c.shifted-at.ensures.low) in
     let second : (let r = c.shifted-at.result in
-    c.put-2.new.lanes ≡ put (put (lanes c.before.before.before.before.before.before.before.before.before.before.before.before) r.lane (with_sign (pattern c.before.before.before.before.before.before.before.before.before.before.before.before) r.low)) (r.lane + 1) (with_sign (pattern c.before.before.before.before.before.before.before.before.before.before.before.before) r.middle)) = let r = c.shifted-at.result in
-    let digit = sign_back c.with_sign-2.result (pattern c.before.before.before.before.before.before.before.before.before.before.before.before) r.middle c.with_sign-2.ensures c.shifted-at.ensures.middle in
+    c.put-2.new.lanes
+    ≡ put (put (lanes c.before.before.before.before.before.before.before.before.before.before.before.before) r.lane (with_sign (pattern c.before.before.before.before.before.before.before.before.before.before.before.before) r.low)) (r.lane + 1) (with_sign (pattern c.before.before.before.before.before.before.before.before.before.before.before.before) r.middle)) = let r = c.shifted-at.result in
+    let digit =
+    sign_back c.with_sign-2.result
+    (pattern c.before.before.before.before.before.before.before.before.before.before.before.before) r.middle c.with_sign-2.ensures c.shifted-at.ensures.middle in
     c.put-2.ensures
     ∙ ap (put c.put.new.lanes (r.lane + 1)) digit
     ∙ ap (λ (zs : List ℤ). put zs (r.lane + 1) (with_sign (pattern c.before.before.before.before.before.before.before.before.before.before.before.before) r.middle)) first in
@@ -91,6 +110,8 @@ returns c =
     subst (λ (n : ℕ). AtLane n r.lane r.low r.middle r.high) c.scaled-number.ensures.units c.shifted-at.ensures in
     let r = c.shifted-at.result in
     c.put-3.ensures
-    ∙ ap (put c.put-2.new.lanes (r.lane + 2)) (sign_back c.with_sign-3.result (pattern c.before.before.before.before.before.before.before.before.before.before.before.before) r.high c.with_sign-3.ensures c.shifted-at.ensures.high)
+    ∙ ap (put c.put-2.new.lanes (r.lane + 2))
+    (sign_back c.with_sign-3.result (pattern c.before.before.before.before.before.before.before.before.before.before.before.before) r.high c.with_sign-3.ensures c.shifted-at.ensures.high)
     ∙ ap (λ (zs : List ℤ). put zs (r.lane + 2) (with_sign (pattern c.before.before.before.before.before.before.before.before.before.before.before.before) r.high)) second
-    ∙ laid_three (pattern c.before.before.before.before.before.before.before.before.before.before.before.before) c.requires.2 digits (lanes c.before.before.before.before.before.before.before.before.before.before.before.before) c.requires.0
+    ∙ laid_three (pattern c.before.before.before.before.before.before.before.before.before.before.before.before) c.requires.2 digits
+    (lanes c.before.before.before.before.before.before.before.before.before.before.before.before) c.requires.0

@@ -1,7 +1,6 @@
 -- `lanes::inner::put` meets its contract: the lane holds what `plus` answers. Assumes nothing.
-use mathlib.Core.Path.{◌≡◌, ap, ◌∙◌}
+use mathlib.Core.Path.{ap, ◌∙◌}
 use native.Mathlib.Omega.{arith}
-use borrow.Author.Rules.{rules}
 use lib.IntN.{ℤ, pos, ◌+ℤ◌}
 use lib.ListN.{get_or, set}
 use mir.Syntax.{w64}

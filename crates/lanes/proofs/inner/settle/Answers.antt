@@ -1,7 +1,6 @@
 -- `lanes::inner::settle` meets its contract: the digits that carrying leaves are those of the whole number, and two by two its words. Assumes nothing.
 use mathlib.Core.Path.{◌≡◌, sym, ap, ◌∙◌}
 use mathlib.Core.List.{List, map}
-use borrow.Author.Rules.{rules}
 use lib.IntN.{ℤ}
 use Rattle.lists.specs.Digits.{residue}
 use Rattle.lanes.specs.Lanes.{lane_bits, lane_sum, settled_lanes}
@@ -18,6 +17,7 @@ write-requires c = (c.carry.auto.lanes ∙ c.requires.0.first, c.requires.0.seco
 
 pub returns : goal.returns
 returns c =
-    let carried : c.carry.new.lanes ≡ settled_lanes (lane_sum c.args.lanes.now) = c.carry.ensures ∙ sym (lanes_settled_lem c.args.lanes.now c.requires.0.first c.requires.2) in
+    let carried : c.carry.new.lanes ≡ settled_lanes (lane_sum c.args.lanes.now) =
+    c.carry.ensures ∙ sym (lanes_settled_lem c.args.lanes.now c.requires.0.first c.requires.2) in
     let zs = c.args.lanes.now in
     (carried, c.write.ensures ∙ ap (λ (ys : List ℤ). pairs (map (residue lane_bits) ys)) carried ∙ sym (settled_words (lane_sum zs)))

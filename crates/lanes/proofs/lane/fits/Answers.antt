@@ -1,5 +1,4 @@
 -- `lanes::lane::fits` meets its contract: compared with both ends. Assumes nothing.
-use borrow.Author.Rules.{rules}
 use mir.Syntax.{w64}
 use mir.ValLaws.{to_z-of_z}
 use Rattle.lanes.proofs.Signed64.{inside_top}

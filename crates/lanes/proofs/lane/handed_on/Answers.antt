@@ -1,7 +1,6 @@
 -- `lanes::lane::handed_on` meets its contract: what is handed on is no larger than the lane. Assumes nothing.
 use mathlib.Core.Path.{ap, ◌∙◌}
 use Prim.Native.Nat.{◌^◌}
-use borrow.Author.Rules.{rules}
 use lib.IntN.{ℤ}
 use lib.Signed.{shr_z, mag_shr}
 use mir.Syntax.{w64}

@@ -1,6 +1,5 @@
 -- `lanes::lane::rest` meets its contract: the lowest 32 bits are the residue, of either sign. Assumes nothing.
 use mathlib.Core.Path.{ap, ◌∙◌}
-use Prim.Native.Nat.{ℕ}
 use native.Mathlib.Omega.{arith}
 use lib.Bits.{and_mask, mask_lt}
 use lib.IntN.{pos}

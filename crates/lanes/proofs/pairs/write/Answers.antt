@@ -1,12 +1,11 @@
 -- `lanes::pairs::write` meets its contract: at each turn the lowest i words are the first i pairs. Assumes nothing.
-use mathlib.Core.Path.{◌≡◌, refl, sym, ap, ◌∙◌}
+use mathlib.Core.Path.{◌≡◌, refl, sym, ◌∙◌}
 use mathlib.Core.List.{List, [], ◌∷◌, ◌++◌, map}
-use Prim.Native.Nat.{ℕ, ◌+◌, ◌-◌, ◌*◌, ◌^◌, ◌≤◌, ◌<◌}
+use Prim.Native.Nat.{ℕ, ◌+◌, ◌-◌, ◌*◌, ◌^◌, ◌<◌}
 use native.Mathlib.Numerals.{add-one}
 use native.Mathlib.Omega.{arith}
-use borrow.Author.Rules.{rules}
 use lib.IntN.{ℤ, pos}
-use lib.ListN.{length, get_or, take, length-map, length-set, get_or-map}
+use lib.ListN.{length, get_or, length-map, length-set, get_or-map}
 use lib.Seq.{take-suc, take-suc-set, take_all}
 use Rattle.lists.specs.Digits.{residue}
 use Rattle.lanes.specs.Lanes.{lane_bits}

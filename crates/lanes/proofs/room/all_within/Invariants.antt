@@ -1,12 +1,9 @@
 -- `lanes::room::all_within` meets its contract: the lanes looked at have room exactly where none was found without. Assumes nothing.
 use Prim.Native.Nat.{◌-◌}
-use native.Mathlib.Omega.{arith}
-use borrow.Author.Rules.{rules}
 use lib.Dec.{leb}
-use lib.IntN.{pos, nat_abs}
-use lib.ListN.{length, get_or}
-use Rattle.lists.specs.Every.{Looked, looked_none, looked_next, looked_all}
-use Rattle.lanes.proofs.Signed64.{back}
+use lib.IntN.{nat_abs}
+use lib.ListN.{length}
+use Rattle.lists.specs.Every.{Looked}
 use Rattle.lanes.proofs.room.all_within.Reads as reads
 use Rattle.lanes.proofs.room.all_within.Lts as lts
 use Rattle.lanes.proofs.lane.within.Reads as within-reads

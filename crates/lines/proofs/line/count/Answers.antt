@@ -4,7 +4,6 @@ use native.Mathlib.Omega.{arith}
 use lib.ListN.{length}
 use Rattle.lines.specs.Lines.{count_line}
 use Rattle.numerals.proofs.TextLaws.{placed_behind}
-use borrow.Author.Rules.{rules}
 use Rattle.lines.proofs.line.count.Goals as goal
 
 pub returns : goal.returns

@@ -5,7 +5,6 @@ use lib.ListN.{length}
 use Rattle.lines.specs.Lines.{faithful_line}
 use Rattle.numerals.proofs.TextLaws.{placed_behind}
 use Rattle.lines.proofs.LineLaws.{hex_length}
-use borrow.Author.Rules.{rules}
 use Rattle.lines.proofs.line.faithful.Goals as goal
 
 pub decimal-counted-requires : goal.decimal-counted-requires

@@ -5,7 +5,6 @@ use lib.ListN.{length}
 use Rattle.lines.specs.Lines.{nearest_line}
 use Rattle.numerals.proofs.TextLaws.{placed_behind}
 use Rattle.lines.proofs.LineLaws.{hex_length}
-use borrow.Author.Rules.{rules}
 use Rattle.lines.proofs.line.nearest.Goals as goal
 
 pub put-requires : goal.put-requires

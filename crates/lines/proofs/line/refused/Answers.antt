@@ -3,7 +3,6 @@ use mathlib.Core.Path.{sym, ◌∙◌}
 use native.Mathlib.Omega.{arith}
 use Rattle.numerals.proofs.TextLaws.{placed_behind}
 use Rattle.lines.proofs.LineLaws.{word_length, line_told, line_silent}
-use borrow.Author.Rules.{rules}
 use Rattle.lines.proofs.line.refused.Goals as goal
 
 pub decimal-numbered-requires : goal.decimal-numbered-requires

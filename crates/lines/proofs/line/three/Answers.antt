@@ -1,5 +1,4 @@
 -- `lines::line::three` meets its contract: the lines one behind the other, of which 72 bytes hold the longest. Assumes nothing.
-use borrow.Author.Rules.{rules}
 use native.Mathlib.Omega.{arith}
 use Rattle.numerals.proofs.TextLaws.{placed_behind}
 use Rattle.lines.proofs.LineLaws.{count_length, faithful_length, counted_length, rounds_length}

@@ -1,5 +1,5 @@
 -- `nearest::bits::double` meets its contract: a pattern below the infinity's is no NaN's. Assumes nothing.
-use Rattle.std.proofs.Common.{◌≡◌, ◌*◌, ◌%◌, ◌^◌, Bool, true, false, cond, refl, rules}
+use Rattle.std.proofs.Common.{◌≡◌, ◌*◌, ◌%◌, ◌^◌, Bool, true, false, cond, refl}
 use mir.Val.{bool_byte}
 use lib.Ieee.{binary64}
 use Rattle.nearest.proofs.NearestBits.{bits_number}

@@ -1,5 +1,4 @@
 -- `nearest::head::across` meets its contract: the shifts lose none of the upper word, and the sum fits. Assumes nothing.
-use Rattle.std.proofs.Common.{rules}
 use Rattle.lists.proofs.WordShifts.{across_is, across_lt}
 use Rattle.nearest.proofs.head.across.Goals as goal
 

@@ -1,5 +1,5 @@
 -- `nearest::head::leading` meets its contract: the head is that of the words in use, one or two at the top. Assumes nothing.
-use Rattle.std.proofs.Common.{◌-◌, ◌^◌, ◌<◌, ◌≤◌, get_or, arith, rules}
+use Rattle.std.proofs.Common.{◌-◌, ◌^◌, ◌<◌, ◌≤◌, get_or, arith}
 use Rattle.lists.specs.Digits.{Digits}
 use Rattle.lists.specs.LeadingDigits.{size_of_word}
 use Rattle.words.specs.Words.{word_bits}

@@ -1,5 +1,5 @@
 -- `nearest::head::rest` meets its contract: something is below exactly where a word is in use. Assumes nothing.
-use Rattle.std.proofs.Common.{◌≡◌, ◌+◌, take, sym, zero-add, arith, rules, lt-ltb}
+use Rattle.std.proofs.Common.{◌≡◌, ◌+◌, take, sym, zero-add, arith, lt-ltb}
 use Rattle.lists.specs.Digits.{number}
 use Rattle.lists.specs.LeadingDigits.{used_some}
 use Rattle.words.specs.Words.{word_bits}

@@ -1,5 +1,4 @@
 -- `nearest::head::size` meets its contract: 64 less the leading zeros. Assumes nothing.
-use Rattle.std.proofs.Common.{rules}
 use lib.Count.{leading_le}
 use Rattle.lists.proofs.LeadingZeros.{size_is}
 use Rattle.nearest.proofs.head.size.Goals as goal

@@ -1,6 +1,5 @@
 -- `nearest::head::used` meets its contract. The loop's invariant: the words from the k-th on are zero. Assumes nothing.
-use Rattle.std.proofs.Common.{◌≡◌, ◌-◌, ◌≤◌, take, ◌∙◌, arith, rules}
-use Rattle.lists.specs.Digits.{number}
+use Rattle.std.proofs.Common.{◌-◌, ◌∙◌, arith, rules}
 use Rattle.lists.specs.LeadingDigits.{number_skip}
 use Rattle.words.specs.Words.{word_bits}
 use Rattle.nearest.proofs.head.used.Goals as goal

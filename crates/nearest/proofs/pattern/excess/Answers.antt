@@ -1,5 +1,5 @@
 -- `nearest::pattern::excess` meets its contract: the digits beyond the 53rd. Assumes nothing.
-use Rattle.std.proofs.Common.{arith, rules}
+use Rattle.std.proofs.Common.{arith}
 use Rattle.nearest.specs.Sticky.{dropped_is}
 use Rattle.nearest.proofs.pattern.excess.Goals as goal
 

@@ -1,5 +1,6 @@
 -- `nearest::pattern::quotient` meets its contract: what is left of x, doubled, is below, above or at the unit. Assumes nothing.
-use Rattle.std.proofs.Common.{◌≡◌, ℕ, ◌+◌, ◌*◌, ◌%◌, ◌^◌, ◌<◌, ◌≤◌, Bool, true, false, cond, sym, refl, ◌∙◌, mod-lt, div-lt_iff_lt-mul, le_antisymm, one-mul, add-one, arith, lit<, pow_pos, pow_mono, shl_exact, rules}
+use Rattle.std.proofs.Common.{◌≡◌, ℕ, ◌+◌, ◌*◌, ◌%◌, ◌^◌, ◌<◌, ◌≤◌, Bool, true, false, cond, sym, refl, ◌∙◌, mod-lt, div-lt_iff_lt-mul, le_antisymm, one-mul}
+use Rattle.std.proofs.Common.{add-one, arith, lit<, pow_pos, pow_mono, shl_exact}
 use mir.Val.{bool_byte}
 use Rattle.nearest.specs.Sticky.{over_down, over_tie, over_up}
 use Rattle.nearest.proofs.pattern.quotient.Goals as goal

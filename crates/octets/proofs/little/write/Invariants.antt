@@ -9,7 +9,8 @@ use Rattle.octets.proofs.little.write.Given as goal
 
 abbrev pub invariant-loop-i : goal.invariant-loop-i
 invariant-loop-i l =
-    (length l.bytes ≡ length l.initial.bytes) × (l.i ≤ 8) × (l.rest ≡ l.v / 2 ^ (8 * l.i)) × (l.bytes ≡ (take l.at l.initial.bytes ++ little_endian l.i l.v) ++ drop (l.at + l.i) l.initial.bytes)
+    (length l.bytes ≡ length l.initial.bytes) × (l.i ≤ 8) × (l.rest ≡ l.v / 2 ^ (8 * l.i))
+    × (l.bytes ≡ (take l.at l.initial.bytes ++ little_endian l.i l.v) ++ drop (l.at + l.i) l.initial.bytes)
 
 abbrev pub decreases-loop-i : goal.decreases-loop-i
 decreases-loop-i l = 8 - l.i

@@ -3,10 +3,7 @@ use mathlib.Core.Path.{sym, ◌∙◌}
 use Prim.Native.Nat.{◌-◌}
 use native.Mathlib.Numerals.{add-one}
 use native.Mathlib.Omega.{arith}
-use borrow.Author.Rules.{rules}
-use lib.ListN.{length}
 use Rattle.pairs.specs.Limits.{double_pairs}
-use Rattle.pairs.specs.Table.{CleanPairs}
 use Rattle.pairs.proofs.JudgedLaws.{pairs_none, pairs_more, pairs_fewer, pairs_good, pairs_refused}
 use Rattle.pairs.proofs.faults.first_fault.Goals as goal
 

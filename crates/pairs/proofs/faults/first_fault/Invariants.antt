@@ -1,13 +1,8 @@
 -- `pairs::faults::first_fault` meets its contract: the pairs passed have no fault, so the first that has one is the lowest. Assumes nothing.
-use mathlib.Core.Path.{sym, ◌∙◌}
 use Prim.Native.Nat.{◌-◌}
-use native.Mathlib.Numerals.{add-one}
-use native.Mathlib.Omega.{arith}
-use borrow.Author.Rules.{rules}
 use lib.ListN.{length}
 use Rattle.pairs.specs.Limits.{double_pairs}
 use Rattle.pairs.specs.Table.{CleanPairs}
-use Rattle.pairs.proofs.JudgedLaws.{pairs_none, pairs_more, pairs_fewer, pairs_good, pairs_refused}
 use Rattle.pairs.proofs.faults.first_fault.Given as goal
 
 abbrev pub invariant-loop-place : goal.invariant-loop-place

@@ -1,6 +1,5 @@
 -- `pairs::two::two_product` meets its contract: it is Algorithm 1.1, operation by operation. Assumes nothing.
 use mathlib.Core.Path.{refl}
-use borrow.Author.Rules.{rules}
 use Rattle.kinds.specs.Limits.{doubles}
 use lib.Ieee.{mul, sub}
 use Rattle.ieee.specs.ErrorFree.{product_error}

@@ -3,23 +3,18 @@ use mathlib.Core.Path.{◌≡◌, sym, ap, ◌∙◌}
 use mathlib.Core.List.{zip}
 use Prim.Native.Nat.{ℕ, ◌-◌, ◌≤◌, ◌<◌}
 use native.Mathlib.Omega.{arith}
-use borrow.Author.Rules.{rules}
-use lib.Dec.{T}
 use lib.IntN.{◌+ℤ◌}
 use lib.ListN.{length, get_or}
-use lib.Ieee.{of_bits, to_bits}
-use lib.Ieee.Scale.{finite}
+use lib.Ieee.{to_bits}
 use Rattle.kinds.specs.Limits.{doubles}
-use Rattle.words.specs.Words.{word_count, whole_of, words_of}
+use Rattle.words.specs.Words.{whole_of, words_of}
 use Rattle.addend.specs.Addend.{units_of}
 use Rattle.addend.proofs.RegisterWords.{held}
 use Rattle.pairs.specs.Pairs.{Pair, product_of, error_of}
 use Rattle.pairs.proofs.ZipLaws.{zip_length, zip_at}
-use Rattle.pairs.specs.TotalLaws.{sum_to}
 use Rattle.pairs.proofs.TotalLaws.{total_begins, total_goes_on, total_ends}
 use Rattle.pairs.proofs.Instances.{pair_64}
 use Rattle.pairs.proofs.weighted.total.Goals as goal
-use Rattle.pairs.proofs.weighted.total.Goals.{After-multiply-two}
 
 pub loop-i-init : goal.loop-i-init
 loop-i-init c = (c.requires.2, omega arith, total_begins (zip c.args.a.now c.args.b.now) (held c.requires.2 c.slice_known-1.given))

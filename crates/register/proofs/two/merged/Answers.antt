@@ -14,7 +14,8 @@ returns-then-crossed c =
     let second : Held c.args.b.now = held c.requires.second c.shared_slice_known-2-1.given in
     let first : Held c.args.a.now = held c.requires.first c.shared_slice_known-1.given in
     let tested : (let a = c.args in
-    c.crossed.result ≡ crosses (sign_bit a.a.now) (sign_bit a.b.now) (sign_bit c.total.new.out)) = rw (← c.sign.ensures, ← c.sign-2.ensures, ← c.sign-3.ensures) c.crossed.ensures in
+    c.crossed.result ≡ crosses (sign_bit a.a.now) (sign_bit a.b.now)
+    (sign_bit c.total.new.out)) = rw (← c.sign.ensures, ← c.sign-2.ensures, ← c.sign-3.ensures) c.crossed.ensures in
     crossed first second c.requires c.total.ensures (sym tested ∙ c.if-crossed.true)
 
 pub returns : goal.returns
@@ -22,7 +23,8 @@ returns c =
     let second : Held c.args.b.now = held c.requires.second c.shared_slice_known-2-1.given in
     let first : Held c.args.a.now = held c.requires.first c.shared_slice_known-1.given in
     let tested : (let a = c.args in
-    c.crossed.result ≡ crosses (sign_bit a.a.now) (sign_bit a.b.now) (sign_bit c.total.new.out)) = rw (← c.sign.ensures, ← c.sign-2.ensures, ← c.sign-3.ensures) c.crossed.ensures in
+    c.crossed.result ≡ crosses (sign_bit a.a.now) (sign_bit a.b.now)
+    (sign_bit c.total.new.out)) = rw (← c.sign.ensures, ← c.sign-2.ensures, ← c.sign-3.ensures) c.crossed.ensures in
     fits first second c.requires c.total.ensures c.total-2.ensures (sym tested ∙ c.if-crossed.false)
 
 -- ---- what the calls ask

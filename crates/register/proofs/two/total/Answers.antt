@@ -1,5 +1,4 @@
 -- `register::two::total` meets its contract: the carry equation of all words gives every word. Assumes nothing.
-use borrow.Author.Rules.{rules}
 use mathlib.Core.Path.{sym, ◌∙◌}
 use Prim.Native.Nat.{◌-◌}
 use lib.Dec.{lit<}

@@ -1,13 +1,8 @@
 -- `rescue::entries::count_kept` meets its contract: of the entries passed, so many are kept. Assumes nothing.
-use mathlib.Core.Logic.{inl, inr}
-use Prim.Native.Nat.{◌-◌, ◌≤◌, ◌<◌}
+use Prim.Native.Nat.{◌-◌, ◌<◌}
 use native.Mathlib.Omega.{arith}
-use borrow.Author.Rules.{rules}
 use lib.ListN.{length, drop}
-use Rattle.lists.specs.Filter.{Sifted}
 use Rattle.lists.proofs.Filter.{sifted_none, sifted_pass, sifted_fail, sifted_all}
-use Rattle.kinds.specs.Limits.{doubles}
-use Rattle.judge.specs.Judge.{fault_free}
 use Rattle.octets.specs.Octets.{big}
 use Rattle.octets.proofs.EightsLaws.{eights_length}
 use Rattle.sheet.specs.Sheet.{patterns_of}
@@ -26,8 +21,10 @@ loop-i-preserved c =
     let r = c.big_endian.ensures in
     let f = c.fault.ensures in
     elim c.if-fault-eq0.branch [
-      | goal.then-fault-eq0 g ↦ rw g.kept-is (omega arith, omega arith, sifted_pass c.loop-i.invariant.2 0 j (entry_kept a.damaged.now a.n i h r f g.if-fault-eq0.true))
-      | goal.else-fault-eq0 g ↦ rw g.kept-is (omega arith, omega arith, sifted_fail c.loop-i.invariant.2 0 j (entry_dropped a.damaged.now a.n i h r f g.if-fault-eq0.false))
+      | goal.then-fault-eq0 g ↦ rw g.kept-is
+          (omega arith, omega arith, sifted_pass c.loop-i.invariant.2 0 j (entry_kept a.damaged.now a.n i h r f g.if-fault-eq0.true))
+      | goal.else-fault-eq0 g ↦ rw g.kept-is
+          (omega arith, omega arith, sifted_fail c.loop-i.invariant.2 0 j (entry_dropped a.damaged.now a.n i h r f g.if-fault-eq0.false))
     ]
 
 pub returns : goal.returns

@@ -1,6 +1,5 @@
 -- `rescue::entries::mark` meets its contract: each return is a case of the definition. Assumes nothing.
 use mathlib.Core.Path.{◌≡◌, sym, ◌∙◌}
-use borrow.Author.Rules.{rules}
 use borrow.Author.Tests.{eq-eqb, ne_eqb}
 use Rattle.kinds.specs.Limits.{doubles}
 use Rattle.judge.specs.Judge.{fault_of}

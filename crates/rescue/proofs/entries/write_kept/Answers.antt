@@ -1,21 +1,17 @@
 -- `rescue::entries::write_kept` meets its contract: behind the five bytes of a header stand the first of the patterns that are kept, as many as the entries
 -- passed have. Assumes nothing.
 use mathlib.Core.Path.{◌≡◌, refl, sym, ◌∙◌}
-use mathlib.Core.Logic.{inl, inr}
-use mathlib.Core.List.{◌++◌}
-use Prim.Native.Nat.{◌+◌, ◌*◌, ◌-◌, ◌≤◌, ◌<◌}
+use Prim.Native.Nat.{◌-◌, ◌<◌}
 use native.Mathlib.Omega.{arith}
 use borrow.Author.Rules.{rules}
 use lib.ListN.{length, get_or, take, drop, take-append-drop}
 use lib.Seq.{take_all, length-take-le}
-use Rattle.lists.specs.Filter.{Sifted}
 use Rattle.lists.proofs.Filter.{sifted_none, sifted_inside, sifted_at, sifted_pass, sifted_fail, sifted_all}
 use Rattle.kinds.specs.Limits.{doubles}
-use Rattle.judge.specs.Judge.{fault_free}
 use Rattle.octets.specs.Octets.{big_endian, big}
 use Rattle.octets.proofs.OctetsLaws.{big_length}
 use Rattle.octets.proofs.EightsLaws.{eights_length, joined_none, joined_behind}
-use Rattle.sheet.specs.Sheet.{body, patterns_of}
+use Rattle.sheet.specs.Sheet.{patterns_of}
 use Rattle.rescue.specs.Rescue.{kept_of}
 use Rattle.rescue.proofs.EntryLaws.{entry_inside, entry_at, entry_kept, entry_dropped}
 use Rattle.rescue.proofs.entries.write_kept.Goals as goal
@@ -51,8 +47,10 @@ loop-i-preserved c =
           let K = kept_of doubles ps in
           let t = entry_kept a.damaged.now a.n i h r f g.if-fault-eq0.true in
           let v : get_or K k 0 ≡ c.big_endian-p.result = sifted_at c.loop-i.invariant.3 0 j t ∙ entry_at a.damaged.now a.n i h r in
-          let b = joined_behind (big_endian 8) (big_length 8) (take 5 s) 5 (length-take-le 5 s (omega arith)) K s k (sifted_inside c.loop-i.invariant.3 0 j t) in
-          rw (g.sheet-is, g.kept-is) (search rules, omega arith, omega arith, sifted_pass c.loop-i.invariant.3 0 j t, g.write_big_endian.ensures ∙ rw (c.loop-i.invariant.4, ← v) b)
+          let b =
+          joined_behind (big_endian 8) (big_length 8) (take 5 s) 5 (length-take-le 5 s (omega arith)) K s k (sifted_inside c.loop-i.invariant.3 0 j t) in
+          rw (g.sheet-is, g.kept-is)
+          (search rules, omega arith, omega arith, sifted_pass c.loop-i.invariant.3 0 j t, g.write_big_endian.ensures ∙ rw (c.loop-i.invariant.4, ← v) b)
       | goal.else-fault-eq0 g ↦
           let t = entry_dropped a.damaged.now a.n i h r f g.if-fault-eq0.false in
           rw (g.sheet-is, g.kept-is) (c.loop-i.invariant.0, omega arith, omega arith, sifted_fail c.loop-i.invariant.3 0 j t, c.loop-i.invariant.4)

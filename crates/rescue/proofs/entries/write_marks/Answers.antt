@@ -1,10 +1,9 @@
 -- `rescue::entries::write_marks` meets its contract: the places passed hold the marks of their entries, and the others what they held. Assumes nothing.
 use mathlib.Core.Path.{◌≡◌, refl, sym, ap, ◌∙◌}
-use mathlib.Core.List.{◌++◌, map}
-use Prim.Native.Nat.{◌-◌, ◌≤◌, ◌<◌}
+use Prim.Native.Nat.{◌-◌, ◌<◌}
 use native.Mathlib.Omega.{arith}
 use borrow.Author.Rules.{rules}
-use lib.ListN.{length, get_or, take, drop}
+use lib.ListN.{length, get_or, drop}
 use lib.Seq.{take_all}
 use Rattle.lists.proofs.Front.{store_map}
 use Rattle.kinds.specs.Limits.{doubles}

@@ -1,6 +1,5 @@
 -- `rounds::close::close` meets its contract: either way the round is closed as the rules say, and T is that of the area. Assumes nothing.
 use mathlib.Core.Path.{sym, ◌∙◌}
-use borrow.Author.Rules.{rules}
 use Rattle.rounds.proofs.close.close.Goals as goal
 
 pub finish-requires : goal.finish-requires

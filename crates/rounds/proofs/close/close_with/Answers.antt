@@ -1,6 +1,5 @@
 -- `rounds::close::close_with` meets its contract: either way the round is closed as the rules say. Assumes nothing.
 use mathlib.Core.Path.{sym, ◌∙◌}
-use borrow.Author.Rules.{rules}
 use Rattle.rounds.proofs.close.close_with.Goals as goal
 
 pub finish-requires : goal.finish-requires

@@ -1,7 +1,6 @@
 -- `rounds::close::ends` meets its contract: its tests are those of the rules, in their order. Assumes nothing.
-use mathlib.Core.Path.{◌≡◌, sym, ap, ◌∙◌}
-use Prim.Native.Nat.{ℕ, ◌≤◌}
-use native.Mathlib.Omega.{arith}
+use mathlib.Core.Path.{sym, ap, ◌∙◌}
+use Prim.Native.Nat.{ℕ}
 use borrow.Author.Rules.{rules}
 use lib.Ieee.{binary64}
 use Rattle.kinds.specs.Limits.{doubles, exponent_of}

@@ -3,7 +3,6 @@
 use mathlib.Core.Path.{◌≡◌, sym, subst, ◌∙◌}
 use mathlib.Core.Bool.{false}
 use native.Mathlib.Omega.{arith}
-use borrow.Author.Rules.{rules}
 use borrow.Author.Tests.{le-leb, lt-leb}
 use lib.Dec.{T}
 use lib.Ieee.{binary64, hid, to_bits, le}
@@ -24,11 +23,13 @@ returns-then-sigma-le-LEAST_NORMAL c =
 pub scaled-requires : goal.scaled-requires
 scaled-requires c =
     let number : Number binary64 c.args.sigma = record { fit = subst T (sym c.well_formed.1.0.1) tt; fini = c.requires.1.fini } in
-    let above : le c.args.sigma (least_normal binary64) ≡ false = sym (normal_bits binary64 number c.requires.1.positive) ∙ lt-leb (to_bits binary64 c.args.sigma) (hid binary64) (omega arith) in
+    let above : le c.args.sigma (least_normal binary64) ≡ false =
+    sym (normal_bits binary64 number c.requires.1.positive) ∙ lt-leb (to_bits binary64 c.args.sigma) (hid binary64) (omega arith) in
     (omega (arith, c.requires.0), power_above binary64 c.requires.1 number.fit above)
 
 pub returns : goal.returns
 returns c =
     let number : Number binary64 c.args.sigma = record { fit = subst T (sym c.well_formed.1.0.1) tt; fini = c.requires.1.fini } in
-    let above : le c.args.sigma (least_normal binary64) ≡ false = sym (normal_bits binary64 number c.requires.1.positive) ∙ lt-leb (to_bits binary64 c.args.sigma) (hid binary64) (omega arith) in
+    let above : le c.args.sigma (least_normal binary64) ≡ false =
+    sym (normal_bits binary64 number c.requires.1.positive) ∙ lt-leb (to_bits binary64 c.args.sigma) (hid binary64) (omega arith) in
     rw (c.absolute.ensures, c.scaled.ensures, above)

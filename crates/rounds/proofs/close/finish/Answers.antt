@@ -1,5 +1,4 @@
 -- `rounds::close::finish` meets its contract: its operations are those of rule W3. Assumes nothing.
-use borrow.Author.Rules.{rules}
 use Rattle.kinds.specs.Limits.{doubles}
 use Rattle.rounds.specs.ClosedLaws.{finish_closes}
 use Rattle.rounds.proofs.close.finish.Goals as goal

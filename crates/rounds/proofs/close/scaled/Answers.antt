@@ -3,9 +3,8 @@
 use mathlib.Core.Path.{◌≡◌, sym, subst, ap, ◌∙◌}
 use Prim.Native.Nat.{ℕ, suc, ◌+◌, ◌-◌, ◌*◌, ◌/◌, ◌%◌, ◌<◌}
 use native.Mathlib.Omega.{arith}
-use borrow.Author.Rules.{rules}
 use lib.Dec.{T, lit≤}
-use lib.Ieee.{binary64, hid, ones, to_bits, fits}
+use lib.Ieee.{binary64, to_bits, fits}
 use Rattle.ieee.proofs.Finite.{finite_no_nan}
 use Rattle.ieee.proofs.Pattern.{pattern_no_nan}
 use Rattle.exponent.specs.Power.{powers, power_of}
@@ -20,7 +19,8 @@ pub float_from_bits-result : goal.float_from_bits-result
 float_from_bits-result c =
     let fits_in : c.requires.1.k + c.args.j - 53 < powers binary64 = omega (arith, c.requires.1.to, c.requires.0) in
     let fit : T (fits binary64 c.args.sigma) = subst T (sym c.well_formed.1.0.1) tt in
-    let pattern : to_bits binary64 c.args.sigma ≡ (c.requires.1.k - 51) * 4503599627370496 = omega (arith, power_field binary64 c.requires.1 fit, c.requires.1.from) in
+    let pattern : to_bits binary64 c.args.sigma ≡ (c.requires.1.k - 51) * 4503599627370496 =
+    omega (arith, power_field binary64 c.requires.1 fit, c.requires.1.from) in
     let lower : (y : ℕ)
     × (to_bits binary64 c.args.sigma - (53 - c.args.j) * 4503599627370496 % 18446744073709551616 ≡ suc y * 4503599627370496)
     × (52 + y ≡ c.requires.1.k + c.args.j - 53) = let k = c.requires.1.k in
@@ -33,7 +33,8 @@ pub returns-then-down-p : goal.returns-then-down-p
 returns-then-down-p c =
     let fits_in : c.requires.1.k + c.args.j - 53 < powers binary64 = omega (arith, c.requires.1.to, c.requires.0) in
     let fit : T (fits binary64 c.args.sigma) = subst T (sym c.well_formed.1.0.1) tt in
-    let pattern : to_bits binary64 c.args.sigma ≡ (c.requires.1.k - 51) * 4503599627370496 = omega (arith, power_field binary64 c.requires.1 fit, c.requires.1.from) in
+    let pattern : to_bits binary64 c.args.sigma ≡ (c.requires.1.k - 51) * 4503599627370496 =
+    omega (arith, power_field binary64 c.requires.1 fit, c.requires.1.from) in
     let lower : (y : ℕ)
     × (to_bits binary64 c.args.sigma - (53 - c.args.j) * 4503599627370496 % 18446744073709551616 ≡ suc y * 4503599627370496)
     × (52 + y ≡ c.requires.1.k + c.args.j - 53) = let k = c.requires.1.k in
@@ -46,43 +47,50 @@ returns-then-down-p c =
 pub overflow_cast-field : goal.overflow_cast-field
 overflow_cast-field c =
     let fit : T (fits binary64 c.args.sigma) = subst T (sym c.well_formed.1.0.1) tt in
-    let pattern : to_bits binary64 c.args.sigma ≡ (c.requires.1.k - 51) * 4503599627370496 = omega (arith, power_field binary64 c.requires.1 fit, c.requires.1.from) in
+    let pattern : to_bits binary64 c.args.sigma ≡ (c.requires.1.k - 51) * 4503599627370496 =
+    omega (arith, power_field binary64 c.requires.1 fit, c.requires.1.from) in
     omega (arith, pattern, c.requires.1.to)
 
 pub overflow_add-field : goal.overflow_add-field
 overflow_add-field c =
     let fit : T (fits binary64 c.args.sigma) = subst T (sym c.well_formed.1.0.1) tt in
-    let pattern : to_bits binary64 c.args.sigma ≡ (c.requires.1.k - 51) * 4503599627370496 = omega (arith, power_field binary64 c.requires.1 fit, c.requires.1.from) in
+    let pattern : to_bits binary64 c.args.sigma ≡ (c.requires.1.k - 51) * 4503599627370496 =
+    omega (arith, power_field binary64 c.requires.1 fit, c.requires.1.from) in
     omega (arith, pattern, c.requires.1.to)
 
 pub overflow_sub-field : goal.overflow_sub-field
 overflow_sub-field c =
     let fit : T (fits binary64 c.args.sigma) = subst T (sym c.well_formed.1.0.1) tt in
-    let pattern : to_bits binary64 c.args.sigma ≡ (c.requires.1.k - 51) * 4503599627370496 = omega (arith, power_field binary64 c.requires.1 fit, c.requires.1.from) in
+    let pattern : to_bits binary64 c.args.sigma ≡ (c.requires.1.k - 51) * 4503599627370496 =
+    omega (arith, power_field binary64 c.requires.1 fit, c.requires.1.from) in
     omega (arith, pattern, c.requires.1.from)
 
 pub overflow_add-field-2 : goal.overflow_add-field-2
 overflow_add-field-2 c =
     let fit : T (fits binary64 c.args.sigma) = subst T (sym c.well_formed.1.0.1) tt in
-    let pattern : to_bits binary64 c.args.sigma ≡ (c.requires.1.k - 51) * 4503599627370496 = omega (arith, power_field binary64 c.requires.1 fit, c.requires.1.from) in
+    let pattern : to_bits binary64 c.args.sigma ≡ (c.requires.1.k - 51) * 4503599627370496 =
+    omega (arith, power_field binary64 c.requires.1 fit, c.requires.1.from) in
     omega (arith, pattern, c.requires.1.to, c.requires.0)
 
 pub overflow_sub-field-2 : goal.overflow_sub-field-2
 overflow_sub-field-2 c =
     let fit : T (fits binary64 c.args.sigma) = subst T (sym c.well_formed.1.0.1) tt in
-    let pattern : to_bits binary64 c.args.sigma ≡ (c.requires.1.k - 51) * 4503599627370496 = omega (arith, power_field binary64 c.requires.1 fit, c.requires.1.from) in
+    let pattern : to_bits binary64 c.args.sigma ≡ (c.requires.1.k - 51) * 4503599627370496 =
+    omega (arith, power_field binary64 c.requires.1 fit, c.requires.1.from) in
     omega (arith, pattern, c.requires.1.from)
 
 pub power-requires : goal.power-requires
 power-requires c =
     let fit : T (fits binary64 c.args.sigma) = subst T (sym c.well_formed.1.0.1) tt in
-    let pattern : to_bits binary64 c.args.sigma ≡ (c.requires.1.k - 51) * 4503599627370496 = omega (arith, power_field binary64 c.requires.1 fit, c.requires.1.from) in
+    let pattern : to_bits binary64 c.args.sigma ≡ (c.requires.1.k - 51) * 4503599627370496 =
+    omega (arith, power_field binary64 c.requires.1 fit, c.requires.1.from) in
     omega (arith, pattern, c.requires.1.to, c.requires.0)
 
 pub returns : goal.returns
 returns c =
     let fit : T (fits binary64 c.args.sigma) = subst T (sym c.well_formed.1.0.1) tt in
-    let pattern : to_bits binary64 c.args.sigma ≡ (c.requires.1.k - 51) * 4503599627370496 = omega (arith, power_field binary64 c.requires.1 fit, c.requires.1.from) in
+    let pattern : to_bits binary64 c.args.sigma ≡ (c.requires.1.k - 51) * 4503599627370496 =
+    omega (arith, power_field binary64 c.requires.1 fit, c.requires.1.from) in
     let k = c.requires.1.k in
     let e : to_bits binary64 c.args.sigma / 4503599627370496 + 52 - 1 + c.args.j - 53 ≡ k + c.args.j - 53 = omega (arith, pattern, c.requires.1.from) in
     c.power.ensures ∙ ap (power_of binary64) e ∙ scaled_power binary64 c.args.j (lit≤ tt) c.requires.0 c.requires.1 fit

@@ -1,6 +1,5 @@
 -- `rounds::round::begin` meets its contract: the callees give each field. Assumes nothing.
 use mathlib.Core.Path.{ap, ◌∙◌}
-use borrow.Author.Rules.{rules}
 use lib.Ieee.{binary64}
 use Rattle.lists.specs.Bitset.{full}
 use Rattle.extract.specs.Extract.{plus_zero}

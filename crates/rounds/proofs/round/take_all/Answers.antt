@@ -1,8 +1,7 @@
 -- `rounds::round::take_all` meets its contract: the extraction is that of the whole area, and tau in eight sums is tau in one. Assumes nothing.
-use mathlib.Core.Path.{◌≡◌, sym, ap, ◌∙◌}
+use mathlib.Core.Path.{sym, ap, ◌∙◌}
 use Prim.Native.Nat.{◌+◌, ◌^◌, ◌≤◌}
 use native.Mathlib.Omega.{arith}
-use borrow.Author.Rules.{rules}
 use lib.ListN.{length}
 use lib.Ieee.{Float, binary64}
 use Rattle.units.proofs.Ceiling.{ceil_ge}

@@ -1,10 +1,8 @@
 -- `sheet::layout::header` meets its contract: the version stands in the first byte, and the count in the four behind it. Assumes nothing.
-use mathlib.Core.Path.{ap, ◌∙◌}
+use mathlib.Core.Path.{◌∙◌}
 use native.Mathlib.Omega.{arith}
-use borrow.Author.Rules.{rules}
-use lib.ListN.{length}
 use Rattle.octets.specs.Octets.{big_endian}
-use Rattle.sheet.proofs.LayoutLaws.{header_laid, header_length}
+use Rattle.sheet.proofs.LayoutLaws.{header_laid}
 use Rattle.sheet.proofs.layout.header.Goals as goal
 
 pub returns : goal.returns

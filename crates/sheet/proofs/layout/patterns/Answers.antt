@@ -1,15 +1,13 @@
 -- `sheet::layout::patterns` meets its contract: behind the five bytes of a header stand the first i patterns' bytes. Assumes nothing.
 use mathlib.Core.Path.{◌≡◌, refl, sym, ◌∙◌}
-use mathlib.Core.List.{◌++◌}
-use Prim.Native.Nat.{◌+◌, ◌*◌, ◌-◌, ◌≤◌}
+use Prim.Native.Nat.{◌-◌}
 use native.Mathlib.Omega.{arith}
 use borrow.Author.Rules.{rules}
-use lib.ListN.{length, take, drop, take-append-drop}
+use lib.ListN.{length, take, take-append-drop}
 use lib.Seq.{take_all, length-take-le}
 use Rattle.octets.specs.Octets.{big_endian}
 use Rattle.octets.proofs.OctetsLaws.{big_length}
 use Rattle.octets.proofs.EightsLaws.{joined_none, joined_behind}
-use Rattle.sheet.specs.Sheet.{body}
 use Rattle.sheet.proofs.layout.patterns.Goals as goal
 
 pub loop-i-init : goal.loop-i-init

@@ -1,6 +1,5 @@
 -- scripts/singles writes this file, from crates/addend/proofs/place/place/Answers.antt.
 -- `single_addend::place::place` meets its contract: the significand, shifted. Assumes nothing.
-use borrow.Author.Rules.{rules}
 use mathlib.Core.Path.{◌∙◌}
 use native.Mathlib.Omega.{arith}
 use Rattle.single_addend.proofs.place.place.Goals as goal

@@ -1,6 +1,5 @@
 -- scripts/singles writes this file, from crates/addend/proofs/place/scaled/Answers.antt.
 -- `single_addend::place::scaled` meets its contract: the magnitude by the pattern's fields. Assumes nothing.
-use borrow.Author.Rules.{rules}
 use mathlib.Core.Path.{sym, ◌∙◌}
 use Prim.Native.Nat.{◌*◌, ◌/◌, ◌%◌, ◌^◌, ◌<◌}
 use native.Mathlib.Nat.{mul-one}

@@ -2,7 +2,6 @@
 -- `single_extract::first::from_list` meets its contract: the places passed hold the remainders of the list's numbers, their high parts are gathered, their remainders
 -- are added up in rising order, and the greatest pattern stands for the largest magnitude among those. Assumes nothing.
 use mathlib.Core.Path.{◌≡◌, refl, sym, subst, ◌∙◌}
-use mathlib.Core.Logic.{inl, inr}
 use mathlib.Core.Bool.{not}
 use mathlib.Core.List.{List, [], ◌∷◌, ◌++◌, map}
 use Prim.Native.Nat.{ℕ, ◌+◌, ◌-◌, ◌%◌, ◌<◌, max}
@@ -62,7 +61,8 @@ float_to_bits-most c = finite_no_nan c.args.largest c.requires.1
 pub loop-i-init : goal.loop-i-init
 unfolding remainders gathered last_sum
 loop-i-init c =
-    let positive : Positive binary32 c.args.largest (magnitude binary32 c.args.largest) = record { number = record { fit = subst T (sym c.well_formed.1.1.1.1.0.1) tt; fini = c.requires.1 }; sign = c.requires.2; units = refl } in
+    let positive : Positive binary32 c.args.largest (magnitude binary32 c.args.largest) =
+    record { number = record { fit = subst T (sym c.well_formed.1.1.1.1.0.1) tt; fini = c.requires.1 }; sign = c.requires.2; units = refl } in
     let m = magnitude binary32 c.args.largest in
     let e : max m (largest binary32 []) ≡ m = rw (largest_none binary32) (omega arith) in
     (refl, refl, refl, refl, rw e (positive_stands binary32 positive))
@@ -118,7 +118,8 @@ float_from_bits-result c = pattern_no_nan binary32 c.loop-i.invariant.4.below
 pub returns : goal.returns
 unfolding remainders
 returns c =
-    let positive : Positive binary32 c.args.largest (magnitude binary32 c.args.largest) = record { number = record { fit = subst T (sym c.well_formed.1.1.1.1.0.1) tt; fini = c.requires.1 }; sign = c.requires.2; units = refl } in
+    let positive : Positive binary32 c.args.largest (magnitude binary32 c.args.largest) =
+    record { number = record { fit = subst T (sym c.well_formed.1.1.1.1.0.1) tt; fini = c.requires.1 }; sign = c.requires.2; units = refl } in
     let a = c.args in
     let v = c.loop-i.invariant in
     let xs = map (of_bits binary32) a.list.now in

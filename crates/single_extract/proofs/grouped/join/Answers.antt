@@ -1,7 +1,6 @@
 -- scripts/singles writes this file, from crates/extract/proofs/grouped/join/Answers.antt.
 -- `single_extract::grouped::join` meets its contract: its additions are those of the definition. Assumes nothing.
 use mathlib.Core.Path.{refl}
-use borrow.Author.Rules.{rules}
 use Rattle.extract.specs.Grouped.{joined}
 use Rattle.single_extract.proofs.grouped.join.Goals as goal
 

@@ -1,16 +1,14 @@
 -- scripts/singles writes this file, from crates/extract/proofs/grouped/turn/Answers.antt.
 -- `single_extract::grouped::turn` meets its contract: the places passed hold their remainders, and their high parts are in sums of their own. Assumes nothing.
-use mathlib.Core.Path.{◌≡◌, refl, sym, ap, ◌∙◌}
-use mathlib.Core.Logic.{inl, inr}
-use mathlib.Core.List.{List, [], ◌∷◌, ◌++◌}
-use Prim.Native.Nat.{ℕ, ◌+◌, ◌-◌, ◌%◌, ◌≤◌, ◌<◌}
+use mathlib.Core.Path.{◌≡◌, refl, sym, ◌∙◌}
+use Prim.Native.Nat.{◌-◌, ◌%◌, ◌<◌}
 use native.Mathlib.Omega.{arith}
 use borrow.Author.Rules.{rules}
 use lib.Dec.{T}
-use lib.Ieee.{Float, nan, binary32, top, to_bits, add}
+use lib.Ieee.{Float, nan, binary32, top, to_bits}
 use lib.Ieee.Fits.{sub-fits}
 use lib.Ieee.Scale.{finite}
-use lib.ListN.{length, take, drop, get_or, set}
+use lib.ListN.{length, take, get_or}
 use lib.Seq.{take_all}
 use Rattle.lists.specs.Each.{each_at}
 use Rattle.lists.proofs.Front.{end_map, take_next}
@@ -20,8 +18,7 @@ use Rattle.extract.specs.Extract.{remainder_of, remainders}
 use Rattle.extract.specs.ExtractLaws.{remainders_next}
 use Rattle.extract.proofs.TurnLaws.{turn_read, turn_stored}
 use Rattle.extract.specs.LargestLaws.{Stands, number_stands}
-use Rattle.extract.specs.Grouped.{spread}
-use Rattle.extract.specs.GroupedLaws.{spread_none, spread_next, Raised, raised_none, raised_larger, raised_kept}
+use Rattle.extract.specs.GroupedLaws.{spread_none, spread_next, raised_none, raised_larger, raised_kept}
 use Rattle.single_extract.proofs.grouped.turn.Goals as goal
 
 pub loop-k-init : goal.loop-k-init

@@ -1,11 +1,10 @@
 -- scripts/singles writes this file, from crates/extract/proofs/grouped/turns/Answers.antt.
 -- `single_extract::grouped::turns` meets its contract: eight numbers at a time, the places passed hold their remainders. Assumes nothing.
-use mathlib.Core.Path.{◌≡◌, refl, sym, ap, ◌∙◌}
+use mathlib.Core.Path.{◌≡◌, refl, ap, ◌∙◌}
 use mathlib.Core.List.{List, ◌++◌}
-use Prim.Native.Nat.{ℕ, ◌+◌, ◌-◌, ◌*◌, ◌/◌, ◌≤◌, ◌<◌}
+use Prim.Native.Nat.{ℕ, ◌+◌, ◌-◌, ◌*◌, ◌/◌, ◌<◌}
 use native.Mathlib.Numerals.{add-one}
 use native.Mathlib.Omega.{arith}
-use borrow.Author.Rules.{rules}
 use lib.Dec.{T}
 use lib.Ieee.{Float, binary32}
 use lib.Ieee.Scale.{finite}
@@ -18,7 +17,7 @@ use Rattle.extract.specs.Extract.{remainder_of, remainders}
 use Rattle.extract.specs.ExtractLaws.{remainders_length, remainders_join}
 use Rattle.extract.proofs.TurnLaws.{part_read, part_stored}
 use Rattle.extract.specs.Grouped.{spreads}
-use Rattle.extract.specs.GroupedLaws.{Raised, raised_none, raised_join}
+use Rattle.extract.specs.GroupedLaws.{raised_none, raised_join}
 use Rattle.single_extract.proofs.grouped.turns.Goals as goal
 
 pub float_to_bits-sums : goal.float_to_bits-sums

@@ -1,9 +1,8 @@
 -- scripts/singles writes this file, from crates/judge/proofs/greatest/greatest/Answers.antt.
 -- `single_judge::greatest::greatest` meets its contract: the quarters and what is left are the list. Assumes nothing.
 use mathlib.Core.Path.{◌≡◌, ◌∙◌}
-use Prim.Native.Nat.{◌+◌, ◌-◌, ◌*◌, ◌/◌, max}
+use Prim.Native.Nat.{◌-◌, ◌*◌, ◌/◌, max}
 use native.Mathlib.Omega.{arith}
-use borrow.Author.Rules.{rules}
 use lib.ListN.{length, take, drop, length-drop}
 use lib.Seq.{take_all}
 use Rattle.kinds.specs.Limits.{singles}

@@ -1,14 +1,10 @@
 -- scripts/singles writes this file, from crates/judge/proofs/greatest/of_four/Invariants.antt.
 -- `single_judge::greatest::of_four` meets its contract: the pattern kept is the greatest of the places passed in all four. Assumes nothing.
-use mathlib.Core.Path.{◌≡◌, refl, ◌∙◌}
-use Prim.Native.Nat.{◌+◌, ◌-◌, ◌<◌, max}
-use native.Mathlib.Omega.{arith}
-use borrow.Author.Rules.{rules}
-use lib.ListN.{length, take, get_or}
-use lib.Seq.{take_all}
-use Rattle.lists.proofs.Front.{take_next}
+use mathlib.Core.Path.{◌≡◌}
+use Prim.Native.Nat.{◌-◌}
+use lib.ListN.{length, take}
 use Rattle.kinds.specs.Limits.{singles}
-use Rattle.judge.specs.GreatestLaws.{greatest, greatest_of_four, four_next}
+use Rattle.judge.specs.GreatestLaws.{greatest_of_four}
 use Rattle.single_judge.proofs.greatest.of_four.Given as goal
 
 abbrev pub invariant-loop-i : goal.invariant-loop-i

@@ -1,14 +1,10 @@
 -- scripts/singles writes this file, from crates/judge/proofs/greatest/with/Invariants.antt.
 -- `single_judge::greatest::with` meets its contract: the pattern kept is the greatest of the one handed in and the places passed. Assumes nothing.
-use mathlib.Core.Path.{◌≡◌, ap, ◌∙◌}
-use Prim.Native.Nat.{◌+◌, ◌-◌, ◌<◌, max}
-use native.Mathlib.Omega.{arith}
-use borrow.Author.Rules.{rules}
-use lib.ListN.{length, take, get_or}
-use lib.Seq.{take_all}
-use Rattle.lists.proofs.Front.{take_next}
+use mathlib.Core.Path.{◌≡◌}
+use Prim.Native.Nat.{◌-◌, max}
+use lib.ListN.{length, take}
 use Rattle.kinds.specs.Limits.{singles}
-use Rattle.judge.specs.GreatestLaws.{greatest, greatest_none, greatest_next}
+use Rattle.judge.specs.GreatestLaws.{greatest}
 use Rattle.single_judge.proofs.greatest.with.Given as goal
 
 abbrev pub invariant-loop-j : goal.invariant-loop-j

@@ -1,6 +1,5 @@
 -- scripts/singles writes this file, from crates/kinds/proofs/Doubles/exponent/Answers.antt.
 -- `single_kinds::Singles::exponent` meets its contract: n + 1 has as many digits as the exponent of the least power of two at or above n + 2. Assumes nothing.
-use borrow.Author.Rules.{rules}
 use mathlib.Core.Path.{◌≡◌, ◌∙◌, ap}
 use Prim.Native.Nat.{◌+◌}
 use native.Mathlib.Omega.{arith}

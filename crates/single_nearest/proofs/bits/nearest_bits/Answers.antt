@@ -1,6 +1,6 @@
 -- scripts/singles writes this file, from crates/nearest/proofs/bits/nearest_bits/Answers.antt.
 -- `single_nearest::bits::nearest_bits` meets its contract: the top word tells the sign, and the head of the magnitude the pattern. Assumes nothing.
-use Rattle.std.proofs.Common.{◌-◌, ◌<◌, sym, ap, ◌∙◌, rules}
+use Rattle.std.proofs.Common.{◌-◌, ◌<◌, sym, ap, ◌∙◌}
 use lib.Pow.{pow-sub-lt}
 use lib.Ieee.{binary32}
 use Rattle.lists.specs.Digits.{number, Digits}

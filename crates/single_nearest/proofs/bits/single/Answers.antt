@@ -1,6 +1,6 @@
 -- scripts/singles writes this file, from crates/nearest/proofs/bits/double/Answers.antt.
 -- `single_nearest::bits::single` meets its contract: a pattern below the infinity's is no NaN's. Assumes nothing.
-use Rattle.std.proofs.Common.{◌≡◌, ◌*◌, ◌%◌, ◌^◌, Bool, true, false, cond, refl, rules}
+use Rattle.std.proofs.Common.{◌≡◌, ◌*◌, ◌%◌, ◌^◌, Bool, true, false, cond, refl}
 use mir.Val.{bool_byte}
 use lib.Ieee.{binary32}
 use Rattle.nearest.proofs.NearestBits.{bits_number}

@@ -1,6 +1,6 @@
 -- scripts/singles writes this file, from crates/nearest/proofs/pattern/excess/Answers.antt.
 -- `single_nearest::pattern::excess` meets its contract: the digits beyond the 24th. Assumes nothing.
-use Rattle.std.proofs.Common.{arith, rules}
+use Rattle.std.proofs.Common.{arith}
 use Rattle.nearest.specs.Sticky.{dropped_is}
 use Rattle.single_nearest.proofs.pattern.excess.Goals as goal
 

@@ -1,6 +1,6 @@
 -- scripts/singles writes this file, from crates/nearest/proofs/pattern/pattern/Answers.antt.
 -- `single_nearest::pattern::pattern` meets its contract: at most 2,088 digits are dropped, so the field and the quotient fit a word. Assumes nothing.
-use Rattle.std.proofs.Common.{◌≡◌, ◌+◌, ◌*◌, ◌%◌, ◌^◌, ◌≤◌, le_trans, div-lt_iff_lt-mul, arith, pow_pos, rules}
+use Rattle.std.proofs.Common.{◌≡◌, ◌+◌, ◌*◌, ◌%◌, ◌^◌, ◌≤◌, le_trans, div-lt_iff_lt-mul, arith, pow_pos}
 use Rattle.units.proofs.NaturalRounding.{dropped_lt, dropped_le}
 use Rattle.nearest.specs.Sticky.{over_most}
 use Rattle.single_nearest.proofs.pattern.pattern.Goals as goal
@@ -21,7 +21,8 @@ overflow_add-result-2 c =
     let g = c.args.h in
     let d = c.excess-d.result in
     let most : c.quotient.result ≤ 2 ^ 24 =
-    rw c.quotient.ensures (le_trans (over_most g.rest g.digits (2 ^ d)) ((div-lt_iff_lt-mul (pow_pos d)).1 (rw c.excess-d.ensures (dropped_lt 24 c.args.h.digits)))) in
+    rw c.quotient.ensures
+    (le_trans (over_most g.rest g.digits (2 ^ d)) ((div-lt_iff_lt-mul (pow_pos d)).1 (rw c.excess-d.ensures (dropped_lt 24 c.args.h.digits)))) in
     omega (arith, few, most)
 
 pub returns : goal.returns

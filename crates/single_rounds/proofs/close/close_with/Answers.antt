@@ -1,7 +1,6 @@
 -- scripts/singles writes this file, from crates/rounds/proofs/close/close_with/Answers.antt.
 -- `single_rounds::close::close_with` meets its contract: either way the round is closed as the rules say. Assumes nothing.
 use mathlib.Core.Path.{sym, ◌∙◌}
-use borrow.Author.Rules.{rules}
 use Rattle.single_rounds.proofs.close.close_with.Goals as goal
 
 pub finish-requires : goal.finish-requires

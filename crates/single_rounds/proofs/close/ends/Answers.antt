@@ -1,8 +1,7 @@
 -- scripts/singles writes this file, from crates/rounds/proofs/close/ends/Answers.antt.
 -- `single_rounds::close::ends` meets its contract: its tests are those of the rules, in their order. Assumes nothing.
-use mathlib.Core.Path.{◌≡◌, sym, ap, ◌∙◌}
-use Prim.Native.Nat.{ℕ, ◌≤◌}
-use native.Mathlib.Omega.{arith}
+use mathlib.Core.Path.{sym, ap, ◌∙◌}
+use Prim.Native.Nat.{ℕ}
 use borrow.Author.Rules.{rules}
 use lib.Ieee.{binary32}
 use Rattle.kinds.specs.Limits.{singles, exponent_of}

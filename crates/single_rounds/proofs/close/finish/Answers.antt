@@ -1,6 +1,5 @@
 -- scripts/singles writes this file, from crates/rounds/proofs/close/finish/Answers.antt.
 -- `single_rounds::close::finish` meets its contract: its operations are those of rule W3. Assumes nothing.
-use borrow.Author.Rules.{rules}
 use Rattle.kinds.specs.Limits.{singles}
 use Rattle.rounds.specs.ClosedLaws.{finish_closes}
 use Rattle.single_kinds.specs.Wide.{wide_state}

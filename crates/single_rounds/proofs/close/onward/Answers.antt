@@ -1,6 +1,6 @@
 -- scripts/singles writes this file, from crates/rounds/proofs/close/onward/Answers.antt.
 -- `single_rounds::close::onward` meets its contract: each branch is a rule's, by the laws of the close. Assumes nothing.
-use mathlib.Core.Path.{◌≡◌, sym, subst, ◌∙◌}
+use mathlib.Core.Path.{sym, subst, ◌∙◌}
 use Prim.Native.Nat.{◌≤◌}
 use native.Mathlib.Omega.{arith}
 use borrow.Author.Rules.{rules}

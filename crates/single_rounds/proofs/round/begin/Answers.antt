@@ -1,7 +1,6 @@
 -- scripts/singles writes this file, from crates/rounds/proofs/round/begin/Answers.antt.
 -- `single_rounds::round::begin` meets its contract: the callees give each field. Assumes nothing.
 use mathlib.Core.Path.{ap, ◌∙◌}
-use borrow.Author.Rules.{rules}
 use lib.Ieee.{binary32}
 use Rattle.lists.specs.Bitset.{full}
 use Rattle.extract.specs.Extract.{plus_zero}

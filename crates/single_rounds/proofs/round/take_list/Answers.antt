@@ -2,7 +2,6 @@
 -- `single_rounds::round::take_list` meets its contract: the extraction is that of the whole list. Assumes nothing.
 use mathlib.Core.Path.{◌∙◌}
 use mathlib.Core.Bool.{not}
-use borrow.Author.Rules.{rules}
 use lib.Dec.{T}
 use lib.Ieee.{binary32, nan_bits}
 use Rattle.lists.specs.Each.{each_from}

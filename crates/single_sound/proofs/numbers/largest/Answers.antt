@@ -41,23 +41,28 @@ returns-then-k-lt-EPS c =
 pub power-requires : goal.power-requires
 power-requires c =
     let sigma : Sigma singles c.args.n c.args.sigma = sigma_holds singles c.args.n c.args.sigma c.requires.1 in
-    let room : ceil (magnitude binary32 c.args.sigma) < powers binary32 = omega (arith, sigma_exponent singles 249 most_singles c.args.n sigma, room_singles c.args.n c.requires.0) in
+    let room : ceil (magnitude binary32 c.args.sigma) < powers binary32 =
+    omega (arith, sigma_exponent singles 249 most_singles c.args.n sigma, room_singles c.args.n c.requires.0) in
     omega (arith, c.ceiling-k.ensures, room)
 
 pub unsigned_at_most-requires-2 : goal.unsigned_at_most-requires-2
 unsigned_at_most-requires-2 c =
     let sigma : Sigma singles c.args.n c.args.sigma = sigma_holds singles c.args.n c.args.sigma c.requires.1 in
-    let room : ceil (magnitude binary32 c.args.sigma) < powers binary32 = omega (arith, sigma_exponent singles 249 most_singles c.args.n sigma, room_singles c.args.n c.requires.0) in
+    let room : ceil (magnitude binary32 c.args.sigma) < powers binary32 =
+    omega (arith, sigma_exponent singles 249 most_singles c.args.n sigma, room_singles c.args.n c.requires.0) in
     let lower : ceil (magnitude binary32 c.args.sigma) - 24 < powers binary32 = omega (arith, room) in
-    let limit : c.power.result ≡ power_of binary32 (ceil (magnitude binary32 c.args.sigma) - 24) = c.power.ensures ∙ ap (λ (k : ℕ). power_of binary32 (k - 24)) c.ceiling-k.ensures in
+    let limit : c.power.result ≡ power_of binary32 (ceil (magnitude binary32 c.args.sigma) - 24) =
+    c.power.ensures ∙ ap (λ (k : ℕ). power_of binary32 (k - 24)) c.ceiling-k.ensures in
     rw limit ((power_number binary32 lower).fini, power_negative binary32 lower)
 
 pub returns : goal.returns
 returns c =
     let sigma : Sigma singles c.args.n c.args.sigma = sigma_holds singles c.args.n c.args.sigma c.requires.1 in
-    let room : ceil (magnitude binary32 c.args.sigma) < powers binary32 = omega (arith, sigma_exponent singles 249 most_singles c.args.n sigma, room_singles c.args.n c.requires.0) in
+    let room : ceil (magnitude binary32 c.args.sigma) < powers binary32 =
+    omega (arith, sigma_exponent singles 249 most_singles c.args.n sigma, room_singles c.args.n c.requires.0) in
     let lower : ceil (magnitude binary32 c.args.sigma) - 24 < powers binary32 = omega (arith, room) in
-    let limit : c.power.result ≡ power_of binary32 (ceil (magnitude binary32 c.args.sigma) - 24) = c.power.ensures ∙ ap (λ (k : ℕ). power_of binary32 (k - 24)) c.ceiling-k.ensures in
+    let limit : c.power.result ≡ power_of binary32 (ceil (magnitude binary32 c.args.sigma) - 24) =
+    c.power.ensures ∙ ap (λ (k : ℕ). power_of binary32 (k - 24)) c.ceiling-k.ensures in
     let k = ceil (magnitude binary32 c.args.sigma) in
     c.unsigned_at_most-2.ensures
     ∙ ap (λ (m : ℕ). at_most singles m c.args.x && not (negative c.args.x)) (ap (magnitude binary32) limit ∙ power_magnitude binary32 lower)

@@ -1,10 +1,8 @@
 -- scripts/singles writes this file, from crates/sound/proofs/numbers/numbers/Answers.antt.
 -- `single_sound::numbers::numbers` meets its contract, a part for each comparison. Assumes nothing.
-use borrow.Author.Rules.{rules}
 use mathlib.Core.Path.{◌≡◌, sym, ◌∙◌}
 use mathlib.Core.Bool.{true}
 use native.Mathlib.Omega.{arith}
-use borrow.Author.Tests.{not-true, not-false}
 use lib.Dec.{lit<}
 use lib.Ieee.{binary32}
 use Rattle.kinds.specs.Limits.{singles}

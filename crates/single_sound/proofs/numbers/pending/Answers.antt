@@ -1,6 +1,5 @@
 -- scripts/singles writes this file, from crates/sound/proofs/numbers/pending/Answers.antt.
 -- `single_sound::numbers::pending` meets its contract: a set below 2^B is at most the full set. Assumes nothing.
-use borrow.Author.Rules.{rules}
 use mathlib.Core.Path.{ap, ◌∙◌}
 use Rattle.lists.specs.Bitset.{full}
 use Rattle.kinds.specs.Limits.{singles, blocks_of}

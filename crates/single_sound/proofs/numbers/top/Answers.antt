@@ -1,6 +1,5 @@
 -- scripts/singles writes this file, from crates/sound/proofs/numbers/top/Answers.antt.
 -- `single_sound::numbers::top` meets its contract: the pattern is no NaN's and has no sign. Assumes nothing.
-use borrow.Author.Rules.{rules}
 use lib.Dec.{lit<}
 use lib.Ieee.{binary32}
 use Rattle.sound.proofs.LimitLaws.{limit_at}

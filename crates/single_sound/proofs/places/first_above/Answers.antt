@@ -1,15 +1,8 @@
 -- scripts/singles writes this file, from crates/sound/proofs/places/first_above/Answers.antt.
 -- `single_sound::places::first_above` meets its contract: the places passed are at most the limit, so the first that isn't is the answer. Assumes nothing.
-use borrow.Author.Rules.{rules}
-use borrow.Author.Tests.{not-true, not-false}
 use mathlib.Core.Path.{sym, ◌∙◌}
 use Prim.Native.Nat.{◌-◌}
 use native.Mathlib.Omega.{arith}
-use lib.ListN.{length}
-use lib.Ieee.{binary32}
-use Rattle.ieee.specs.Units.{magnitude}
-use Rattle.kinds.specs.Limits.{singles}
-use Rattle.sound.specs.PlacesLaws.{NoneBefore}
 use Rattle.sound.proofs.PlacesLaws.{before_none, before_next, before_found, before_end}
 use Rattle.single_sound.proofs.places.first_above.Goals as goal
 

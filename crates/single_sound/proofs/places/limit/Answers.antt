@@ -1,6 +1,5 @@
 -- scripts/singles writes this file, from crates/sound/proofs/places/limit/Answers.antt.
 -- `single_sound::places::limit` meets its contract: the exponent of a sound sigma is from M to 249 + M. Assumes nothing.
-use borrow.Author.Rules.{rules}
 use mathlib.Core.Path.{◌≡◌, ap, ◌∙◌}
 use Prim.Native.Nat.{◌+◌, ◌-◌, ◌≤◌}
 use native.Mathlib.Omega.{arith}
@@ -33,7 +32,8 @@ overflow_sub-ceiling c =
     let sigma : Sigma singles c.args.s.n c.args.s.sigma = sigma_holds singles c.args.s.n c.args.s.sigma
     (sigma_true singles 249 most_singles c.args.s.n c.args.s.sigma numbers.sigma) in
     let low : c.exponent.result ≡ exponent_of c.args.s.n = c.exponent.ensures ∙ ap exponent_of c.of.ensures in
-    let high : (c.exponent.result ≤ c.ceiling.result) × (c.ceiling.result ≤ c.exponent.result + 249) = rw (low, c.ceiling.ensures) (sigma_exponent singles 249 most_singles c.args.s.n sigma) in
+    let high : (c.exponent.result ≤ c.ceiling.result) × (c.ceiling.result ≤ c.exponent.result + 249) =
+    rw (low, c.ceiling.ensures) (sigma_exponent singles 249 most_singles c.args.s.n sigma) in
     high.0
 
 pub power-requires : goal.power-requires
@@ -42,7 +42,8 @@ power-requires c =
     let numbers : Numbers singles (wide_state c.args.s) = numbers_hold singles 249 most_singles (wide_state c.args.s) c.requires in
     let sigma : Sigma singles c.args.s.n c.args.s.sigma = sigma_holds singles c.args.s.n c.args.s.sigma
     (sigma_true singles 249 most_singles c.args.s.n c.args.s.sigma numbers.sigma) in
-    let high : (c.exponent.result ≤ c.ceiling.result) × (c.ceiling.result ≤ c.exponent.result + 249) = rw (low, c.ceiling.ensures) (sigma_exponent singles 249 most_singles c.args.s.n sigma) in
+    let high : (c.exponent.result ≤ c.ceiling.result) × (c.ceiling.result ≤ c.exponent.result + 249) =
+    rw (low, c.ceiling.ensures) (sigma_exponent singles 249 most_singles c.args.s.n sigma) in
     omega (arith, high, low, room_singles c.args.s.n numbers.counts.few)
 
 pub returns : goal.returns

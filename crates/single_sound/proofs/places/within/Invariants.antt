@@ -1,12 +1,10 @@
 -- scripts/singles writes this file, from crates/sound/proofs/places/within/Invariants.antt.
 -- `single_sound::places::within` meets its contract: the numbers looked at are at most the limit exactly where each of them was. Assumes nothing.
-use borrow.Author.Rules.{rules}
 use Prim.Native.Nat.{◌-◌}
-use native.Mathlib.Omega.{arith}
 use lib.ListN.{length}
 use lib.Ieee.{binary32}
 use Rattle.ieee.specs.Units.{magnitude}
-use Rattle.lists.specs.Every.{Looked, looked_none, looked_next, looked_all}
+use Rattle.lists.specs.Every.{Looked}
 use Rattle.kinds.specs.Limits.{singles}
 use Rattle.sound.specs.Sound.{at_most}
 use Rattle.single_sound.proofs.places.within.Given as goal

@@ -1,6 +1,5 @@
 -- scripts/singles writes this file, from crates/step_calls/proofs/numbers/readable/Answers.antt.
 -- `single_step_calls::numbers::readable` meets its contract: each pattern is looked at. Assumes nothing.
-use borrow.Author.Rules.{rules}
 use Rattle.single_step_calls.proofs.numbers.readable.Goals as goal
 
 pub returns : goal.returns

@@ -1,7 +1,6 @@
 -- scripts/singles writes this file, from crates/step_calls/proofs/numbers/state_numbers/Answers.antt.
 -- `single_step_calls::numbers::state_numbers` meets its contract: each single goes as its pattern. Assumes nothing.
 use mathlib.Core.List.{[], ◌∷◌}
-use borrow.Author.Rules.{rules}
 use Rattle.single_kinds.specs.Wide.{wide_state}
 use Rattle.single_step_calls.proofs.numbers.state_numbers.Goals as goal
 

@@ -1,17 +1,11 @@
 -- scripts/singles writes this file, from crates/walk/proofs/opening/copy/Invariants.antt.
 -- `single_walk::opening::copy` meets its contract: the places passed are the list's floats, and no allowed pattern is a NaN's. Assumes nothing.
-use mathlib.Core.Path.{◌≡◌, refl, ◌∙◌}
+use mathlib.Core.Path.{◌≡◌}
 use mathlib.Core.List.{◌++◌}
-use Prim.Native.Nat.{◌-◌, ◌<◌}
-use native.Mathlib.Omega.{arith}
-use borrow.Author.Rules.{rules}
-use lib.Ieee.{nan, of_bits}
+use Prim.Native.Nat.{◌-◌}
 use lib.ListN.{length, take, drop}
-use Rattle.lists.proofs.Front.{store_map, end_map}
 use Rattle.kinds.specs.Limits.{singles}
 use Rattle.judge.specs.Judge.{floats}
-use Rattle.judge.specs.FaultLaws.{allowed_no_nan}
-use Rattle.judge.proofs.FirstFaultLaws.{first_good}
 use Rattle.single_walk.proofs.opening.copy.Given as goal
 
 abbrev pub invariant-loop-i : goal.invariant-loop-i

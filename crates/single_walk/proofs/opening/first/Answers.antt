@@ -1,20 +1,17 @@
 -- scripts/singles writes this file, from crates/walk/proofs/opening/first/Answers.antt.
 -- `single_walk::opening::first` meets its contract: the greatest pattern is that of mu, and the walk starts afresh from it. Assumes nothing.
-use mathlib.Core.Path.{sym, ap, ◌∙◌}
+use mathlib.Core.Path.{ap, ◌∙◌}
 use mathlib.Core.Bool.{Bool}
-use Prim.Native.Nat.{ℕ}
 use native.Mathlib.Omega.{arith}
-use borrow.Author.Rules.{rules}
 use borrow.Author.Tests.{ne_eqb}
 use lib.IntN.{pos}
 use lib.ListN.{length, length-map}
-use lib.Ieee.{Float, binary32, of_bits}
+use lib.Ieee.{binary32, of_bits}
 use Rattle.ieee.specs.Units.{nearest_float}
 use Rattle.ieee.proofs.Pattern.{pattern_no_nan}
 use Rattle.kinds.specs.Limits.{singles}
 use Rattle.judge.specs.Judge.{floats}
 use Rattle.judge.proofs.FirstFaultLaws.{first_good}
-use Rattle.judge.specs.GreatestLaws.{greatest}
 use Rattle.extract.specs.Extract.{plus_zero, largest}
 use Rattle.extract.specs.LargestLaws.{Positive, Stands}
 use Rattle.extract.proofs.LargestWithLaws.{stands_positive}
@@ -26,12 +23,14 @@ use Rattle.single_walk.proofs.opening.first.Goals as goal
 
 pub float_from_bits-mu : goal.float_from_bits-mu
 float_from_bits-mu c =
-    let stands : Stands binary32 c.args.pattern (largest binary32 (floats singles c.args.list.now)) = rw c.requires.2 (greatest_stands singles c.args.list.now ((first_good singles c.args.list.now).0 c.requires.1)) in
+    let stands : Stands binary32 c.args.pattern (largest binary32 (floats singles c.args.list.now)) =
+    rw c.requires.2 (greatest_stands singles c.args.list.now ((first_good singles c.args.list.now).0 c.requires.1)) in
     pattern_no_nan binary32 stands.below
 
 pub from_mu-requires : goal.from_mu-requires
 from_mu-requires c =
-    let stands : Stands binary32 c.args.pattern (largest binary32 (floats singles c.args.list.now)) = rw c.requires.2 (greatest_stands singles c.args.list.now ((first_good singles c.args.list.now).0 c.requires.1)) in
+    let stands : Stands binary32 c.args.pattern (largest binary32 (floats singles c.args.list.now)) =
+    rw c.requires.2 (greatest_stands singles c.args.list.now ((first_good singles c.args.list.now).0 c.requires.1)) in
     let mu : Positive binary32 (of_bits binary32 c.args.pattern) (largest binary32 (floats singles c.args.list.now)) = stands_positive binary32 stands in
     let xs = floats singles c.args.list.now in
     let P = mu in (
@@ -47,7 +46,8 @@ from_mu-requires c =
 
 pub returns : goal.returns
 returns c =
-    let stands : Stands binary32 c.args.pattern (largest binary32 (floats singles c.args.list.now)) = rw c.requires.2 (greatest_stands singles c.args.list.now ((first_good singles c.args.list.now).0 c.requires.1)) in
+    let stands : Stands binary32 c.args.pattern (largest binary32 (floats singles c.args.list.now)) =
+    rw c.requires.2 (greatest_stands singles c.args.list.now ((first_good singles c.args.list.now).0 c.requires.1)) in
     let mu : Positive binary32 (of_bits binary32 c.args.pattern) (largest binary32 (floats singles c.args.list.now)) = stands_positive binary32 stands in
     let e = c.zero-zero.ensures ∙ ap (λ (s : Bool). nearest_float singles.format s (pos 0)) c.zero_sign.ensures in
     c.from_mu.ensures ∙ (λ i. fresh singles (e i) (length c.args.list.now) (mu.units i) 0 c.args.ensemble (plus_zero binary32))

@@ -1,6 +1,5 @@
 -- scripts/singles writes this file, from crates/walk/proofs/opening/start/Answers.antt.
 -- `single_walk::opening::start` meets its contract: the work area is the list's floats, and the answer is that of a good list. Assumes nothing.
-use borrow.Author.Rules.{rules}
 use Rattle.kinds.specs.Limits.{singles}
 use Rattle.walk.specs.OpeningLaws.{opened_good}
 use Rattle.single_walk.proofs.opening.start.Goals as goal

@@ -1,7 +1,6 @@
 -- scripts/singles writes this file, from crates/walk/proofs/undivided/from_list/Answers.antt.
 -- `single_walk::undivided::from_list` meets its contract: the first round is one of the run over the list's floats, and what follows is the run's. Assumes nothing.
 use mathlib.Core.Path.{◌≡◌, sym, ap, ◌∙◌}
-use borrow.Author.Rules.{rules}
 use lib.Ieee.{binary32}
 use Rattle.kinds.specs.Limits.{singles}
 use Rattle.extract.specs.Extract.{plus_zero, last_sum}
@@ -19,23 +18,27 @@ close_with-answer-requires c = walk_closable c.requires.2 c.take_list-taken.ensu
 
 pub run-requires : goal.run-requires
 run-requires c =
-    let closes : (wide_step c.close_with-answer.result) ≡ closed singles (wide_state c.take_list-taken.result.state) c.take_list-taken.new.work = c.close_with-answer.ensures _ (ap (last_sum binary32) c.take_list-taken.ensures.2 ∙ sym c.take_list-taken.ensures.1) in
+    let closes : (wide_step c.close_with-answer.result) ≡ closed singles (wide_state c.take_list-taken.result.state) c.take_list-taken.new.work =
+    c.close_with-answer.ensures _ (ap (last_sum binary32) c.take_list-taken.ensures.2 ∙ sym c.take_list-taken.ensures.1) in
     walk_own c.requires.2 c.take_list-taken.ensures.0 c.take_list-taken.ensures.2 closes _ _
     (ap wide_step c.in-More.is)
 
 pub returns-in-More : goal.returns-in-More
 returns-in-More c =
-    let closes : (wide_step c.close_with-answer.result) ≡ closed singles (wide_state c.take_list-taken.result.state) c.take_list-taken.new.work = c.close_with-answer.ensures _ (ap (last_sum binary32) c.take_list-taken.ensures.2 ∙ sym c.take_list-taken.ensures.1) in
+    let closes : (wide_step c.close_with-answer.result) ≡ closed singles (wide_state c.take_list-taken.result.state) c.take_list-taken.new.work =
+    c.close_with-answer.ensures _ (ap (last_sum binary32) c.take_list-taken.ensures.2 ∙ sym c.take_list-taken.ensures.1) in
     walk_on c.requires.2 c.take_list-taken.ensures.0 c.take_list-taken.ensures.2 closes _ _
     (ap wide_step c.in-More.is) (plus_zero binary32) (plus_zero binary32) c.run.ensures
 
 pub returns-in-Done : goal.returns-in-Done
 returns-in-Done c =
-    let closes : (wide_step c.close_with-answer.result) ≡ closed singles (wide_state c.take_list-taken.result.state) c.take_list-taken.new.work = c.close_with-answer.ensures _ (ap (last_sum binary32) c.take_list-taken.ensures.2 ∙ sym c.take_list-taken.ensures.1) in
+    let closes : (wide_step c.close_with-answer.result) ≡ closed singles (wide_state c.take_list-taken.result.state) c.take_list-taken.new.work =
+    c.close_with-answer.ensures _ (ap (last_sum binary32) c.take_list-taken.ensures.2 ∙ sym c.take_list-taken.ensures.1) in
     walk_ends c.requires.2 c.take_list-taken.ensures.0 c.take_list-taken.ensures.2 closes _ _ _ (ap wide_step c.in-Done.is)
 
 pub returns-in-Refused : goal.returns-in-Refused
 returns-in-Refused c =
-    let closes : (wide_step c.close_with-answer.result) ≡ closed singles (wide_state c.take_list-taken.result.state) c.take_list-taken.new.work = c.close_with-answer.ensures _ (ap (last_sum binary32) c.take_list-taken.ensures.2 ∙ sym c.take_list-taken.ensures.1) in
+    let closes : (wide_step c.close_with-answer.result) ≡ closed singles (wide_state c.take_list-taken.result.state) c.take_list-taken.new.work =
+    c.close_with-answer.ensures _ (ap (last_sum binary32) c.take_list-taken.ensures.2 ∙ sym c.take_list-taken.ensures.1) in
     absurd (walk_accepted c.requires.2 c.take_list-taken.ensures.0 c.take_list-taken.ensures.2 closes _ _
     (ap wide_step c.in-Refused.is))

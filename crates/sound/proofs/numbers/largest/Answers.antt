@@ -40,23 +40,28 @@ returns-then-k-lt-EPS c =
 pub power-requires : goal.power-requires
 power-requires c =
     let sigma : Sigma doubles c.args.n c.args.sigma = sigma_holds doubles c.args.n c.args.sigma c.requires.1 in
-    let room : ceil (magnitude binary64 c.args.sigma) < powers binary64 = omega (arith, sigma_exponent doubles 2074 most_doubles c.args.n sigma, room_doubles c.args.n c.requires.0) in
+    let room : ceil (magnitude binary64 c.args.sigma) < powers binary64 =
+    omega (arith, sigma_exponent doubles 2074 most_doubles c.args.n sigma, room_doubles c.args.n c.requires.0) in
     omega (arith, c.ceiling-k.ensures, room)
 
 pub unsigned_at_most-requires-2 : goal.unsigned_at_most-requires-2
 unsigned_at_most-requires-2 c =
     let sigma : Sigma doubles c.args.n c.args.sigma = sigma_holds doubles c.args.n c.args.sigma c.requires.1 in
-    let room : ceil (magnitude binary64 c.args.sigma) < powers binary64 = omega (arith, sigma_exponent doubles 2074 most_doubles c.args.n sigma, room_doubles c.args.n c.requires.0) in
+    let room : ceil (magnitude binary64 c.args.sigma) < powers binary64 =
+    omega (arith, sigma_exponent doubles 2074 most_doubles c.args.n sigma, room_doubles c.args.n c.requires.0) in
     let lower : ceil (magnitude binary64 c.args.sigma) - 53 < powers binary64 = omega (arith, room) in
-    let limit : c.power.result ≡ power_of binary64 (ceil (magnitude binary64 c.args.sigma) - 53) = c.power.ensures ∙ ap (λ (k : ℕ). power_of binary64 (k - 53)) c.ceiling-k.ensures in
+    let limit : c.power.result ≡ power_of binary64 (ceil (magnitude binary64 c.args.sigma) - 53) =
+    c.power.ensures ∙ ap (λ (k : ℕ). power_of binary64 (k - 53)) c.ceiling-k.ensures in
     rw limit ((power_number binary64 lower).fini, power_negative binary64 lower)
 
 pub returns : goal.returns
 returns c =
     let sigma : Sigma doubles c.args.n c.args.sigma = sigma_holds doubles c.args.n c.args.sigma c.requires.1 in
-    let room : ceil (magnitude binary64 c.args.sigma) < powers binary64 = omega (arith, sigma_exponent doubles 2074 most_doubles c.args.n sigma, room_doubles c.args.n c.requires.0) in
+    let room : ceil (magnitude binary64 c.args.sigma) < powers binary64 =
+    omega (arith, sigma_exponent doubles 2074 most_doubles c.args.n sigma, room_doubles c.args.n c.requires.0) in
     let lower : ceil (magnitude binary64 c.args.sigma) - 53 < powers binary64 = omega (arith, room) in
-    let limit : c.power.result ≡ power_of binary64 (ceil (magnitude binary64 c.args.sigma) - 53) = c.power.ensures ∙ ap (λ (k : ℕ). power_of binary64 (k - 53)) c.ceiling-k.ensures in
+    let limit : c.power.result ≡ power_of binary64 (ceil (magnitude binary64 c.args.sigma) - 53) =
+    c.power.ensures ∙ ap (λ (k : ℕ). power_of binary64 (k - 53)) c.ceiling-k.ensures in
     let k = ceil (magnitude binary64 c.args.sigma) in
     c.unsigned_at_most-2.ensures
     ∙ ap (λ (m : ℕ). at_most doubles m c.args.x && not (negative c.args.x)) (ap (magnitude binary64) limit ∙ power_magnitude binary64 lower)

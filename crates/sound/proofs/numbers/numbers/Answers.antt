@@ -1,9 +1,7 @@
 -- `sound::numbers::numbers` meets its contract, a part for each comparison. Assumes nothing.
-use borrow.Author.Rules.{rules}
 use mathlib.Core.Path.{◌≡◌, sym, ◌∙◌}
 use mathlib.Core.Bool.{true}
 use native.Mathlib.Omega.{arith}
-use borrow.Author.Tests.{not-true, not-false}
 use lib.Dec.{lit<}
 use lib.Ieee.{binary64}
 use Rattle.kinds.specs.Limits.{doubles}

@@ -1,5 +1,4 @@
 -- `sound::numbers::pending` meets its contract: a set below 2^B is at most the full set. Assumes nothing.
-use borrow.Author.Rules.{rules}
 use mathlib.Core.Path.{ap, ◌∙◌}
 use Rattle.lists.specs.Bitset.{full}
 use Rattle.kinds.specs.Limits.{doubles, blocks_of}

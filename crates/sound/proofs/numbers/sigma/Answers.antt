@@ -1,6 +1,5 @@
 -- `sound::numbers::sigma` meets its contract: up to the greatest sigma it is a number, and sound exactly where its pattern is a power of two's from the least
 -- one on. Assumes nothing.
-use borrow.Author.Rules.{rules}
 use mathlib.Core.Path.{◌≡◌, sym, ap, ◌∙◌}
 use mathlib.Core.Bool.{Bool, true, false, ◌&&◌}
 use Prim.Native.Nat.{ℕ, ◌+◌, ◌^◌, ◌<◌}

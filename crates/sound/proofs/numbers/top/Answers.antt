@@ -1,5 +1,4 @@
 -- `sound::numbers::top` meets its contract: the pattern is no NaN's and has no sign. Assumes nothing.
-use borrow.Author.Rules.{rules}
 use lib.Dec.{lit<}
 use lib.Ieee.{binary64}
 use Rattle.sound.proofs.LimitLaws.{limit_at}

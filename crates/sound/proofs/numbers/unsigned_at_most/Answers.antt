@@ -1,7 +1,6 @@
 -- `sound::numbers::unsigned_at_most` meets its contract: of a number, the sign is the greatest digit of its pattern. Assumes nothing.
 use mathlib.Core.Path.{◌≡◌, sym, ap, subst, ◌∙◌}
 use mathlib.Core.Bool.{Bool, true, false, not, ◌&&◌}
-use borrow.Author.Rules.{rules}
 use lib.Dec.{T, ltb, leb, ltb→lt, lt→ltb, nleb→lt}
 use lib.Arith.{lt→nleb}
 use lib.Ieee.{binary64, top, to_bits}
@@ -25,7 +24,9 @@ float_to_bits-result c =
 pub returns-then-at_most : goal.returns-then-at_most
 returns-then-at_most c =
     let decided : (b : Bool) → c.at_most.result ≡ b → let a = c.args in
-    (b && not (negative a.x)) ≡ (at_most doubles (magnitude binary64 a.limit) a.x && not (negative a.x)) = λ b e. ap (λ (t : Bool). t && not (negative c.args.x)) (sym e ∙ c.at_most.ensures) in
+    (b && not (negative a.x))
+    ≡ (at_most doubles (magnitude binary64 a.limit) a.x && not (negative a.x)) = λ b e. ap (λ (t : Bool). t && not (negative c.args.x))
+    (sym e ∙ c.at_most.ensures) in
     let number : Number binary64 c.args.x = record {
       fit = subst T (sym c.well_formed.0.1) tt;
       fini = (at_most_holds doubles (magnitude binary64 c.args.limit) c.args.x (sym c.at_most.ensures ∙ c.if-at_most.true)).fini;
@@ -39,5 +40,7 @@ returns-then-at_most c =
 pub returns : goal.returns
 returns c =
     let decided : (b : Bool) → c.at_most.result ≡ b → let a = c.args in
-    (b && not (negative a.x)) ≡ (at_most doubles (magnitude binary64 a.limit) a.x && not (negative a.x)) = λ b e. ap (λ (t : Bool). t && not (negative c.args.x)) (sym e ∙ c.at_most.ensures) in
+    (b && not (negative a.x))
+    ≡ (at_most doubles (magnitude binary64 a.limit) a.x && not (negative a.x)) = λ b e. ap (λ (t : Bool). t && not (negative c.args.x))
+    (sym e ∙ c.at_most.ensures) in
     decided false c.if-at_most.false

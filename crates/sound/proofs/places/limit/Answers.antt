@@ -1,5 +1,4 @@
 -- `sound::places::limit` meets its contract: the exponent of a sound sigma is from M to 2,074 + M. Assumes nothing.
-use borrow.Author.Rules.{rules}
 use mathlib.Core.Path.{◌≡◌, ap, ◌∙◌}
 use Prim.Native.Nat.{◌+◌, ◌-◌, ◌≤◌}
 use native.Mathlib.Omega.{arith}
@@ -31,7 +30,8 @@ overflow_sub-ceiling c =
     let sigma : Sigma doubles c.args.s.n c.args.s.sigma = sigma_holds doubles c.args.s.n c.args.s.sigma
     (sigma_true doubles 2074 most_doubles c.args.s.n c.args.s.sigma numbers.sigma) in
     let low : c.exponent.result ≡ exponent_of c.args.s.n = c.exponent.ensures ∙ ap exponent_of c.of.ensures in
-    let high : (c.exponent.result ≤ c.ceiling.result) × (c.ceiling.result ≤ c.exponent.result + 2074) = rw (low, c.ceiling.ensures) (sigma_exponent doubles 2074 most_doubles c.args.s.n sigma) in
+    let high : (c.exponent.result ≤ c.ceiling.result) × (c.ceiling.result ≤ c.exponent.result + 2074) =
+    rw (low, c.ceiling.ensures) (sigma_exponent doubles 2074 most_doubles c.args.s.n sigma) in
     high.0
 
 pub power-requires : goal.power-requires
@@ -40,7 +40,8 @@ power-requires c =
     let numbers : Numbers doubles c.args.s = numbers_hold doubles 2074 most_doubles c.args.s c.requires in
     let sigma : Sigma doubles c.args.s.n c.args.s.sigma = sigma_holds doubles c.args.s.n c.args.s.sigma
     (sigma_true doubles 2074 most_doubles c.args.s.n c.args.s.sigma numbers.sigma) in
-    let high : (c.exponent.result ≤ c.ceiling.result) × (c.ceiling.result ≤ c.exponent.result + 2074) = rw (low, c.ceiling.ensures) (sigma_exponent doubles 2074 most_doubles c.args.s.n sigma) in
+    let high : (c.exponent.result ≤ c.ceiling.result) × (c.ceiling.result ≤ c.exponent.result + 2074) =
+    rw (low, c.ceiling.ensures) (sigma_exponent doubles 2074 most_doubles c.args.s.n sigma) in
     omega (arith, high, low, room_doubles c.args.s.n numbers.counts.few)
 
 pub returns : goal.returns

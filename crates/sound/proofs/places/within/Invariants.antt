@@ -1,11 +1,9 @@
 -- `sound::places::within` meets its contract: the numbers looked at are at most the limit exactly where each of them was. Assumes nothing.
-use borrow.Author.Rules.{rules}
 use Prim.Native.Nat.{◌-◌}
-use native.Mathlib.Omega.{arith}
 use lib.ListN.{length}
 use lib.Ieee.{binary64}
 use Rattle.ieee.specs.Units.{magnitude}
-use Rattle.lists.specs.Every.{Looked, looked_none, looked_next, looked_all}
+use Rattle.lists.specs.Every.{Looked}
 use Rattle.kinds.specs.Limits.{doubles}
 use Rattle.sound.specs.Sound.{at_most}
 use Rattle.sound.proofs.places.within.Given as goal

@@ -1,5 +1,4 @@
 -- `step_calls::numbers::readable` meets its contract: each pattern is looked at. Assumes nothing.
-use borrow.Author.Rules.{rules}
 use Rattle.step_calls.proofs.numbers.readable.Goals as goal
 
 pub returns : goal.returns

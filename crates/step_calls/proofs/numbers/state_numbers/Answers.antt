@@ -1,6 +1,5 @@
 -- `step_calls::numbers::state_numbers` meets its contract: each double goes as its pattern. Assumes nothing.
 use mathlib.Core.List.{[], ◌∷◌}
-use borrow.Author.Rules.{rules}
 use Rattle.step_calls.proofs.numbers.state_numbers.Goals as goal
 
 pub returns : goal.returns

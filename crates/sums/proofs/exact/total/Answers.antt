@@ -1,5 +1,4 @@
 -- `sums::exact::total` meets its contract: each way has the words of the sum. Assumes nothing.
-use borrow.Author.Rules.{rules}
 use mathlib.Core.Path.{◌∙◌}
 use Rattle.sums.proofs.SumLaws.{from_nothing, nothing_long}
 use Rattle.sums.proofs.exact.total.Goals as goal

@@ -1,16 +1,11 @@
 -- `sums::few::total` meets its contract: after i numbers the words are those of the start and the sum of the first i. Assumes nothing.
-use borrow.Author.Rules.{rules}
-use mathlib.Core.Path.{◌≡◌, ◌∙◌}
+use mathlib.Core.Path.{◌≡◌}
 use Prim.Native.Nat.{◌≤◌, ◌-◌}
 use lib.IntN.{◌+ℤ◌}
 use lib.ListN.{length, take}
-use lib.Seq.{take_all}
 use Rattle.kinds.specs.Limits.{doubles}
-use Rattle.judge.specs.FaultLaws.{allowed_number}
 use Rattle.words.specs.Words.{word_count, whole_of, words_of}
-use Rattle.addend.proofs.RegisterWords.{held}
 use Rattle.sums.specs.Sums.{sum_of}
-use Rattle.sums.proofs.SumLaws.{total_begins, total_goes_on}
 use Rattle.sums.proofs.few.total.Given as goal
 
 abbrev pub invariant-loop-i : goal.invariant-loop-i

@@ -1,5 +1,4 @@
 -- `sums::long::put` meets its contract: a digit and what is above it, added to their lane. Assumes nothing.
-use borrow.Author.Rules.{rules}
 use native.Mathlib.Omega.{arith}
 use Rattle.sums.proofs.SignLanesLaws.{put_at}
 use Rattle.sums.proofs.long.put.Goals as goal

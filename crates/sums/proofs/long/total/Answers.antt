@@ -1,5 +1,4 @@
 -- `sums::long::total` meets its contract: the two sides of the list in lanes, and their difference. Assumes nothing.
-use borrow.Author.Rules.{rules}
 use mathlib.Core.Path.{ap, ◌∙◌}
 use Rattle.words.specs.Words.{words_of}
 use Rattle.sums.proofs.SignLanesLaws.{gathered_sum}

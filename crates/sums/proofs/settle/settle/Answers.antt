@@ -1,5 +1,4 @@
 -- `sums::settle::settle` meets its contract: the borrow equation gives every word. Assumes nothing.
-use borrow.Author.Rules.{rules}
 use mathlib.Core.Path.{◌∙◌}
 use Rattle.addend.proofs.RegisterWords.{held}
 use Rattle.sums.proofs.SettleLaws.{settle_words}

@@ -1,13 +1,9 @@
 -- `sums::settle::subtract` meets its contract: at each turn the words below the place i are the difference of the two sides so far, but for what is carried
 -- into the lanes there and borrowed from them. Assumes nothing.
-use borrow.Author.Rules.{rules}
 use native.Mathlib.Omega.{arith}
-use mathlib.Core.Path.{◌≡◌, sym, ◌∙◌}
-use Prim.Native.Nat.{◌-◌, ◌≤◌}
-use lib.ListN.{length, length-set}
-use Rattle.words.specs.Words.{word_count}
-use Rattle.sums.specs.SignLanes.{most_carry}
-use Rattle.sums.specs.SettleLaws.{SettledTo}
+use mathlib.Core.Path.{◌∙◌}
+use Prim.Native.Nat.{◌-◌}
+use lib.ListN.{length-set}
 use Rattle.sums.proofs.SettleLaws.{settle_begins, settle_next, settle_ends}
 use Rattle.sums.proofs.settle.subtract.Goals as goal
 

@@ -1,15 +1,11 @@
 -- `sums::short::gather` meets its contract: after i numbers the words are the two sides of the first i. Assumes nothing.
 use borrow.Author.Rules.{rules}
 use mathlib.Core.Path.{◌≡◌, ◌∙◌}
-use Prim.Native.Nat.{◌+◌, ◌-◌, ◌≤◌}
-use lib.ListN.{length, take}
+use Prim.Native.Nat.{◌-◌}
+use lib.ListN.{take}
 use lib.Seq.{take_all}
 use Rattle.kinds.specs.Limits.{doubles}
 use Rattle.judge.specs.FaultLaws.{allowed_number}
-use Rattle.lists.specs.Digits.{number, Digits}
-use Rattle.words.specs.Words.{word_bits, word_count}
-use Rattle.addend.specs.Sides.{side_by_side}
-use Rattle.sums.specs.ListSides.{list_sides}
 use Rattle.sums.proofs.SumLaws.{sums_doubles}
 use Rattle.sums.proofs.SideSums.{gathers}
 use Rattle.sums.proofs.short.gather.Goals as goal

@@ -1,22 +1,18 @@
 -- `sums::short::gather` meets its contract: after i numbers the words are the two sides of the first i. Assumes nothing.
-use borrow.Author.Rules.{rules}
-use mathlib.Core.Path.{◌≡◌, ◌∙◌}
+use mathlib.Core.Path.{◌≡◌}
 use Prim.Native.Nat.{◌+◌, ◌-◌, ◌≤◌}
 use lib.ListN.{length, take}
-use lib.Seq.{take_all}
 use Rattle.kinds.specs.Limits.{doubles}
-use Rattle.judge.specs.FaultLaws.{allowed_number}
 use Rattle.lists.specs.Digits.{number, Digits}
 use Rattle.words.specs.Words.{word_bits, word_count}
 use Rattle.addend.specs.Sides.{side_by_side}
 use Rattle.sums.specs.ListSides.{list_sides}
-use Rattle.sums.proofs.SumLaws.{sums_doubles}
-use Rattle.sums.proofs.SideSums.{gathers}
 use Rattle.sums.proofs.short.gather.Given as goal
 
 abbrev pub invariant-loop-i : goal.invariant-loop-i
 invariant-loop-i l =
-    (length l.both ≡ word_count + word_count) × (l.i ≤ length l.list) × (number word_bits l.both ≡ side_by_side (list_sides doubles (take l.i l.list))) × Digits word_bits l.both
+    (length l.both ≡ word_count + word_count) × (l.i ≤ length l.list) × (number word_bits l.both ≡ side_by_side (list_sides doubles (take l.i l.list)))
+    × Digits word_bits l.both
 
 abbrev pub decreases-loop-i : goal.decreases-loop-i
 decreases-loop-i l = length l.list - l.i

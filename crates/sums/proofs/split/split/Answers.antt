@@ -1,11 +1,9 @@
 -- `sums::split::split` meets its contract: i parts stand in the area, and the words hold what they leave. Assumes nothing.
-use borrow.Author.Rules.{rules}
-use mathlib.Core.Path.{sym, ◌∙◌}
+use mathlib.Core.Path.{◌∙◌}
 use Prim.Native.Nat.{◌-◌}
 use native.Mathlib.Omega.{arith}
-use lib.ListN.{length}
 use Rattle.words.specs.Words.{whole_of}
-use Rattle.sums.proofs.SplitLaws.{Splitting, splitting_begins, splitting_goes_on, splitting_ends, part_no_nan, part_finite}
+use Rattle.sums.proofs.SplitLaws.{splitting_begins, splitting_goes_on, splitting_ends, part_no_nan, part_finite}
 use Rattle.sums.proofs.split.split.Goals as goal
 
 pub loop-i-init : goal.loop-i-init

@@ -1,11 +1,8 @@
 -- `sums::split::split` meets its contract: i parts stand in the area, and the words hold what they leave. Assumes nothing.
-use borrow.Author.Rules.{rules}
-use mathlib.Core.Path.{sym, ◌∙◌}
 use Prim.Native.Nat.{◌-◌}
-use native.Mathlib.Omega.{arith}
 use lib.ListN.{length}
 use Rattle.words.specs.Words.{whole_of}
-use Rattle.sums.proofs.SplitLaws.{Splitting, splitting_begins, splitting_goes_on, splitting_ends, part_no_nan, part_finite}
+use Rattle.sums.proofs.SplitLaws.{Splitting}
 use Rattle.sums.proofs.split.split.Given as goal
 
 abbrev pub invariant-loop-i : goal.invariant-loop-i

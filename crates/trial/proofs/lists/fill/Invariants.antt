@@ -1,5 +1,5 @@
 -- `trial::lists::fill` meets its contract: stores keep the length. Assumes nothing.
-use Rattle.std.proofs.Common.{◌≡◌, ◌-◌, length, rules}
+use Rattle.std.proofs.Common.{◌≡◌, ◌-◌, length}
 use Rattle.trial.proofs.lists.fill.Given as goal
 
 abbrev pub invariant-loop-i : goal.invariant-loop-i

@@ -1,5 +1,5 @@
 -- `trial::lists::rungs` meets its contract: stores keep the length. Assumes nothing.
-use Rattle.std.proofs.Common.{◌≡◌, ◌-◌, length, rules}
+use Rattle.std.proofs.Common.{◌≡◌, ◌-◌, length}
 use Rattle.trial.proofs.lists.rungs.Given as goal
 
 abbrev pub invariant-loop-i : goal.invariant-loop-i

@@ -1,5 +1,5 @@
 -- `trial::text::bits` meets its contract: a float that equals itself is no NaN. Assumes nothing.
-use Rattle.std.proofs.Common.{◌≡◌, ℕ, false, not, T, arith, rules}
+use Rattle.std.proofs.Common.{◌≡◌, ℕ, false, not, T, arith}
 use lib.Ieee.{Float, nan, inf, fin, ne, eq, is_nan}
 use Rattle.trial.proofs.text.bits.Goals as goal
 

@@ -1,5 +1,5 @@
 -- `trial::ways::mix` meets its contract: each index is below the length. Assumes nothing.
-use Rattle.std.proofs.Common.{◌-◌, length, rules}
+use Rattle.std.proofs.Common.{◌-◌, length}
 use Rattle.trial.proofs.ways.mix.Given as goal
 
 abbrev pub invariant-loop-i : goal.invariant-loop-i

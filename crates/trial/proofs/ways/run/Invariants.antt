@@ -1,5 +1,5 @@
 -- `trial::ways::run` meets its contract: the steps are counted. Assumes nothing.
-use Rattle.std.proofs.Common.{◌≡◌, ◌-◌, length, rules}
+use Rattle.std.proofs.Common.{◌≡◌, ◌-◌, length}
 use Rattle.trial.proofs.ways.run.Given as goal
 
 abbrev pub invariant-loop-steps : goal.invariant-loop-steps

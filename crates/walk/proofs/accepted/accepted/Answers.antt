@@ -1,6 +1,5 @@
 -- `walk::accepted::accepted` meets its contract: what a block leaves is what a close asks, for every sound state. Assumes nothing.
 use mathlib.Core.Path.{sym, subst}
-use borrow.Author.Rules.{rules}
 use lib.Dec.{T}
 use lib.Ieee.{nan, binary64, fits}
 use Rattle.lists.specs.Each.{Each, each_from}
@@ -14,14 +13,16 @@ use Rattle.walk.proofs.accepted.accepted.Goals as goal
 pub take-next-requires : goal.take-next-requires
 take-next-requires c =
     let held : Each (λ x. T (fits binary64 x)) c.args.work.now = each_from (λ x. T (fits binary64 x)) c.args.work.now nan (λ i l. c.slice_known-1.given i) in
-    let through : Admitted doubles doubles_fit.top c.args.s c.args.block c.args.work.now = admits doubles_fit c.args.s c.args.s.ensemble c.args.block c.args.work.now (subst T (sym c.well_formed.0.1.1.0.1) tt) c.requires in
+    let through : Admitted doubles doubles_fit.top c.args.s c.args.block c.args.work.now =
+    admits doubles_fit c.args.s c.args.s.ensemble c.args.block c.args.work.now (subst T (sym c.well_formed.0.1.1.0.1) tt) c.requires in
     let P = through in
     (P.numbers.counts.few, P.long, P.inside, admitted_takable doubles_fit P held)
 
 pub close-requires : goal.close-requires
 close-requires c =
     let held : Each (λ x. T (fits binary64 x)) c.args.work.now = each_from (λ x. T (fits binary64 x)) c.args.work.now nan (λ i l. c.slice_known-1.given i) in
-    let through : Admitted doubles doubles_fit.top c.args.s c.args.block c.args.work.now = admits doubles_fit c.args.s c.args.s.ensemble c.args.block c.args.work.now (subst T (sym c.well_formed.0.1.1.0.1) tt) c.requires in
+    let through : Admitted doubles doubles_fit.top c.args.s c.args.block c.args.work.now =
+    admits doubles_fit c.args.s c.args.s.ensemble c.args.block c.args.work.now (subst T (sym c.well_formed.0.1.1.0.1) tt) c.requires in
     rw c.take-next.ensures.0 (admitted_closable doubles_fit through held (subst T (sym c.well_formed.0.1.1.1.1.1.1.1.1.1.0.1) tt))
 
 pub returns-then-pending-eq0 : goal.returns-then-pending-eq0

@@ -1,14 +1,12 @@
 -- `walk::opening::copy` meets its contract: the places passed are the list's floats, and no allowed pattern is a NaN's. Assumes nothing.
-use mathlib.Core.Path.{◌≡◌, refl, ◌∙◌}
-use mathlib.Core.List.{◌++◌}
+use mathlib.Core.Path.{refl, ◌∙◌}
 use Prim.Native.Nat.{◌-◌, ◌<◌}
 use native.Mathlib.Omega.{arith}
 use borrow.Author.Rules.{rules}
 use lib.Ieee.{nan, of_bits}
-use lib.ListN.{length, take, drop}
+use lib.ListN.{length}
 use Rattle.lists.proofs.Front.{store_map, end_map}
 use Rattle.kinds.specs.Limits.{doubles}
-use Rattle.judge.specs.Judge.{floats}
 use Rattle.judge.specs.FaultLaws.{allowed_no_nan}
 use Rattle.judge.proofs.FirstFaultLaws.{first_good}
 use Rattle.walk.proofs.opening.copy.Goals as goal

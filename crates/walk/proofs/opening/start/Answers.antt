@@ -1,5 +1,4 @@
 -- `walk::opening::start` meets its contract: the work area is the list's floats, and the answer is that of a good list. Assumes nothing.
-use borrow.Author.Rules.{rules}
 use Rattle.kinds.specs.Limits.{doubles}
 use Rattle.walk.specs.OpeningLaws.{opened_good}
 use Rattle.walk.proofs.opening.start.Goals as goal

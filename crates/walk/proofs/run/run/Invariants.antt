@@ -1,18 +1,16 @@
 -- `walk::run::run` meets its contract: each state of the loop opens a round of the run, and what is left of the run is what follows from it. The measure is
 -- the rounds that are left. Assumes nothing.
-use mathlib.Core.Path.{◌≡◌, refl, sym, ap, ◌∙◌}
+use mathlib.Core.Path.{◌≡◌}
 use Prim.Native.Nat.{suc, ◌-◌}
-use borrow.Author.Rules.{rules}
 use lib.ListN.{length}
 use lib.Ieee.{binary64}
 use Rattle.kinds.specs.Limits.{doubles, blocks_of}
 use Rattle.kinds.specs.Outcome.{outcome}
 use Rattle.kinds.specs.declared.Step.TheVariants.{More}
 use Rattle.extract.specs.Extract.{plus_zero}
-use Rattle.extract.specs.ExtractLaws.{remainders_length}
 use Rattle.rounds.specs.Instances.{doubles_fit}
 use Rattle.walk.specs.Walk.{rounds_from}
-use Rattle.walk.specs.Run.{Running, walk_closable, walk_ends, walk_accepted, walk_goes, walk_running, walk_lower}
+use Rattle.walk.specs.Run.{Running}
 use Rattle.walk.proofs.run.run.Given as goal
 
 abbrev pub invariant-loop-next : goal.invariant-loop-next

@@ -1,7 +1,6 @@
 -- `walk::undivided::undivided` meets its contract: the opening's answer decides, and its state opens the run over the list's floats. Assumes nothing.
 use mathlib.Core.Path.{◌≡◌, refl, sym, ◌∙◌}
 use mathlib.Core.Bool.{true}
-use borrow.Author.Rules.{rules}
 use lib.Dec.{eqb, eqb→eq}
 use lib.ListN.{length}
 use lib.Ieee.{binary64}
@@ -21,22 +20,26 @@ use Rattle.walk.proofs.undivided.undivided.Goals as goal
 
 pub first-first-requires : goal.first-first-requires
 first-first-requires c =
-    let good : (let a = c.args in ListWhen doubles (eqb (length a.work.now) (length a.list.now)) true a.list.now Good) = let a = c.args in (list_when doubles (eqb (length a.work.now) (length a.list.now)) true a.list.now Good).0 c.requires.0 in
+    let good : (let a = c.args in ListWhen doubles (eqb (length a.work.now) (length a.list.now)) true a.list.now Good) =
+    let a = c.args in (list_when doubles (eqb (length a.work.now) (length a.list.now)) true a.list.now Good).0 c.requires.0 in
     let allowed : first_fault doubles c.args.list.now 0 ≡ Good = (first_good doubles c.args.list.now).1 (list_allowed good) in
     ((list_passed good).few, allowed, c.requires.1)
 
 pub from_list-requires : goal.from_list-requires
 from_list-requires c =
     let opening : (let a = c.args in
-    outcome c.first-first.result (floats doubles a.list.now) ≡ opened doubles 0 a.list.now a.work.now) = opened_judged doubles 0 c.args.list.now c.args.work.now c.requires.0 refl c.first-first.ensures in
-    let good : (let a = c.args in ListWhen doubles (eqb (length a.work.now) (length a.list.now)) true a.list.now Good) = let a = c.args in (list_when doubles (eqb (length a.work.now) (length a.list.now)) true a.list.now Good).0 c.requires.0 in
+    outcome c.first-first.result (floats doubles a.list.now)
+    ≡ opened doubles 0 a.list.now a.work.now) = opened_judged doubles 0 c.args.list.now c.args.work.now c.requires.0 refl c.first-first.ensures in
+    let good : (let a = c.args in ListWhen doubles (eqb (length a.work.now) (length a.list.now)) true a.list.now Good) =
+    let a = c.args in (list_when doubles (eqb (length a.work.now) (length a.list.now)) true a.list.now Good).0 c.requires.0 in
     let allowed : first_fault doubles c.args.list.now 0 ≡ Good = (first_good doubles c.args.list.now).1 (list_allowed good) in
     let fits : length c.args.work.now ≡ length c.args.list.now = eqb→eq _ _ (list_passed good).right_area in
     (fits, allowed, faithful_running doubles_fit 0 c.args.list.now c.args.work.now _ _ opening _ _ c.in-More.is)
 
 pub copy-requires : goal.copy-requires
 copy-requires c =
-    let good : (let a = c.args in ListWhen doubles (eqb (length a.work.now) (length a.list.now)) true a.list.now Good) = let a = c.args in (list_when doubles (eqb (length a.work.now) (length a.list.now)) true a.list.now Good).0 c.requires.0 in
+    let good : (let a = c.args in ListWhen doubles (eqb (length a.work.now) (length a.list.now)) true a.list.now Good) =
+    let a = c.args in (list_when doubles (eqb (length a.work.now) (length a.list.now)) true a.list.now Good).0 c.requires.0 in
     let allowed : first_fault doubles c.args.list.now 0 ≡ Good = (first_good doubles c.args.list.now).1 (list_allowed good) in
     let fits : length c.args.work.now ≡ length c.args.list.now = eqb→eq _ _ (list_passed good).right_area in
     (fits, allowed)
@@ -44,7 +47,8 @@ copy-requires c =
 pub returns-in-More : goal.returns-in-More
 returns-in-More c =
     let opening : (let a = c.args in
-    outcome c.first-first.result (floats doubles a.list.now) ≡ opened doubles 0 a.list.now a.work.now) = opened_judged doubles 0 c.args.list.now c.args.work.now c.requires.0 refl c.first-first.ensures in
+    outcome c.first-first.result (floats doubles a.list.now)
+    ≡ opened doubles 0 a.list.now a.work.now) = opened_judged doubles 0 c.args.list.now c.args.work.now c.requires.0 refl c.first-first.ensures in
     c.from_list.ensures
     ∙ faithful_more doubles_fit 0 c.args.list.now c.args.work.now _ _ opening _ _ c.in-More.is
     (plus_zero binary64)

@@ -1,5 +1,4 @@
 -- `weights::grains::grains_of` meets its contract: the shift is from 22 to 52. Assumes nothing.
-use borrow.Author.Rules.{rules}
 use mathlib.Core.Path.{sym}
 use native.Mathlib.Omega.{arith}
 use Rattle.kinds.specs.Limits.{doubles}

@@ -1,5 +1,4 @@
 -- `weights::grains::is_weight` meets its contract: a pattern up to that of 1 is a weight where its grains lead back to it. Assumes nothing.
-use borrow.Author.Rules.{rules}
 use mathlib.Core.Path.{sym, ap, ◌∙◌}
 use Prim.Native.Nat.{ℕ}
 use native.Mathlib.Omega.{arith}

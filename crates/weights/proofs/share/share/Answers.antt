@@ -1,5 +1,4 @@
 -- `weights::share::share` meets its contract: the product is at most 2^60. Assumes nothing.
-use borrow.Author.Rules.{rules}
 use native.Mathlib.Nat.{le_trans, le_of_lt, mul-le-mul_left, mul-le-mul_right}
 use native.Mathlib.Omega.{arith}
 use Rattle.weights.specs.Weights.{grains}

@@ -1,13 +1,12 @@
 -- `weights::share::shares` meets its contract: the shares of the places passed and of those to come add up to no more than the leaver had. Assumes nothing.
-use borrow.Author.Rules.{rules}
 use mathlib.Core.Path.{◌≡◌, ap, ◌∙◌}
-use mathlib.Core.List.{List, map}
+use mathlib.Core.List.{List}
 use Prim.Native.Nat.{ℕ, ◌+◌, ◌-◌, ◌≤◌, ◌<◌}
 use native.Mathlib.Omega.{arith}
 use lib.ListN.{length, drop, get_or, length-map}
 use Rattle.lists.proofs.Front.{map_at}
 use Rattle.kinds.specs.Limits.{doubles}
-use Rattle.weights.specs.Weights.{weights_of, total, share, staying}
+use Rattle.weights.specs.Weights.{total, share}
 use Rattle.weights.proofs.LoopLaws.{staying_length, total_next, total_end}
 use Rattle.weights.proofs.share.shares.Goals as goal
 use Rattle.weights.proofs.share.shares.Invariants.{all, stay}

@@ -1,5 +1,4 @@
 -- `weights::share::weight_at` meets its contract: the leaver's place holds 0, and any other its own weight. Assumes nothing.
-use borrow.Author.Rules.{rules}
 use mathlib.Core.Path.{sym, ◌∙◌}
 use Prim.Native.Nat.{◌<◌}
 use native.Mathlib.Omega.{arith}

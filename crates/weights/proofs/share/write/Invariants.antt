@@ -1,14 +1,11 @@
 -- `weights::share::write` meets its contract: the places passed hold the new weights, and what is left goes to those to come. Assumes nothing.
-use borrow.Author.Rules.{rules}
-use mathlib.Core.Path.{◌≡◌, refl, ap, ◌∙◌}
+use mathlib.Core.Path.{◌≡◌}
 use mathlib.Core.List.{List, map}
-use Prim.Native.Nat.{ℕ, zero, suc, ◌+◌, ◌-◌, ◌≤◌, ◌<◌}
-use native.Mathlib.Omega.{arith}
-use lib.ListN.{length, get_or, length-set}
+use Prim.Native.Nat.{ℕ, ◌-◌, ◌≤◌}
+use lib.ListN.{length}
 use Rattle.kinds.specs.Limits.{doubles}
-use Rattle.weights.specs.Weights.{grains, pattern_for, weights_of, share, staying, gets, spread}
+use Rattle.weights.specs.Weights.{pattern_for, weights_of, staying, spread}
 use Rattle.weights.specs.LoopLaws.{Written}
-use Rattle.weights.proofs.LoopLaws.{staying_length, written_small, written_next, written_end}
 use Rattle.weights.proofs.share.write.Given as goal
 
 abbrev pub stay : List ℕ → ℕ → List ℕ

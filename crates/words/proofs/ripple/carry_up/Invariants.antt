@@ -7,7 +7,8 @@ use Rattle.words.proofs.ripple.carry_up.Given as goal
 
 abbrev pub invariant-loop-c : goal.invariant-loop-c
 invariant-loop-c l =
-    (length l.words ≡ length l.initial.words) × (l.i ≤ length l.initial.words) × Carried word_bits l.initial.words (l.carry * 2 ^ (word_bits * l.from)) l.words l.i l.c
+    (length l.words ≡ length l.initial.words) × (l.i ≤ length l.initial.words)
+    × Carried word_bits l.initial.words (l.carry * 2 ^ (word_bits * l.from)) l.words l.i l.c
 
 abbrev pub decreases-loop-c : goal.decreases-loop-c
 decreases-loop-c l = length l.initial.words - l.i
