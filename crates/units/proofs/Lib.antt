@@ -1,20 +1,31 @@
 -- The crate's theorems and lemmas.
 pub mod AnyOrder
+pub mod Budget
 pub mod Ceiling
+pub mod CeilingLaws
+pub mod Closest
+pub mod ClosestEven
 pub mod Closing
+pub mod CoarseRounding
 pub mod Distance
 pub mod ExactSum
+pub mod ExactTwoSum
 pub mod Extraction
+pub mod FaithfulDistance
 pub mod FaithfulLaws
 pub mod Finish
 pub mod Integers
 pub mod Multiples
 pub mod NaturalRounding
+pub mod NearNatural
+pub mod PartialProducts
 pub mod Powers
 pub mod Products
 pub mod RemainderSum
+pub mod Room
 pub mod ScaledSums
 pub mod Scaling
+pub mod Shared
 pub mod SignedRounding
 pub mod Split
 pub mod Threshold
@@ -23,3 +34,4 @@ pub mod Turns
 pub mod TwoProduct
 pub mod TwoSum
 pub mod WalkLaws
+pub mod WalkRounds
