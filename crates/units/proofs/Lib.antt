@@ -18,7 +18,6 @@ pub mod Integers
 pub mod Multiples
 pub mod NaturalRounding
 pub mod NearNatural
-pub mod PartialProducts
 pub mod Powers
 pub mod Products
 pub mod RemainderSum
@@ -28,6 +27,7 @@ pub mod Scaling
 pub mod Shared
 pub mod SignedRounding
 pub mod Split
+pub mod SplitProducts
 pub mod Threshold
 pub mod Ties
 pub mod Turns

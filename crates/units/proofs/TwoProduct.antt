@@ -14,7 +14,7 @@ use Rattle.units.proofs.SignedRounding.{rep_same, fl_neg, fl_exact, fl_half, fl_
 use Rattle.units.proofs.Products.{times_same, times_plus, plus_times, times_multiple, times_mag, times_within}
 use Rattle.units.specs.Split.{LastPlace, Halves}
 use Rattle.units.specs.TwoProduct.{product_error}
-use Rattle.units.proofs.PartialProducts.{upper_upper_on, lower_lower_small, upper_upper, lower_lower}
+use Rattle.units.proofs.SplitProducts.{upper_upper_on, lower_lower_small, upper_upper, lower_lower}
 
 -- ---- bounds of products, by factors
 module _ (a b : Whole) (c d : ℕ) where
