@@ -19,7 +19,7 @@ use Rattle.units.proofs.NaturalRounding.{dropped_reaches, rnd_is, rnd_kept, rnd_
 use Rattle.units.proofs.Closest.{compared}
 use Rattle.ieee.specs.Units.{sign_of, nearest_float, limit, rounded_bits}
 use Rattle.ieee.proofs.Rounded.{prec_pos}
-use Rattle.ieee.proofs.Write.{bits_round}
+use Rattle.ieee.proofs.WrittenBits.{bits_round}
 use Rattle.ieee.proofs.Overflow.{rnd_finite, rnd_overflows, nearest_round}
 
 -- a field D and digits C, from Q to 2 * Q or with no field, are in the order of C * 2 ^ D
