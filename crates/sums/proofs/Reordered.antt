@@ -17,7 +17,8 @@ use Rattle.judge.specs.Judge.{fault_free, judged, zero_sign}
 use Rattle.judge.specs.Table.{Allowed, Passed, ListWhen, too_many, wrong_area, wrong_parts, bad_number, allowed}
 use Rattle.judge.proofs.FaultlessLaws.{faultless_good}
 use Rattle.judge.proofs.FirstFaultLaws.{found, first_good}
-use Rattle.judge.proofs.JudgeLaws.{list_when, list_allowed, judged_1, judged_4, judged_5}
+use Rattle.judge.proofs.JudgeLaws.{list_when, list_allowed}
+use Rattle.judge.proofs.JudgeCases.{judged_1, judged_4, judged_5}
 use Rattle.register.specs.Entries.{Change, pattern_of, change_of, run, zeros}
 use Rattle.register.proofs.RunLaws.{all_entered, zeros_held}
 use Rattle.register.proofs.Farewell.{run_same}
