@@ -17,7 +17,6 @@ pub mod Finish
 pub mod Integers
 pub mod Multiples
 pub mod NaturalRounding
-pub mod NearNatural
 pub mod Powers
 pub mod Products
 pub mod RemainderSum
