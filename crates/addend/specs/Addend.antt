@@ -4,7 +4,7 @@ use Rattle.std.specs.Float.{Format}
 use Rattle.std.specs.Float.Ieee.{prec, ones, of_bits}
 use Rattle.ieee.specs.Units.{magnitude, value}
 use Rattle.lists.specs.Carry.{two}
-use Rattle.lists.proofs.SignedDigits.{Words}
+use Rattle.lists.specs.SignedDigits.{Words}
 use Rattle.kinds.specs.Limits.{Width}
 use Rattle.words.specs.Words.{word_bits, word_count}
 

@@ -8,7 +8,7 @@ use Rattle.std.specs.Float.Ieee.{of_bits, to_bits, add, sub, mul, le, eq}
 use Rattle.units.specs.Rounding.{ceil}
 use Rattle.ieee.specs.Units.{value, magnitude, negative, nearest_float}
 use Rattle.ieee.proofs.Finite.{same_float}
-use Rattle.ieee.proofs.Pattern.{pattern_number}
+use Rattle.ieee.proofs.PatternBounds.{pattern_number}
 use Rattle.kinds.specs.Limits.{Width, singles}
 use Rattle.kinds.specs.declared.Verdict.TheVariants.{Good}
 use Rattle.kinds.specs.Outcome.{outcome}

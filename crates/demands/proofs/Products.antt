@@ -16,7 +16,7 @@ use Rattle.words.specs.Words.{whole_of}
 use Rattle.register.specs.Entries.{add, run, zeros}
 use Rattle.register.proofs.RunLaws.{list_whole}
 use Rattle.sums.specs.Reordering.{SameSums}
-use Rattle.sums.proofs.Reordered.{sums_reordered}
+use Rattle.sums.proofs.SumsReordered.{sums_reordered}
 use Rattle.rounds.specs.Instances.{doubles_fit}
 use Rattle.walk.specs.Walk.{faithful_of}
 use Rattle.runs.proofs.Faithful.{faithful_promised}

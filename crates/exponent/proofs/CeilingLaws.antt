@@ -6,7 +6,7 @@ use Rattle.std.specs.Float.Ieee.{size, hid, ones, top, to_bits}
 use Rattle.units.specs.Rounding.{ceil}
 use Rattle.units.proofs.Powers.{le_or_lt}
 use Rattle.ieee.specs.Units.{Number, negative, magnitude, pattern_units}
-use Rattle.ieee.proofs.Pattern.{bits_below, bits_units}
+use Rattle.ieee.proofs.PatternBounds.{bits_below, bits_units}
 use Rattle.ieee.proofs.Exponent.{subnormal_units}
 
 -- ---- a field of 0: the digits are the units

@@ -14,7 +14,7 @@ use Rattle.units.specs.Whole.{nat}
 use Rattle.units.proofs.Scaling.{short_power}
 use Rattle.ieee.specs.Units.{Is, Number, negative, magnitude, signed, signed_whole, value, whole, sign_of}
 use Rattle.ieee.proofs.Finite.{is_units, is_finite, same_float}
-use Rattle.ieee.proofs.Rounded.{round_exact}
+use Rattle.ieee.proofs.RoundExact.{round_exact}
 use Rattle.ieee.proofs.Overflow.{nearest_round, nearest_fits}
 use Rattle.ieee.proofs.Exponent.{subnormal_pattern, power_pattern}
 use Rattle.exponent.specs.Power.{powers, power_of}

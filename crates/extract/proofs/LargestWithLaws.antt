@@ -12,9 +12,9 @@ use Rattle.std.specs.Float.Ieee.Scale.{finite}
 use Rattle.units.proofs.Powers.{le_or_lt}
 use Rattle.ieee.specs.Units.{Is, Number, magnitude, signed, value, sign_of, nearest_float}
 use Rattle.ieee.proofs.Finite.{facts, is_units, is_finite, same_float}
-use Rattle.ieee.proofs.Rounded.{round_exact}
+use Rattle.ieee.proofs.RoundExact.{round_exact}
 use Rattle.ieee.proofs.Overflow.{nearest_round, nearest_fits}
-use Rattle.ieee.proofs.Pattern.{bits_units}
+use Rattle.ieee.proofs.PatternBounds.{bits_units}
 use Rattle.lists.specs.Each.{Each, each_map}
 use Rattle.extract.specs.Extract.{high_part, remainder_of, remainders, largest, largest_with}
 use Rattle.extract.specs.ExtractLaws.{largest_none, largest_join}

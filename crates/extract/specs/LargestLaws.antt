@@ -6,7 +6,8 @@ use Rattle.std.specs.Float.{Format}
 use Rattle.std.specs.Float.Ieee.{prec, top, ones, hid, of_bits, to_bits, neg, lt}
 use Rattle.ieee.specs.Units.{Is, Number, negative, magnitude, signed_whole, whole, pattern_units}
 use Rattle.ieee.proofs.Finite.{facts, is_units}
-use Rattle.ieee.proofs.Pattern.{pattern_number, pattern_positive, pattern_lt, pattern_le, bits_below, bits_units}
+use Rattle.ieee.proofs.Pattern.{pattern_positive, pattern_lt, pattern_le}
+use Rattle.ieee.proofs.PatternBounds.{pattern_number, bits_below, bits_units}
 use Rattle.ieee.proofs.Compare.{lt_units}
 use Rattle.ieee.proofs.Sum.{neg_negative, neg_magnitude, neg_number}
 use Rattle.extract.specs.Extract.{plus_zero, absolute}

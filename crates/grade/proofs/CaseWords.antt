@@ -12,7 +12,8 @@ use lib.Ieee.{Float, Format, binary64, top, of_bits, to_bits}
 use lib.Ieee.Scale.{finite}
 use Rattle.ieee.specs.Units.{Number, value, sign_of, limit, pattern_units}
 use Rattle.ieee.proofs.Nearest.{nearest_number}
-use Rattle.ieee.proofs.Pattern.{no_units, bits_units}
+use Rattle.ieee.proofs.Pattern.{no_units}
+use Rattle.ieee.proofs.PatternBounds.{bits_units}
 use Rattle.lists.specs.Digits.{number}
 use Rattle.kinds.specs.Limits.{doubles}
 use Rattle.words.specs.Words.{word_bits, whole_of, words_of}

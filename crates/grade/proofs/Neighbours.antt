@@ -15,7 +15,8 @@ use Rattle.units.specs.Whole.{◌≺◌}
 use Rattle.units.proofs.Powers.{le_or_lt}
 use Rattle.ieee.specs.Units.{Number, negative, magnitude, signed_whole, whole, pattern_units}
 use Rattle.ieee.proofs.Finite.{finite_no_nan}
-use Rattle.ieee.proofs.Pattern.{no_units, pattern_lt, pattern_number, bits_units}
+use Rattle.ieee.proofs.Pattern.{no_units, pattern_lt}
+use Rattle.ieee.proofs.PatternBounds.{pattern_number, bits_units}
 
 module _ (f : Format) where
   -- ---- a pattern is its sign and the pattern without it

@@ -14,7 +14,8 @@ use lib.Ieee.Scale.{finite}
 use Rattle.ieee.specs.Units.{Number, magnitude, value, pattern_units}
 use Rattle.ieee.proofs.Finite.{finite_no_nan, same_float}
 use Rattle.ieee.proofs.Fractions.{same_test}
-use Rattle.ieee.proofs.Pattern.{no_units, bits_units, pattern_finite}
+use Rattle.ieee.proofs.Pattern.{no_units, pattern_finite}
+use Rattle.ieee.proofs.PatternBounds.{bits_units}
 use Rattle.ieee.proofs.Sum.{value_mag}
 use Rattle.grade.proofs.Distances.{not_apart, apart_none}
 use Rattle.grade.proofs.Neighbours.{bare_none}

@@ -7,7 +7,8 @@ use Rattle.std.specs.Float.Ieee.Bits.{is_true, of_bits-to_bits}
 use Rattle.std.specs.Float.Ieee.Scale.{finite}
 use Rattle.ieee.specs.Units.{Number, magnitude, nearest_float, pattern_units}
 use Rattle.ieee.proofs.Finite.{is_units}
-use Rattle.ieee.proofs.Pattern.{no_units, pattern_is, pattern_number}
+use Rattle.ieee.proofs.Pattern.{no_units, pattern_is}
+use Rattle.ieee.proofs.PatternBounds.{pattern_number}
 use Rattle.ieee.specs.Accuracy.{FaithfulTo, NearestTo}
 use Rattle.lists.proofs.Apart.{apart}
 use Rattle.kinds.specs.Limits.{doubles}

@@ -17,7 +17,8 @@ use Rattle.ieee.specs.Units.{Number, negative, magnitude, signed_whole, value, w
 use Rattle.ieee.proofs.Rounded.{prec_pos}
 use Rattle.ieee.proofs.Overflow.{nearest_negative, nearest_whole}
 use Rattle.ieee.proofs.Nearest.{nearest_number, nearest_nearest}
-use Rattle.ieee.proofs.Pattern.{no_units, pattern_lt, bits_below, bits_units}
+use Rattle.ieee.proofs.Pattern.{no_units, pattern_lt}
+use Rattle.ieee.proofs.PatternBounds.{bits_below, bits_units}
 use Rattle.grade.specs.Grade.{near, other_side}
 use Rattle.grade.proofs.Distances.{is_sum, sum_is, best_distance}
 use Rattle.grade.proofs.Neighbours.{signed_bits, pattern_split, signed_number, signed_bits_lem, signed_negative}

@@ -20,10 +20,10 @@ use Rattle.units.specs.Rounding.{dropped}
 use Rattle.units.proofs.Powers.{le_or_lt}
 use Rattle.units.proofs.Integers.{mag_difference}
 use Rattle.ieee.specs.Units.{Number, magnitude, signed_whole, value, whole, sign_of, limit, rounded_bits}
-use Rattle.ieee.proofs.Write.{round_bits}
+use Rattle.ieee.proofs.WrittenBits.{round_bits}
 use Rattle.ieee.proofs.Overflow.{rnd_finite, nearest_round, nearest_negative}
 use Rattle.ieee.proofs.Nearest.{nearest_number}
-use Rattle.ieee.proofs.Pattern.{bits_units}
+use Rattle.ieee.proofs.PatternBounds.{bits_units}
 use Rattle.lists.specs.Digits.{number, Digits}
 use Rattle.lists.proofs.TwosComplement.{signed_low, signed_high}
 use Rattle.lists.proofs.Magnitude.{top_digit_lem}

@@ -7,7 +7,7 @@ use Rattle.std.proofs.Math.Pow.{pow-add}
 use Rattle.std.specs.Float.{Format}
 use Rattle.std.specs.Float.Ieee.{prec, hid, ones, of_bits}
 use Rattle.units.specs.Rounding.{ceil}
-use Rattle.units.proofs.Ceiling.{ceil_at, ceil_power}
+use Rattle.units.proofs.CeilingLaws.{ceil_at, ceil_power}
 use Rattle.ieee.specs.Units.{Is, pattern_units}
 use Rattle.ieee.proofs.Pattern.{pattern_positive}
 

@@ -11,7 +11,7 @@ use Rattle.units.specs.Walk.{rounded_up, Opened, Walk}
 use Rattle.units.proofs.WalkLaws.{walk_bounds}
 use Rattle.ieee.specs.Units.{Between, magnitude, limit, pattern_units}
 use Rattle.ieee.specs.ErrorFree.{product_error, ErrorFree, Room}
-use Rattle.ieee.proofs.Pattern.{pattern_within, pattern_between}
+use Rattle.ieee.proofs.PatternBounds.{pattern_within, pattern_between}
 use Rattle.ieee.proofs.TwoProduct.{two_product, product_small, error_smaller}
 
 -- ---- from here on the nearest double, or binary32 number, is an infinity

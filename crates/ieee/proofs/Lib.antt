@@ -9,7 +9,10 @@ pub mod Instances
 pub mod Nearest
 pub mod Overflow
 pub mod Pattern
+pub mod PatternBounds
 pub mod Product
+pub mod ProductExact
+pub mod RoundExact
 pub mod Rounded
 pub mod Scaled
 pub mod Split
@@ -17,4 +20,5 @@ pub mod Sum
 pub mod TwoFaithful
 pub mod TwoProduct
 pub mod Write
+pub mod WrittenBits
 pub mod Zeros

@@ -21,7 +21,7 @@ use Rattle.ieee.specs.Accuracy.{NearestTo}
 use Rattle.ieee.proofs.Finite.{is_units, facts}
 use Rattle.ieee.proofs.Rounded.{prec_pos}
 use Rattle.ieee.proofs.Sum.{value_int}
-use Rattle.ieee.proofs.Write.{round_bits}
+use Rattle.ieee.proofs.WrittenBits.{round_bits}
 use Rattle.ieee.proofs.Overflow.{rnd_finite, nearest_round, nearest_fits, nearest_finite, nearest_is, nearest_whole}
 
 -- a number of the format has prec bits

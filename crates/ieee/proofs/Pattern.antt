@@ -1,24 +1,24 @@
 -- Bit patterns by their units: what a finite pattern stands for, which patterns are finite, that patterns without their sign are in the order of their
 -- magnitudes, and what the pattern of a number is. r and L are patterns without their sign; the infinity's is `ones f * hid f`. Assumes nothing.
-use Rattle.std.specs.Prelude.{◌≡◌, ◌⊎◌, ◌↔◌, Bool, cond, not, leb, ltb, eqb, Float}
+use Rattle.std.specs.Prelude.{◌≡◌, ◌⊎◌, ◌↔◌, Bool, cond, not, leb, ltb, eqb}
 use Rattle.std.proofs.Math.Path.{refl, ap}
 use Rattle.std.proofs.Common.{sym, ◌∙◌, inl, inr, le_of_eq, le_of_lt, le_antisymm, le_of_suc-le-suc, lt_of_not-le, not-le_of_lt, eq-or-lt_of_le, zero-lt-suc}
 use Rattle.std.proofs.Common.{mul-one, mul_comm, mul-pos, mul-le-mul_left, mul-le-mul_right, mul-lt-mul_of_pos_right, mod-lt, mod-eq_of_lt, div-lt_iff_lt-mul}
-use Rattle.std.proofs.Common.{le-div_iff_mul-le, arith, eqb→eq, lt→ltb, ltb→lt, pow_pos, pow_mono}
+use Rattle.std.proofs.Common.{le-div_iff_mul-le, arith, eqb→eq, lt→ltb, pow_pos, pow_mono}
 use Rattle.std.proofs.Math.Bool.{true, false}
 use Prim.Native.Nat.{ℕ, zero, suc, ◌+◌, ◌-◌, ◌*◌, ◌/◌, ◌%◌, ◌^◌, ◌≤◌, ◌<◌}
 use Rattle.std.proofs.Math.Nat.{lt_of_lt_of_le, pow-succ', div-add-mod', mod-mod_of_dvd, dvd-mul_right, zero-div, zero-mod}
 use Rattle.std.proofs.Math.Dec.{T}
 use Rattle.std.proofs.Math.Arith.{le→nltb, lt→nleb}
 use Rattle.std.specs.Float.{nan, inf, Format}
-use Rattle.std.specs.Float.Ieee.{prec, low, odd, hid, ones, top, of_fields, of_bits, to_bits, nan_bits}
+use Rattle.std.specs.Float.Ieee.{prec, low, odd, hid, ones, top, of_fields, of_bits, nan_bits}
 use Rattle.std.specs.Float.Ieee.Fits.{eq→eqb}
-use Rattle.std.specs.Float.Ieee.Bits.{is_true, is_false, of_bits-fits, of_bits-to_bits, nan_bits_above}
+use Rattle.std.specs.Float.Ieee.Bits.{is_true, is_false, nan_bits_above}
 use Rattle.std.specs.Float.Ieee.Exact.{odd_sign}
 use Rattle.std.specs.Float.Ieee.Scale.{finite}
 use Rattle.std.specs.Float.Ieee.Nearest.{div_mono}
 use Rattle.units.proofs.Powers.{le_or_lt}
-use Rattle.ieee.specs.Units.{Is, Between, Number, negative, magnitude, field_units, pattern_units}
+use Rattle.ieee.specs.Units.{Is, magnitude, field_units, pattern_units}
 use Rattle.ieee.proofs.Finite.{is_units, is_finite}
 
 module _ (f : Format) where
@@ -111,7 +111,7 @@ module _ (f : Format) where
           rw e (level (r' / hid f) (r % hid f) (r' % hid f) (omega (arith, div-add-mod' r (hid f), div-add-mod' r' (hid f))))
       go (inr l) = lt_of_lt_of_le (under (r / hid f) (r % hid f) (mod-lt r hid_pos)) (over (r / hid f) (r' / hid f) (r' % hid f) l)
 
-  not_falling : {r r' : ℕ} → r ≤ r' → pattern_units f r ≤ pattern_units f r'
+  pub not_falling : {r r' : ℕ} → r ≤ r' → pattern_units f r ≤ pattern_units f r'
   not_falling h = elim (eq-or-lt_of_le h) [ inl e ↦ le_of_eq (ap (pattern_units f) e) | inr l ↦ le_of_lt (rising l) ]
 
   pub pattern_lt : {r r' : ℕ} → (r < r') ↔ (pattern_units f r < pattern_units f r')
@@ -124,57 +124,8 @@ module _ (f : Format) where
   pub magnitude_is : (b : ℕ) → b % top f < ones f * hid f → magnitude f (of_bits f b) ≡ pattern_units f (b % top f)
   magnitude_is b l = (is_units f (of_bits f b) (leb (top f) b) (pattern_units f (b % top f)) (pattern_is b l)).1
 
-  pub finite_below : (b : ℕ) → T (finite (of_bits f b)) → b % top f < ones f * hid f
-  finite_below b t = ltb→lt (b % top f) (ones f * hid f) (rw (pattern_finite b) at t)
-
-  pub pattern_within : (b L : ℕ) → L < ones f * hid f → (b % top f ≤ L) ↔ (T (finite (of_bits f b)) × (magnitude f (of_bits f b) ≤ pattern_units f L))
-  pattern_within b L h = (there, back)
-    where
-      there : b % top f ≤ L → T (finite (of_bits f b)) × (magnitude f (of_bits f b) ≤ pattern_units f L)
-      there k =
-          let l : b % top f < ones f * hid f = omega arith in
-          (rw (pattern_finite b) (lt→ltb (b % top f) (ones f * hid f) l), rw (magnitude_is b l) (not_falling k))
-
-      back : T (finite (of_bits f b)) × (magnitude f (of_bits f b) ≤ pattern_units f L) → b % top f ≤ L
-      back k = pattern_le.1 (rw (magnitude_is b (finite_below b k.0)) at k.1)
-
-  pub pattern_between : (b L H l h : ℕ) → pattern_units f L ≡ 2 ^ l → pattern_units f H ≡ 2 ^ h → H < ones f * hid f
-      → ((L ≤ b % top f) × (b % top f ≤ H)) ↔ Between f l h (of_bits f b)
-  pattern_between b L H l h u v k = (there, back)
-    where
-      there : (L ≤ b % top f) × (b % top f ≤ H) → Between f l h (of_bits f b)
-      there g =
-          let w = (pattern_within b H k).0 g.1 in
-          record {
-            number = record { fit = of_bits-fits f b; fini = w.0 };
-            least = rw (magnitude_is b (finite_below b w.0), ← u) (pattern_le.0 g.0);
-            most = rw (← v) w.1;
-          }
-
-      back : Between f l h (of_bits f b) → (L ≤ b % top f) × (b % top f ≤ H)
-      back B = (
-        pattern_le.1 (rw (u, ← (magnitude_is b (finite_below b B.number.fini))) B.least),
-        (pattern_within b H k).1 (B.number.fini, rw v B.most),
-      )
-
-  pub pattern_number : (b : ℕ) → b % top f < ones f * hid f → Number f (of_bits f b)
-  pattern_number b h = record { fit = of_bits-fits f b; fini = rw (pattern_finite b) (lt→ltb (b % top f) (ones f * hid f) h) }
-
   -- a pattern below the infinity's is no NaN's
   pub pattern_no_nan : {r : ℕ} → r < ones f * hid f → T (not (nan_bits f r))
   pattern_no_nan {r} h =
       let l : r < top f = omega arith in
       rw (nan_bits_above f r, mod-eq_of_lt l) (le→nltb (ones f * hid f) r (omega arith))
-
--- ---- the pattern of a number: without its sign it is below the infinity's, and stands for the number's units
-module _ {f : Format} {x : Float} (X : Number f x) where
-  back : of_bits f (to_bits f x) ≡ x
-  back = of_bits-to_bits f x X.fit
-
-  pub bits_below : to_bits f x % top f < ones f * hid f
-  bits_below = ltb→lt (to_bits f x % top f) (ones f * hid f) (rw (← (pattern_finite f (to_bits f x)), back) X.fini)
-
-  pub bits_units : (negative x ≡ leb (top f) (to_bits f x)) × (magnitude f x ≡ pattern_units f (to_bits f x % top f))
-  bits_units =
-      let b = to_bits f x in
-      rw back at (is_units f (of_bits f b) (leb (top f) b) (pattern_units f (b % top f)) (pattern_is f b bits_below))

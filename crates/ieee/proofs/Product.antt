@@ -1,18 +1,14 @@
 -- Multiplication in units: the product is lib.Ieee's rounding of the exact product of magnitudes, in units of a unit; where that comes to whole units it is
 -- their rounding, and exact where they have at most prec bits. So a power of two scales exactly. Assumes nothing.
-use Rattle.std.specs.Prelude.{◌≡◌, refl, Bool, true, false, ℕ, suc, ◌+◌, ◌*◌, ◌^◌, ◌<◌, Float}
-use Rattle.std.proofs.Common.{sym, ap, ◌∙◌, mul_assoc, mul-pos, pow-add, pow_pos}
+use Rattle.std.specs.Prelude.{◌≡◌, Bool, ℕ, ◌*◌, ◌^◌, Float}
+use Rattle.std.proofs.Common.{◌∙◌, mul_assoc, mul-pos, pow_pos}
 use Rattle.std.proofs.Math.Nat.{mul-mul-mul_comm}
-use Rattle.std.proofs.Math.Pow.{pow-lt}
 use Rattle.std.specs.Float.{nan, inf, fin, Format}
-use Rattle.std.specs.Float.Ieee.{prec, emax, low, up, down, unlike, round, mul}
+use Rattle.std.specs.Float.Ieee.{low, up, down, unlike, round, mul}
 use Rattle.std.specs.Float.Ieee.Fits.{down_pos}
-use Rattle.std.specs.Float.Ieee.Scale.{round_same, overflow}
-use Rattle.units.specs.Rounding.{Short}
-use Rattle.units.proofs.Scaling.{short_power, short_up, short_down}
+use Rattle.std.specs.Float.Ieee.Scale.{round_same}
 use Rattle.ieee.specs.Units.{Is, Number, negative, magnitude}
 use Rattle.ieee.proofs.Finite.{facts}
-use Rattle.ieee.proofs.Rounded.{round_exact}
 
 pub mul_round : (f : Format) (x y : Float) (s t : Bool) (A B : ℕ) → Is f x s A → Is f y t B → mul f x y ≡ round f (unlike s t) (A * B) (2 ^ low f * 2 ^ low f)
 unfolding mul
@@ -47,23 +43,3 @@ module _ (f : Format) (x y : Float) (s t : Bool) (A B Z : ℕ) (p : Is f x s A) 
       let l = 2 ^ low f in
       mul_round f x y s t A B p q
       ∙ round_same f (unlike s t) (A * B) (l * l) Z l (mul-pos (pow_pos (low f)) (pow_pos (low f))) (pow_pos (low f)) (rw e (mul_assoc Z l l))
-
-  pub mul_exact : Short (prec f) Z → Z < overflow f → Is f (mul f x y) (unlike s t) Z
-  mul_exact c l = rw mul_whole (round_exact f (unlike s t) Z c l)
-
--- ---- powers of two: 2 ^ j units times A units
-
-unlike_false : (s : Bool) → unlike s false ≡ s
-unlike_false false = refl
-unlike_false true = refl
-
-module _ (f : Format) (x y : Float) (s : Bool) where
-  pub mul_power : (A j Z : ℕ) → Is f x s A → Short (prec f) A → Is f y false (2 ^ j) → A * 2 ^ j ≡ Z * 2 ^ low f → Z < overflow f → Is f (mul f x y) s Z
-  mul_power A j Z p c q e l =
-      let d : Short (prec f) (Z * 2 ^ low f) = rw e at (short_up (prec f) j c) in
-      rw (unlike_false s) at (mul_exact f x y s false A (2 ^ j) Z p q e (short_down (prec f) (low f) d) l)
-
-pub mul_powers : (f : Format) (x y : Float) (a b c : ℕ) → a + b ≡ c + low f → Is f x false (2 ^ a) → Is f y false (2 ^ b) → c < low f + suc (emax f)
-    → Is f (mul f x y) false (2 ^ c)
-mul_powers f x y a b c e p q l =
-    mul_power f x y false (2 ^ a) b (2 ^ c) p (short_power (prec f) a) q (sym (pow-add 2 a b) ∙ ap (λ (i : ℕ). 2 ^ i) e ∙ pow-add 2 c (low f)) (pow-lt l)

@@ -7,8 +7,7 @@ use Rattle.std.specs.Float.Ieee.Fits.{core, round_is, two, two-le_pos}
 use Rattle.std.specs.Float.Ieee.Exact.{units_val}
 use Rattle.std.specs.Float.Ieee.Nearest.{closest, closest_same}
 use Rattle.std.specs.Float.Ieee.Scale.{overflow}
-use Rattle.units.specs.Rounding.{dropped, rnd, Short}
-use Rattle.units.proofs.NaturalRounding.{exact}
+use Rattle.units.specs.Rounding.{dropped, rnd}
 use Rattle.ieee.specs.Units.{Is}
 
 pub prec_pos : (f : Format) → 0 < prec f
@@ -38,9 +37,3 @@ round_overflow f s n h = round_units f s n ∙ go (ltb (rnd (prec f) n) (overflo
     go : (b : Bool) → (T b → rnd (prec f) n < overflow f) → cond b (odd (suc (prec f)) s (closest n (2 ^ k)) k (low f)) (inf s) ≡ inf s
     go true l = absurd (not-le_of_lt (l tt) h)
     go false l = refl
-
--- a whole number of units that the format holds is itself
-pub round_exact : (f : Format) (s : Bool) (n : ℕ) → Short (prec f) n → n < overflow f → Is f (round f s n (2 ^ low f)) s n
-round_exact f s n h l =
-    let e = exact (prec f) (prec_pos f) h in
-    rw e at (round_value f s n (rw e l))

@@ -20,7 +20,7 @@ use Rattle.ieee.specs.ErrorFree.{half_prec, splitter, upper_half, lower_half, Ro
 use Rattle.ieee.proofs.Finite.{is_units, facts}
 use Rattle.ieee.proofs.Rounded.{prec_pos}
 use Rattle.ieee.proofs.Sum.{whole_mag}
-use Rattle.ieee.proofs.Pattern.{pattern_number}
+use Rattle.ieee.proofs.PatternBounds.{pattern_number}
 use Rattle.ieee.proofs.InRange.{capped}
 use Rattle.ieee.specs.Scaled.{Scaled}
 use Rattle.ieee.proofs.Scaled.{mul_rounds, sub_scaled}

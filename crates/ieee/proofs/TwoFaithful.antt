@@ -8,7 +8,7 @@ use Rattle.units.specs.Whole.{◌⊖◌, mag, difference}
 use Rattle.units.proofs.Powers.{le_or_lt, pow_pred}
 use Rattle.units.proofs.Integers.{int_lt, int_only, int_mag, int_minus, int_difference, mag_difference}
 use Rattle.units.specs.Faithful.{Faithful}
-use Rattle.units.proofs.FaithfulLaws.{faithful_relative}
+use Rattle.units.proofs.FaithfulDistance.{faithful_relative}
 use Rattle.ieee.specs.Units.{Number, negative, value, whole}
 use Rattle.ieee.specs.Accuracy.{FaithfulTo, Neighbouring, EqualOrNeighbouring, equal, below, above, CloseTo}
 use Rattle.ieee.proofs.Finite.{same_float}

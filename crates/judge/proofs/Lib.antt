@@ -4,5 +4,6 @@ pub mod FaultlessLaws
 pub mod FirstBadLaws
 pub mod FirstFaultLaws
 pub mod IeeeZero
+pub mod JudgeCases
 pub mod JudgeLaws
 pub mod ZeroLaws

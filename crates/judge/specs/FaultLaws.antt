@@ -12,7 +12,8 @@ use Rattle.std.specs.Float.Ieee.Bits.{is_true, is_false, of_bits-fits, nan_bits_
 use Rattle.std.specs.Float.Ieee.Scale.{finite}
 use Rattle.ieee.specs.Units.{Number, pattern_units}
 use Rattle.ieee.proofs.Finite.{is_units, finite_no_nan}
-use Rattle.ieee.proofs.Pattern.{pattern_positive, pattern_finite, pattern_within}
+use Rattle.ieee.proofs.Pattern.{pattern_positive, pattern_finite}
+use Rattle.ieee.proofs.PatternBounds.{pattern_within}
 use Rattle.ieee.proofs.Instances.{top_32, top_64}
 use Rattle.kinds.specs.Limits.{Width, doubles, singles}
 use Rattle.judge.specs.Judge.{fault_of}

@@ -1,12 +1,11 @@
 -- What the proofs of several functions cite.
-pub mod Signed64
-pub mod ThreeDigits
 pub mod Carrying
 pub mod ChangeLaws
 pub mod FirstForm
 pub mod LaneFarewell
 pub mod LanesLaws
 pub mod LayLaws
+pub mod ListPromise
 pub mod Neighbours
 pub mod PairLaws
 pub mod Promise
@@ -15,5 +14,7 @@ pub mod RunLaws
 pub mod SettleLaws
 pub mod SettledLaws
 pub mod SettlingLaws
+pub mod Signed64
 pub mod SumLaws
+pub mod ThreeDigits
 pub mod TopLaws

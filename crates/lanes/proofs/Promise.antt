@@ -1,6 +1,6 @@
 -- The promise of lanes: any additions and withdrawals from nothing, at most 2 ^ 30 of allowed numbers and any of others, settle to the words that the first
 -- form holds after the same calls; and with settlings between, fewer than 2 ^ 37 in all. Assumes nothing.
-use Rattle.std.specs.Prelude.{◌≡◌, refl, List, [], ◌∷◌, map, ℕ, ◌+◌, ◌^◌, ◌≤◌, ◌<◌, length}
+use Rattle.std.specs.Prelude.{◌≡◌, refl, List, [], ◌∷◌, ℕ, ◌+◌, ◌^◌, ◌≤◌, ◌<◌, length}
 use Rattle.std.proofs.Common.{inl, inr, lt_of_le_of_lt, arith, lit<}
 use Rattle.lists.proofs.Apart.{apart}
 use Rattle.kinds.specs.Limits.{doubles}
@@ -17,7 +17,6 @@ use Rattle.lanes.specs.SettleTable.{SettledTo}
 use Rattle.lanes.specs.Runs.{lane_changed, LaneRegister, begun, Act, change, settle, acted, lane_run, changes_of}
 use Rattle.lanes.specs.Runs.{NotFull, NeverFull}
 use Rattle.lanes.proofs.LanesLaws.{laid_heard_lem, lay_when, lay_counts, lay_given, settle_counts}
-use Rattle.lanes.proofs.RunLaws.{changes_only}
 use Rattle.lanes.proofs.FirstForm.{history_settles}
 
 -- ---- as many as lanes can take: none is one too many
@@ -66,12 +65,6 @@ module _ (out : List ℕ) (l : length out ≡ word_count) where
       → let r = lane_run (begun out) hs in
       SettledTo (settled r.lanes r.calls r.words) (settled_lanes (whole_of (run zeros (changes_of hs)))) (run zeros (changes_of hs))
   promise hs h = history_settles out l hs (never_full (begun out) hs (omega arith)) (never_out (changes_of hs) (lt_of_le_of_lt h (lit< tt)))
-
-  -- without a settling between
-  pub list_promise : (cs : List Change) → allowed_in cs ≤ most_calls
-      → let r = lane_run (begun out) (map change cs) in
-      SettledTo (settled r.lanes r.calls r.words) (settled_lanes (whole_of (run zeros cs))) (run zeros cs)
-  list_promise cs h = rw (changes_only cs) at (promise (map change cs) (rw (changes_only cs) h))
 
   -- with settlings between, fewer than 2 ^ 37, as long as no call is one too many since the last settling
   pub long_promise : (hs : List Act) → NeverFull (begun out) hs → allowed_in (changes_of hs) < 2 ^ 37

@@ -14,7 +14,8 @@ use Rattle.lists.specs.DigitLaws.{weight_next, digits_head, digits_tail, digits_
 use Rattle.lists.specs.Each.{Each, each_join, each_weaker}
 use Rattle.lists.specs.LowestDigits.{number_next}
 use Rattle.lists.proofs.TwosComplement.{stands_for, signed_is, signed_inside, residue_signed}
-use Rattle.lists.proofs.SignedDigits.{cut, whole, Words, cut_words, cut_number, words_lt, cut_only, whole_cut, top_digit_lem}
+use Rattle.lists.specs.SignedDigits.{cut, whole, Words}
+use Rattle.lists.proofs.SignedDigits.{cut_words, cut_number, words_lt, cut_only, whole_cut, top_digit_lem}
 use Rattle.words.specs.Words.{word_bits, word_count, register_bits, words_of}
 use Rattle.lanes.specs.Lanes.{lane_bits, lane_count, low_lanes, lane_sum, settled_lanes}
 use Rattle.lanes.specs.Settle.{pairs}

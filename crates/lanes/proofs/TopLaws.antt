@@ -8,7 +8,8 @@ use Rattle.units.specs.Whole.{Whole, nat, ◌⊕◌, ◌⊗◌, ◌≈◌, int, 
 use Rattle.units.proofs.Integers.{int_difference}
 use Rattle.lists.specs.Digits.{number, digits, residue, signed, inside}
 use Rattle.lists.proofs.TwosComplement.{residue_only, signed_residue, inside_yes, inside_above, inside_below}
-use Rattle.lists.proofs.SignedDigits.{cut, Words, words_lt, cut_only}
+use Rattle.lists.specs.SignedDigits.{cut, Words}
+use Rattle.lists.proofs.SignedDigits.{words_lt, cut_only}
 use Rattle.words.specs.Words.{register_bits}
 use Rattle.lanes.specs.Lanes.{lane_bits, lane_count, low_lanes, lane_sum, settled_lanes}
 use Rattle.lanes.specs.Settle.{lane_digit, lane_digits, lane_carry, top_lane}

@@ -8,7 +8,8 @@ use Rattle.units.specs.Whole.{◌⊕◌, int}
 use Rattle.units.proofs.Integers.{int_plus}
 use Rattle.lists.specs.Digits.{number, signed, residue, inside}
 use Rattle.lists.proofs.TwosComplement.{top, stands_for, signed_is, residue_only, no_carry, top_low, top_high, inside_yes, inside_above, inside_below}
-use Rattle.lists.proofs.SignedDigits.{cut, whole, Words, cut_words, cut_number, words_lt, cut_only, top_bit, top_digit_lem}
+use Rattle.lists.specs.SignedDigits.{cut, whole, Words, top_bit}
+use Rattle.lists.proofs.SignedDigits.{cut_words, cut_number, words_lt, cut_only, top_digit_lem}
 
 one_carry : (N c x y : ℕ) → x + c * N ≡ y → x < N → N ≤ y → y < N + N → x + N ≡ y
 one_carry N zero x y e h l g = absurd (omega arith)

@@ -1,5 +1,6 @@
 -- Facts on lists, and numbers written in digits of base 2 ^ w. Definitions first, then laws.
 pub mod Digits
+pub mod SignedDigits
 pub mod Carry
 pub mod Bitset
 pub mod Each

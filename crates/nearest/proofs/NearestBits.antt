@@ -15,10 +15,11 @@ use Rattle.std.specs.Float.Ieee.Scale.{overflow}
 use Rattle.units.specs.Rounding.{dropped, rnd}
 use Rattle.units.proofs.Powers.{le_or_lt, pow_pred, twice_le}
 use Rattle.units.specs.NaturalRounding.{Compared}
-use Rattle.units.proofs.NaturalRounding.{compared, dropped_reaches, rnd_is, rnd_kept, rnd_whole, reach}
+use Rattle.units.proofs.NaturalRounding.{dropped_reaches, rnd_is, rnd_kept, rnd_whole, reach}
+use Rattle.units.proofs.Closest.{compared}
 use Rattle.ieee.specs.Units.{sign_of, nearest_float, limit, rounded_bits}
 use Rattle.ieee.proofs.Rounded.{prec_pos}
-use Rattle.ieee.proofs.Write.{bits_round}
+use Rattle.ieee.proofs.WrittenBits.{bits_round}
 use Rattle.ieee.proofs.Overflow.{rnd_finite, rnd_overflows, nearest_round}
 
 -- a field D and digits C, from Q to 2 * Q or with no field, are in the order of C * 2 ^ D

@@ -11,7 +11,7 @@ use Rattle.std.specs.Float.Ieee.Nearest.{closest}
 use Rattle.units.specs.Rounding.{dropped}
 use Rattle.units.proofs.Powers.{pow_pred, cover}
 use Rattle.units.specs.NaturalRounding.{Compared}
-use Rattle.units.proofs.NaturalRounding.{compared}
+use Rattle.units.proofs.Closest.{compared}
 
 -- a / b to the nearest whole number, a tie to the even one, where s says that something less than one stands below a
 abbrev pub closest_over : Bool → ℕ → ℕ → ℕ

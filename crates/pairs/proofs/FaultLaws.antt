@@ -19,7 +19,7 @@ use Rattle.judge.specs.Table.{float_of, size_of}
 use Rattle.pairs.specs.Limits.{Pairing, double_pairs}
 use Rattle.pairs.specs.Pairs.{Pair, in_range, pair_fault}
 use Rattle.pairs.specs.Table.{Finite, Ranged, Outside}
-use Rattle.pairs.specs.FaultLaws.{Proper}
+use Rattle.pairs.specs.FaultLaws.{Proper, chosen}
 
 -- ---- one number
 module _ (P : Pairing) (p : ℕ) where
@@ -62,10 +62,6 @@ module _ (P : Pairing) (p : ℕ) where
     λ e. elim (ranged_or_outside false e) [ inr h ↦ h.1 | inl h ↦ let z = h.0 in apart (cc) ],
     λ O. elim (ranged_or_outside (in_range P p) refl) [ inr h ↦ h.0 | inl h ↦ absurd (ranged_not_outside h.1 O) ],
   )
-
--- ---- the pair, where a and b say whether its numbers are finite, and r and s whether they are in range
-abbrev chosen : Bool → Bool → Bool → Bool → ℕ
-chosen a b r s = cond (a && b) (cond (r && s) 0 23) 2
 
 module _ (P : Pairing) (c : Pair) where
   abbrev x : Bool

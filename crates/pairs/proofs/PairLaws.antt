@@ -12,7 +12,7 @@ use Rattle.ieee.specs.ErrorFree.{product_error, ErrorFree}
 use Rattle.ieee.proofs.TwoProduct.{two_product, product_small, error_smaller}
 use Rattle.ieee.proofs.Sum.{value_mag}
 use Rattle.ieee.proofs.Overflow.{power_below}
-use Rattle.ieee.proofs.Pattern.{finite_below}
+use Rattle.ieee.proofs.PatternBounds.{finite_below}
 use Rattle.ieee.proofs.Nearest.{nearest_number}
 use Rattle.ieee.proofs.Zeros.{zero_bits, zero_value, add_plus}
 use Rattle.lists.proofs.Apart.{apart}

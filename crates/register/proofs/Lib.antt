@@ -1,6 +1,4 @@
 -- What the proofs of single functions cite.
-pub mod TopBits
-pub mod ThreeBits
 pub mod AnyHistory
 pub mod EnterLaws
 pub mod Farewell
@@ -10,3 +8,6 @@ pub mod Rooms
 pub mod RoundedLaws
 pub mod RunLaws
 pub mod SitesLaws
+pub mod ThreeBits
+pub mod ThreeLengths
+pub mod TopBits

@@ -1,10 +1,9 @@
 -- A merge: each answer is given exactly when the table says, a refused one leaves the area, and the third register's whole number is the sum of the two.
 -- It doesn't matter which of the two comes first, nor how three are grouped, and a register of zeros changes nothing. Assumes nothing.
-use Rattle.std.specs.Prelude.{◌≡◌, refl, ◌↔◌, ◌⊎◌, Bool, true, false, cond, not, ◌&&◌, List, ℕ, eqb, ℤ, ◌+ℤ◌, length}
-use Rattle.std.proofs.Common.{sym, ap, ◌∙◌, inl, inr, eq-eqb, eqb→eq, lit<}
+use Rattle.std.specs.Prelude.{◌≡◌, refl, ◌↔◌, ◌⊎◌, Bool, true, false, cond, not, List, ℕ, ℤ, ◌+ℤ◌, length}
+use Rattle.std.proofs.Common.{sym, ap, ◌∙◌, inl, inr, lit<}
 use Rattle.std.proofs.Math.Dec.{T}
 use Rattle.std.proofs.Math.IntN.{+ℤ_idr, +ℤ_comm, +ℤ_assoc}
-use Rattle.std.specs.Float.Ieee.Fits.{and_l, and_r}
 use Rattle.lists.proofs.Apart.{apart}
 use Rattle.lists.specs.Digits.{inside}
 use Rattle.lists.proofs.SignedDigits.{cut_words, cut_whole, whole_cut, whole_inside}
@@ -18,35 +17,23 @@ use Rattle.register.specs.Register.{Changed}
 use Rattle.register.specs.Entries.{afterwards, zeros}
 use Rattle.register.proofs.RunLaws.{zero_whole}
 use Rattle.register.specs.Merge.{right_lengths, merged, ThreeRegisters, MergeWhen, merges, wrong_length, out_of_range}
+use Rattle.register.proofs.ThreeLengths.{lengths_right, right_lengths_lem}
 
 -- what is left to ask of a sum z once the lengths are right
 abbrev fitted : List ℕ → ℤ → Changed
 fitted out z = cond (not (inside register_bits z)) (outcome (Refused 9 0) out) (outcome Entered (words_of z))
 
 module _ (us vs out : List ℕ) where
-  -- the test of the three lengths says what the table says
-  lengths_right : ThreeRegisters us vs out → right_lengths us vs out ≡ true
-  lengths_right T = rw (eq-eqb (length us) word_count T.first, eq-eqb (length vs) word_count T.second, eq-eqb (length out) word_count T.third)
-
-  pub right_lengths_lem : right_lengths us vs out ≡ true → ThreeRegisters us vs out
-  right_lengths_lem e =
-      let u : Bool = eqb (length us) word_count in
-      let v : Bool = eqb (length vs) word_count in
-      let o : Bool = eqb (length out) word_count in
-      let t : T (right_lengths us vs out) = rw e tt in
-      let w : T (u && v) = and_l (u && v) o t in
-      record { first = eqb→eq _ _ (and_l u v w); second = eqb→eq _ _ (and_r u v w); third = eqb→eq _ _ (and_r (u && v) o t) }
-
   three? : ThreeRegisters us vs out ⊎ (ThreeRegisters us vs out → ⊥)
   three? = by (right_lengths us vs out) refl
     where
       by : (b : Bool) → right_lengths us vs out ≡ b → ThreeRegisters us vs out ⊎ (ThreeRegisters us vs out → ⊥)
-      by true e = inl (right_lengths_lem e)
-      by false e = inr (λ T. let t : right_lengths us vs out ≡ true = lengths_right T in apart (cc))
+      by true e = inl (right_lengths_lem us vs out e)
+      by false e = inr (λ T. let t : right_lengths us vs out ≡ true = lengths_right us vs out T in apart (cc))
 
   merged_fitted : ThreeRegisters us vs out → merged us vs out ≡ fitted out (whole_of us +ℤ whole_of vs)
   unfolding merged
-  merged_fitted T = rw (lengths_right T)
+  merged_fitted T = rw (lengths_right us vs out T)
 
   pub merged_wrong : right_lengths us vs out ≡ false → merged us vs out ≡ outcome (Refused 4 0) out
   unfolding merged
@@ -56,7 +43,7 @@ module _ (us vs out : List ℕ) where
   merged_long N = by (right_lengths us vs out) refl
     where
       by : (b : Bool) → right_lengths us vs out ≡ b → merged us vs out ≡ outcome (Refused 4 0) out
-      by true e = absurd (N (right_lengths_lem e))
+      by true e = absurd (N (right_lengths_lem us vs out e))
       by false e = merged_wrong e
 
   pub merged_out : ThreeRegisters us vs out → inside register_bits (whole_of us +ℤ whole_of vs) ≡ false → merged us vs out ≡ outcome (Refused 9 0) out

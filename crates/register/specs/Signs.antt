@@ -1,7 +1,7 @@
 -- The sign of the words, and when an addition or a merge leaves their range. Definitions only.
 use Rattle.std.specs.Prelude.{Bool, cond, not, ◌&&◌, List, ℕ, ◌-◌, ltb, eqb}
 use Rattle.std.specs.Float.Ieee.{top}
-use Rattle.lists.proofs.SignedDigits.{top_bit}
+use Rattle.lists.specs.SignedDigits.{top_bit}
 use Rattle.kinds.specs.Limits.{doubles}
 use Rattle.words.specs.Words.{word_bits, word_count}
 

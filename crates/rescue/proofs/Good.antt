@@ -23,9 +23,11 @@ use Rattle.sheet.specs.SheetLaws.{Readable}
 use Rattle.sheet.proofs.SheetLaws.{readable, read_patterns, read_is_sheet}
 use Rattle.sheet.proofs.SheetLaws.{patterns_body, sheet_count, sheet_body, sheet_version, sheet_length, sheet_read}
 use Rattle.rescue.specs.Rescue.{taken_of, entries_of, kept_of, mark_of, report_of, rescuing, rescued_of}
-use Rattle.rescue.proofs.RescueLaws.{kept_few, rescue_saved}
+use Rattle.rescue.proofs.RescueLaws.{kept_few}
+use Rattle.rescue.proofs.RescueCases.{rescue_saved}
 use Rattle.rescue.proofs.Marks.{allowed_marks}
-use Rattle.rescue.proofs.Saved.{was_given, written_kept, saved_sheet}
+use Rattle.rescue.proofs.Saved.{written_kept, saved_sheet}
+use Rattle.rescue.proofs.SavedWhole.{was_given}
 use Rattle.rescue.specs.declared.Report.{Report}
 use Rattle.rescue.specs.declared.Rescued.TheVariants.{Saved}
 

@@ -2,5 +2,7 @@
 pub mod EntryLaws
 pub mod Good
 pub mod Marks
+pub mod RescueCases
 pub mod RescueLaws
 pub mod Saved
+pub mod SavedWhole

@@ -1,9 +1,8 @@
 -- What a rescue answers, case by case; each answer exactly when its row says (rule O6), and so it is heard, with no place; a refusal leaves both areas as they
 -- were; and two results that meet the contract are equal. Assumes nothing.
-use Rattle.std.specs.Prelude.{◌≡◌, refl, ◌↔◌, Bool, true, false, ◌||◌, List, ◌++◌, map, ℕ, ◌+◌, ◌*◌, ◌≤◌, ◌<◌, ltb, length, drop}
+use Rattle.std.specs.Prelude.{◌≡◌, refl, ◌↔◌, List, ℕ, ◌+◌, ◌*◌, ◌≤◌, ◌<◌, length}
 use Rattle.std.proofs.Common.{sym, ap, ◌∙◌, inl, inr, arith, lit<}
 use Rattle.std.proofs.Math.Decide.{ℕ_discrete}
-use borrow.Author.Tests.{lt-ltb, le-ltb, eq-eqb, ne_eqb}
 use Rattle.units.proofs.Powers.{le_or_lt}
 use Rattle.lists.proofs.Apart.{apart}
 use Rattle.lists.proofs.Filter.{filter_others}
@@ -17,14 +16,15 @@ use Rattle.kinds.specs.declared.Verdict.TheVariants as verdicts
 use Rattle.judge.specs.Judge.{fault_free}
 use Rattle.octets.specs.Octets.{big}
 use Rattle.octets.proofs.EightsLaws.{eights_length}
-use Rattle.sheet.specs.Sheet.{sheet_of, version_of, count_of, patterns_of}
+use Rattle.sheet.specs.Sheet.{version_of, count_of, patterns_of}
 use Rattle.sheet.specs.Table.{Begun}
-use Rattle.rescue.specs.Rescue.{taken_of, entries_of, kept_of, mark_of, report_of, Rescuing, rescuing, rescued_of, rescued_heard}
+use Rattle.rescue.specs.Rescue.{taken_of, entries_of, kept_of, report_of, Rescuing, rescuing, rescued_of, rescued_heard}
 use Rattle.rescue.specs.Rescue.{RescueWhen, no_header, other_version, too_many, no_room, saved}
 use Rattle.rescue.specs.declared.Report.{Report}
 use Rattle.rescue.specs.declared.Rescued.{Rescued}
 use Rattle.rescue.specs.declared.Rescued.TheVariants.{Saved, Refused}
 use Rattle.rescue.specs.RescueLaws.{answer_of}
+use Rattle.rescue.proofs.RescueCases.{rescue_no_header, rescue_version, rescue_many, rescue_no_room, rescue_no_marks, rescue_saved}
 
 -- ---- what is heard: two answers of which the same is heard are the same, and one of which a refusal is heard is that refusal
 abbrev refusal_of : Report → Verdict → Rescued
@@ -51,73 +51,18 @@ rescued_is (Refused l j) k p e = (j, cc)
 pub kept_few : (W : Width) (n : ℕ) (bs : List ℕ) → length (kept_of W (patterns_of n bs)) ≤ n
 kept_few W n bs = omega (arith, filter_others (fault_free W) (patterns_of n bs), eights_length big n bs)
 
-either : (b : Bool) → (b || true) ≡ true
-either true = refl
-either false = refl
-
 module _ (W : Width) (bytes sheet marks : List ℕ) where
   abbrev size : ℕ
   size = 5 + 8 * length (kept_of W (entries_of bytes))
 
-  -- ---- case by case
-  pub rescue_no_header : length bytes < 5 → rescued_of W bytes sheet marks ≡ rescuing (Refused 11 0) sheet marks
-  unfolding rescued_of
-  rescue_no_header h = rw (lt-ltb (length bytes) 5 h)
-
-  pub rescue_version : 5 ≤ length bytes → (version_of bytes ≡ 1 → ⊥) → rescued_of W bytes sheet marks ≡ rescuing (Refused 12 0) sheet marks
-  unfolding rescued_of
-  rescue_version h v = rw (le-ltb (length bytes) 5 h, ne_eqb (version_of bytes) 1 v)
-
-  module _ (B : Begun bytes) where
-    pub rescue_many : W.length < count_of bytes → rescued_of W bytes sheet marks ≡ rescuing (Refused 1 0) sheet marks
-    unfolding rescued_of
-    rescue_many m = rw (le-ltb (length bytes) 5 B.header, eq-eqb (version_of bytes) 1 B.version, lt-ltb W.length (count_of bytes) m)
-
-    module _ (few : count_of bytes ≤ W.length) where
-      pub rescue_no_room : length sheet < 5 + 8 * length (kept_of W (entries_of bytes)) → rescued_of W bytes sheet marks ≡ rescuing (Refused 4 0) sheet marks
-      unfolding rescued_of
-      rescue_no_room s =
-          rw (
-            le-ltb (length bytes) 5 B.header,
-            eq-eqb (version_of bytes) 1 B.version,
-            le-ltb W.length (count_of bytes) few,
-            lt-ltb (length sheet) size s,
-          )
-
-      pub rescue_no_marks : length marks < taken_of bytes → rescued_of W bytes sheet marks ≡ rescuing (Refused 4 0) sheet marks
-      unfolding rescued_of
-      rescue_no_marks s =
-          rw (
-            le-ltb (length bytes) 5 B.header,
-            eq-eqb (version_of bytes) 1 B.version,
-            le-ltb W.length (count_of bytes) few,
-            lt-ltb (length marks) (taken_of bytes) s,
-            either (ltb (length sheet) size),
-          )
-
-      pub rescue_saved : 5 + 8 * length (kept_of W (entries_of bytes)) ≤ length sheet → taken_of bytes ≤ length marks
-          → let kept = kept_of W (entries_of bytes) in
-          rescued_of W bytes sheet marks
-          ≡ rescuing (Saved (report_of W bytes)) (sheet_of kept ++ drop (5 + 8 * length kept) sheet)
-          (map (mark_of W) (entries_of bytes) ++ drop (taken_of bytes) marks)
-      unfolding rescued_of
-      rescue_saved s m =
-          rw (
-            le-ltb (length bytes) 5 B.header,
-            eq-eqb (version_of bytes) 1 B.version,
-            le-ltb W.length (count_of bytes) few,
-            le-ltb (length sheet) size s,
-            le-ltb (length marks) (taken_of bytes) m,
-          )
-
   -- ---- exactly when
   row : {r : Rescued} → RescueWhen W bytes sheet marks r → (rescued_of W bytes sheet marks).answer ≡ r
-  row (no_header h) = ap answer_of (rescue_no_header h)
-  row (other_version h v) = ap answer_of (rescue_version h v)
-  row (too_many B m) = ap answer_of (rescue_many B m)
-  row (no_room B f (inl s)) = ap answer_of (rescue_no_room B f s)
-  row (no_room B f (inr m)) = ap answer_of (rescue_no_marks B f m)
-  row (saved B f s m) = ap answer_of (rescue_saved B f s m)
+  row (no_header h) = ap answer_of (rescue_no_header W bytes sheet marks h)
+  row (other_version h v) = ap answer_of (rescue_version W bytes sheet marks h v)
+  row (too_many B m) = ap answer_of (rescue_many W bytes sheet marks B m)
+  row (no_room B f (inl s)) = ap answer_of (rescue_no_room W bytes sheet marks B f s)
+  row (no_room B f (inr m)) = ap answer_of (rescue_no_marks W bytes sheet marks B f m)
+  row (saved B f s m) = ap answer_of (rescue_saved W bytes sheet marks B f s m)
 
   by_room : Begun bytes → count_of bytes ≤ W.length → (r : Rescued) × RescueWhen W bytes sheet marks r
   by_room B f = elim (le_or_lt size (length sheet)) [
@@ -145,11 +90,11 @@ module _ (W : Width) (bytes sheet marks : List ℕ) where
 
   -- rule A1
   left : {r : Rescued} {k i : ℕ} → RescueWhen W bytes sheet marks r → r ≡ Refused k i → rescued_of W bytes sheet marks ≡ rescuing r sheet marks
-  left (no_header h) e = rescue_no_header h
-  left (other_version h v) e = rescue_version h v
-  left (too_many B m) e = rescue_many B m
-  left (no_room B f (inl s)) e = rescue_no_room B f s
-  left (no_room B f (inr m)) e = rescue_no_marks B f m
+  left (no_header h) e = rescue_no_header W bytes sheet marks h
+  left (other_version h v) e = rescue_version W bytes sheet marks h v
+  left (too_many B m) e = rescue_many W bytes sheet marks B m
+  left (no_room B f (inl s)) e = rescue_no_room W bytes sheet marks B f s
+  left (no_room B f (inr m)) e = rescue_no_marks W bytes sheet marks B f m
   left (saved B f s m) e = apart (cc)
 
   pub rescue_leaves : {k i : ℕ} → (rescued_of W bytes sheet marks).answer ≡ Refused k i → rescued_of W bytes sheet marks ≡ rescuing (Refused k i) sheet marks

@@ -14,7 +14,7 @@ use Rattle.ieee.proofs.Finite.{is_finite, is_units}
 use Rattle.ieee.proofs.Sum.{whole_mag}
 use Rattle.ieee.proofs.InRange.{add_rounds}
 use Rattle.ieee.proofs.Compare.{le_units}
-use Rattle.ieee.proofs.Product.{mul_powers}
+use Rattle.ieee.proofs.ProductExact.{mul_powers}
 use Rattle.exponent.specs.Power.{powers, power_of}
 use Rattle.exponent.proofs.PowerLaws.{power_is, power_number, power_negative, power_magnitude, high_power}
 use Rattle.extract.specs.Extract.{remainder_of, remainders, largest}

@@ -5,5 +5,6 @@ pub mod LayoutLaws
 pub mod SheetLaws
 pub mod TableLaws
 pub mod ThereAndBack
+pub mod WriteCases
 pub mod WriteInstances
 pub mod WriteLaws

@@ -11,7 +11,8 @@ use Rattle.sheet.proofs.SheetLaws.{read_is_sheet, sheet_length, sheet_read}
 use Rattle.sheet.specs.Table.{SheetWhen, all_read}
 use Rattle.sheet.proofs.TableLaws.{sheet_when}
 use Rattle.sheet.specs.Write.{Writing, written_of, WriteWhen, all_written}
-use Rattle.sheet.proofs.WriteLaws.{write_all, write_when}
+use Rattle.sheet.proofs.WriteLaws.{write_when}
+use Rattle.sheet.proofs.WriteCases.{write_all}
 use Rattle.sheet.specs.declared.Written.TheVariants.{Wrote}
 
 -- ---- a call that wrote size bytes, and left the area as `after`

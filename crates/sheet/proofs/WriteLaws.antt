@@ -1,8 +1,7 @@
 -- What the writer answers, case by case; each answer exactly when its row says (rule O6), and so it is heard, with no place; a refusal leaves the area as it
 -- was; and two results that meet the writer's contract are equal. Assumes nothing.
-use Rattle.std.specs.Prelude.{◌≡◌, refl, ◌↔◌, List, ◌++◌, ℕ, ◌+◌, ◌*◌, ◌≤◌, ◌<◌, drop}
+use Rattle.std.specs.Prelude.{◌≡◌, refl, ◌↔◌, List, ℕ, ◌+◌, ◌*◌, ◌<◌}
 use Rattle.std.proofs.Common.{sym, ap, ◌∙◌, inl, inr, lit<}
-use borrow.Author.Tests.{lt-ltb, le-ltb}
 use Rattle.std.proofs.Math.ListN.{length}
 use Rattle.units.proofs.Powers.{le_or_lt}
 use Rattle.lists.proofs.Apart.{apart}
@@ -14,10 +13,10 @@ use Rattle.kinds.specs.Outcome.{outcome}
 use Rattle.kinds.proofs.OutcomeLaws.{determined}
 use Rattle.kinds.specs.declared.Verdict.{Verdict}
 use Rattle.kinds.specs.declared.Verdict.TheVariants as verdicts
-use Rattle.sheet.specs.Sheet.{sheet_of}
 use Rattle.sheet.specs.Write.{Writing, written_of, written_heard, WriteWhen, too_many, no_room, all_written}
 use Rattle.sheet.specs.declared.Written.{Written}
 use Rattle.sheet.specs.declared.Written.TheVariants.{Wrote, Refused}
+use Rattle.sheet.proofs.WriteCases.{write_many, write_no_room, write_all}
 
 abbrev answer_of : Writing → Written
 answer_of x = x.answer
@@ -38,25 +37,11 @@ written_is (Wrote n) k p e = apart (cc)
 written_is (Refused l j) k p e = (j, cc)
 
 module _ (W : Width) (ps area : List ℕ) where
-  -- ---- case by case
-  pub write_many : W.length < length ps → written_of W ps area ≡ outcome (Refused 1 0) area
-  unfolding written_of
-  write_many h = rw (lt-ltb W.length (length ps) h)
-
-  pub write_no_room : length ps ≤ W.length → length area < 5 + 8 * length ps → written_of W ps area ≡ outcome (Refused 4 0) area
-  unfolding written_of
-  write_no_room few s = rw (le-ltb W.length (length ps) few, lt-ltb (length area) (5 + 8 * length ps) s)
-
-  pub write_all : length ps ≤ W.length → 5 + 8 * length ps ≤ length area
-      → written_of W ps area ≡ outcome (Wrote (5 + 8 * length ps)) (sheet_of ps ++ drop (5 + 8 * length ps) area)
-  unfolding written_of
-  write_all few s = rw (le-ltb W.length (length ps) few, le-ltb (length area) (5 + 8 * length ps) s)
-
   -- ---- exactly when
   row : {r : Written} → WriteWhen W ps area r → (written_of W ps area).answer ≡ r
-  row (too_many h) = ap answer_of (write_many h)
-  row (no_room f s) = ap answer_of (write_no_room f s)
-  row (all_written f s) = ap answer_of (write_all f s)
+  row (too_many h) = ap answer_of (write_many W ps area h)
+  row (no_room f s) = ap answer_of (write_no_room W ps area f s)
+  row (all_written f s) = ap answer_of (write_all W ps area f s)
 
   some_row : (r : Written) × WriteWhen W ps area r
   some_row = elim (le_or_lt (length ps) W.length) [
@@ -69,8 +54,8 @@ module _ (W : Width) (ps area : List ℕ) where
 
   -- rule A1
   left : {r : Written} {k i : ℕ} → WriteWhen W ps area r → r ≡ Refused k i → (written_of W ps area).area ≡ area
-  left (too_many h) e = ap (λ (x : Writing). x.area) (write_many h)
-  left (no_room f s) e = ap (λ (x : Writing). x.area) (write_no_room f s)
+  left (too_many h) e = ap (λ (x : Writing). x.area) (write_many W ps area h)
+  left (no_room f s) e = ap (λ (x : Writing). x.area) (write_no_room W ps area f s)
   left (all_written f s) e = apart (cc)
 
   pub write_leaves : {k i : ℕ} → (written_of W ps area).answer ≡ Refused k i → (written_of W ps area).area ≡ area

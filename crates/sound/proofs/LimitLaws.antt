@@ -5,10 +5,11 @@ use Rattle.std.proofs.Common.{ap, ◌∙◌, mod-eq_of_lt, arith, lit<, lit≤}
 use Rattle.std.specs.Float.{Format}
 use Rattle.std.specs.Float.Ieee.{hid, ones, top, of_bits}
 use Rattle.units.specs.Rounding.{ceil}
-use Rattle.units.proofs.Ceiling.{ceil_power}
+use Rattle.units.proofs.CeilingLaws.{ceil_power}
 use Rattle.ieee.specs.Units.{pattern_units}
 use Rattle.ieee.proofs.Finite.{is_units}
-use Rattle.ieee.proofs.Pattern.{pattern_number, pattern_positive, pattern_no_nan}
+use Rattle.ieee.proofs.Pattern.{pattern_positive, pattern_no_nan}
+use Rattle.ieee.proofs.PatternBounds.{pattern_number}
 use Rattle.exponent.specs.Power.{powers}
 use Rattle.kinds.specs.Limits.{Width, doubles, singles, exponent_of}
 use Rattle.kinds.proofs.LimitsLaws.{exponent_most}

@@ -10,7 +10,8 @@ use Rattle.std.specs.Float.Ieee.Fits.{eq→eqb}
 use Rattle.std.specs.Float.Ieee.Bits.{is_true}
 use Rattle.std.specs.Float.Ieee.Scale.{finite}
 use Rattle.units.specs.Rounding.{ceil}
-use Rattle.units.proofs.Ceiling.{ceil_ge, ceil_least, ceil_power}
+use Rattle.units.proofs.Ceiling.{ceil_ge, ceil_least}
+use Rattle.units.proofs.CeilingLaws.{ceil_power}
 use Rattle.units.proofs.Powers.{pow_le_back}
 use Rattle.ieee.specs.Units.{Number, negative, magnitude, pattern_units}
 use Rattle.ieee.proofs.Fractions.{same_test}

@@ -1,5 +1,4 @@
 -- What the proof of one function cites.
-pub mod SplitLaws
 pub mod AnswerLaws
 pub mod AnswerNumbers
 pub mod Farewell
@@ -11,5 +10,7 @@ pub mod SettleLaws
 pub mod Settled
 pub mod SideSums
 pub mod SignLanesLaws
+pub mod SplitLaws
 pub mod SumLaws
+pub mod SumsReordered
 pub mod ZeroSums

@@ -2,11 +2,10 @@
 -- began with zeros. Assumes nothing.
 use Rattle.std.specs.Prelude.{◌≡◌, ◌↔◌, Bool, ℕ, ◌^◌, ◌≤◌, ◌<◌, eqb, length, Float}
 use Rattle.std.proofs.Math.Path.{refl}
-use Rattle.std.proofs.Common.{sym, ◌∙◌, inl, inr, lt_of_le_of_lt, lit<}
+use Rattle.std.proofs.Common.{sym, ◌∙◌, inl, inr}
 use Rattle.std.proofs.Math.Bool.{true}
 use mathlib.Core.List.Perm
 use mathlib.Core.List.{List, map, Perm}
-use Rattle.std.proofs.lemmas.List.{length-map}
 use Rattle.std.specs.Float.Ieee.{top, of_bits}
 use Rattle.units.proofs.ExactSum.{sum_reordered}
 use Rattle.ieee.specs.Units.{value}
@@ -18,12 +17,13 @@ use Rattle.judge.specs.Judge.{fault_free, judged, zero_sign}
 use Rattle.judge.specs.Table.{Allowed, Passed, ListWhen, too_many, wrong_area, wrong_parts, bad_number, allowed}
 use Rattle.judge.proofs.FaultlessLaws.{faultless_good}
 use Rattle.judge.proofs.FirstFaultLaws.{found, first_good}
-use Rattle.judge.proofs.JudgeLaws.{list_when, list_passed, list_allowed, judged_1, judged_4, judged_5}
-use Rattle.register.specs.Entries.{Change, add, pattern_of, change_of, run, zeros}
-use Rattle.register.proofs.RunLaws.{all_entered, zeros_held, patterns}
+use Rattle.judge.proofs.JudgeLaws.{list_when, list_allowed}
+use Rattle.judge.proofs.JudgeCases.{judged_1, judged_4, judged_5}
+use Rattle.register.specs.Entries.{Change, pattern_of, change_of, run, zeros}
+use Rattle.register.proofs.RunLaws.{all_entered, zeros_held}
 use Rattle.register.proofs.Farewell.{run_same}
 use Rattle.sums.specs.Sums.{sum_of, nearest_after, nearest_of, parts_after, parts_of, fitting}
-use Rattle.sums.specs.Reordering.{SameSums, JudgedAlike, same, both_bad}
+use Rattle.sums.specs.Reordering.{JudgedAlike, same, both_bad}
 
 -- ---- rule S10: which lists are allowed
 module _ {W : Width} {ps qs : List ℕ} (π : Perm ps qs) where
@@ -99,14 +99,3 @@ history_reordered {cs} {ds} π h A =
     run_same zeros zeros_held cs ds (all_entered cs h A)
     (all_entered ds (rw (← (length_reordered π)) h) (allowed_reordered (Perm.map pattern_of π) A))
     (sum_reordered (Perm.map change_of π))
-
-pub register_reordered : {ps qs : List ℕ} → Perm ps qs → length ps < 2 ^ 37 → Allowed doubles ps → run zeros (map add ps) ≡ run zeros (map add qs)
-register_reordered {ps} π h A = history_reordered (Perm.map add π) (rw (length-map ps add) h) (rw (patterns ps) A)
-
--- all of it, for an allowed list of doubles
-pub sums_reordered : {ps qs : List ℕ} → Perm ps qs → ListWhen doubles true true ps Good → SameSums ps qs
-sums_reordered π G = record {
-  nearest = nearest_reordered π (list_allowed G);
-  parts = parts_reordered π (list_allowed G);
-  register = register_reordered π (lt_of_le_of_lt (list_passed G).few (lit< tt)) (list_allowed G);
-}

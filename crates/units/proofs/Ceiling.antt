@@ -1,10 +1,10 @@
 -- How many digits a natural number has, and the exponent of the least power of two at or above it. Assumes nothing.
-use Rattle.std.specs.Prelude.{◌≡◌, ℕ, suc, ◌+◌, ◌-◌, ◌^◌, ◌≤◌, ◌<◌}
-use Rattle.std.proofs.Common.{ap, inl, inr, le_refl, le_trans, le_antisymm, lt_of_not-le, not-le_of_lt, arith, pow_pos, pow_mono}
+use Rattle.std.specs.Prelude.{◌≡◌, ℕ, ◌+◌, ◌-◌, ◌^◌, ◌≤◌, ◌<◌}
+use Rattle.std.proofs.Common.{ap, inl, inr, arith, pow_pos, pow_mono}
 use Rattle.std.specs.Float.Ieee.{size}
 use Rattle.std.specs.Float.Ieee.Digits.{size-lt, size-le}
 use Rattle.units.specs.Rounding.{ceil}
-use Rattle.units.proofs.Powers.{le_or_lt, pow_le_back}
+use Rattle.units.proofs.Powers.{le_or_lt}
 
 -- a number that reaches 2 ^ j has more than j digits, so one above 0 has some
 pub size_gt : (n j : ℕ) → 2 ^ j ≤ n → j < size n
@@ -25,9 +25,3 @@ ceil_next n = ap size (less n)
   where
     less : (n : ℕ) → n ≡ n + 1 - 1
     less n = omega arith
-
-pub ceil_at : {n : ℕ} (j : ℕ) → 2 ^ j < n → n ≤ 2 ^ suc j → ceil n ≡ suc j
-ceil_at {n} j lo hi = le_antisymm (ceil_least hi) (lt_of_not-le (λ g. not-le_of_lt lo (le_trans (ceil_ge n) (pow_mono g))))
-
-pub ceil_power : (j : ℕ) → ceil (2 ^ j) ≡ j
-ceil_power j = le_antisymm (ceil_least (le_refl (2 ^ j))) (pow_le_back j (ceil (2 ^ j)) (ceil_ge (2 ^ j)))

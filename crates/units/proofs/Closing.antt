@@ -1,7 +1,7 @@
 -- The four ways in which a round closes, and what each conserves: nothing is left, a restart, a finish, or a further round. Document 000's Lemmas 4.2 and
 -- 4.3 with Algorithm 4.8's restart, for 2 ≤ M, 2 M + 1 ≤ p and n + 2 ≤ 2 ^ M. Nothing is said of the order in which numbers were taken. Assumes nothing.
 use Rattle.std.specs.Prelude.{◌≡◌, ◌⊎◌, List, [], ◌∷◌, ℕ, suc, ◌+◌, ◌-◌, ◌*◌, ◌^◌, ◌≤◌, ◌<◌}
-use Rattle.std.proofs.Common.{inl, inr, mul-le-mul_right, arith, pow-add, pow_mono}
+use Rattle.std.proofs.Common.{inl, inr, mul-le-mul_right, arith, pow_mono}
 use Rattle.units.specs.Whole.{Whole, nat, ◌⊕◌, ◌⊖◌, ◌⊗◌, ◌≈◌, Within, Under, mag, total, All}
 use Rattle.units.specs.Rounding.{fl, Representable}
 use Rattle.units.specs.Faithful.{Faithful}
@@ -10,10 +10,11 @@ use Rattle.units.proofs.Powers.{le_or_lt, cover}
 use Rattle.units.proofs.Multiples.{multiple_add, multiple_finer, multiple_zero}
 use Rattle.units.proofs.SignedRounding.{rep_same, rep_neg, rep_zero, fl_same, fl_exact, fl_below, fl_above, fl_rep, fl_multiple, fl_zero}
 use Rattle.units.proofs.Turns.{tau_under}
-use Rattle.units.proofs.TwoSum.{two_sum}
+use Rattle.units.proofs.ExactTwoSum.{two_sum}
 use Rattle.units.proofs.FaithfulLaws.{faithful_same, fl_faithful}
 use Rattle.units.proofs.RemainderSum.{summed_near, summed_zero, total_zero}
 use Rattle.units.proofs.Finish.{finish}
+use Rattle.units.proofs.Room.{room}
 
 all_map : {A B : Whole → Type 0} (xs : List Whole) → ((x : Whole) → A x → B x) → All A xs → All B xs
 all_map [] f h = tt
@@ -27,9 +28,6 @@ left_ready p k e (x ∷ xs) r h = (record { rep = r.0.rep; small = h.0 }, left_r
 module _ (p M n : ℕ) (two : 2 ≤ M) (fit : M + M < p) (few : n + 2 ≤ 2 ^ M) where
   P : 0 < p
   P = omega arith
-
-  room : 2 * (2 ^ M * 2 ^ M) ≤ 2 ^ p
-  room = omega (arith, pow_mono fit, pow-add 2 M M)
 
   module _ {e : ℕ} {S t tau : Whole} {xs : List Whole} (C : Closed p M n e S t tau xs) where
     under : Under tau (2 ^ p * 2 ^ (M + e - p))
@@ -100,7 +98,7 @@ module _ (p M n : ℕ) (two : 2 ≤ M) (fit : M + M < p) (few : n + 2 ≤ 2 ^ M)
     finish_large : p ≤ M + e → enough p M e ≤ mag (fl p (t ⊕ tau)) → Faithful p (answer p t tau xs) S
     finish_large l h =
         faithful_same (t ⊕ tau ⊕ total xs) S C.sum
-        (finish p P (2 ^ M) (M + e - p) n few many room (t ⊕ tau) (tau2 p t tau) tau2_exact
+        (finish p P (2 ^ M) (M + e - p) n few many (room p M n two fit few) (t ⊕ tau) (tau2 p t tau) tau2_exact
         (summed_near p P xs (M + e - p) n (left_small l) C.count short) h)
       where
         many : 3 ≤ 2 ^ M
@@ -127,7 +125,7 @@ module _ (p M n : ℕ) (two : 2 ≤ M) (fit : M + M < p) (few : n + 2 ≤ 2 ^ M)
         top = record { exp = M + e - p; on = record { count = nat (2 ^ p); is = omega arith }; small = omega arith }
 
         short : enough p M e ≤ B
-        short = omega (arith, mul-le-mul_right (2 ^ (M + e - p)) room)
+        short = omega (arith, mul-le-mul_right (2 ^ (M + e - p)) (room p M n two fit few))
 
         upper : z.up ≤ z.dn + B
         upper = elim (le_or_lt z.up (z.dn + B)) [ inl m ↦ m | inr m ↦ omega (arith, short, fl_above p P z top (omega arith)) ]

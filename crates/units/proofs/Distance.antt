@@ -7,6 +7,7 @@ use Rattle.units.specs.Rounding.{fl, Representable}
 use Rattle.units.proofs.Powers.{le_or_lt}
 use Rattle.units.proofs.Multiples.{multiple_add, multiple_sub, multiple_finer, multiple_gap}
 use Rattle.units.proofs.SignedRounding.{fl_best, fl_multiple}
+use Rattle.units.proofs.Shared.{shared}
 
 -- two numbers of p bits that differ do so by the part 1 / (2 ^ p + 1) of either, or more
 pub gap : {p : ℕ} {f h : Whole} (d : ℕ) → Representable p f → Representable p h → h ≺ f → f ≼ h ⊕ nat d → Within f (suc (2 ^ p) * d)
@@ -17,14 +18,6 @@ gap {p} {f} {h} d F H l u = elim (le_or_lt F.exp H.exp) [
   where
     step : (j : ℕ) → Multiple j (f ⊖ h) → 2 ^ j ≤ d
     step j o = omega (arith, multiple_gap o (omega arith))
-
--- z is a multiple of all that a and b are multiples of, and no larger than either: so it has p bits where a and b have
-shared : {p : ℕ} {a b : Whole} (z : Whole) → Representable p a → Representable p b → ((j : ℕ) → Multiple j a → Multiple j b → Multiple j z)
-    → Within z (mag a) → Within z (mag b) → Representable p z
-shared z A B on x y = elim (le_or_lt A.exp B.exp) [
-  | inl l ↦ record { exp = A.exp; on = on A.exp A.on (multiple_finer l B.on); small = omega (arith, A.small) }
-  | inr l ↦ record { exp = B.exp; on = on B.exp (multiple_finer (le_of_lt l) A.on) B.on; small = omega (arith, B.small) }
-]
 
 -- Sterbenz: a difference that is no larger than either number is exact
 pub sterbenz : {p : ℕ} {a b : Whole} → Representable p a → Representable p b → Within (a ⊖ b) (mag a) → Within (a ⊖ b) (mag b) → Representable p (a ⊖ b)

@@ -1,10 +1,17 @@
 -- The crate's theorems and lemmas.
 pub mod AnyOrder
+pub mod Budget
 pub mod Ceiling
+pub mod CeilingLaws
+pub mod Closest
+pub mod ClosestEven
 pub mod Closing
+pub mod CoarseRounding
 pub mod Distance
 pub mod ExactSum
+pub mod ExactTwoSum
 pub mod Extraction
+pub mod FaithfulDistance
 pub mod FaithfulLaws
 pub mod Finish
 pub mod Integers
@@ -13,13 +20,17 @@ pub mod NaturalRounding
 pub mod Powers
 pub mod Products
 pub mod RemainderSum
+pub mod Room
 pub mod ScaledSums
 pub mod Scaling
+pub mod Shared
 pub mod SignedRounding
 pub mod Split
+pub mod SplitProducts
 pub mod Threshold
 pub mod Ties
 pub mod Turns
 pub mod TwoProduct
 pub mod TwoSum
 pub mod WalkLaws
+pub mod WalkRounds

@@ -1,39 +1,19 @@
 -- What rounding a natural number to p bits does: the result has p bits and no number of p bits is nearer, so a number of p bits stays as it is and a
 -- larger number rounds to no smaller one; how far off the result is, and which of its digits are zero. Assumes nothing.
-use Rattle.std.specs.Prelude.{◌≡◌, ◌⊎◌, not, T}
+use Rattle.std.specs.Prelude.{◌≡◌, ◌⊎◌}
 use Rattle.std.proofs.Math.Path.{refl}
-use Rattle.std.proofs.Common.{sym, ap, ◌∙◌, inl, inr, le_of_eq, eq-or-lt_of_le, eq-zero-or-pos, mul-le-mul_left, mul-le-mul_right, div-add-mod', mod-lt}
-use Rattle.std.proofs.Common.{mul_assoc, leb→le, eqb→eq, pow-add, pow_pos, pow_mono}
-use Prim.Native.Nat.{ℕ, suc, ◌+◌, ◌-◌, ◌*◌, ◌/◌, ◌%◌, ◌^◌, ◌≤◌, ◌<◌, compare, Ordering}
+use Rattle.std.proofs.Common.{sym, ap, ◌∙◌, inl, inr, le_of_eq, eq-or-lt_of_le, eq-zero-or-pos, mul-le-mul_left, mul-le-mul_right}
+use Rattle.std.proofs.Common.{mul_assoc, pow-add, pow_pos, pow_mono}
+use Prim.Native.Nat.{ℕ, suc, ◌+◌, ◌-◌, ◌*◌, ◌^◌, ◌≤◌, ◌<◌}
 use Rattle.std.proofs.Math.Nat.{lt_of_lt_of_le}
 use native.Mathlib.Omega.{arith}
-use Rattle.std.proofs.Math.Dec.{is_le, compare_is_eq, nleb→lt, eqb_refl}
-use Rattle.std.proofs.Math.Arith.{lt_of_le-ne}
-use Rattle.std.specs.Float.Ieee.{size, nearest}
+use Rattle.std.specs.Float.Ieee.{size}
 use Rattle.std.specs.Float.Ieee.Digits.{size-lt, size-le, size_reaches}
 use Rattle.std.specs.Float.Ieee.Nearest.{closest}
 use Rattle.units.specs.Rounding.{dropped, rnd, Short}
 use Rattle.units.proofs.Powers.{le_or_lt, pow_split, pow_pred, twice_le, cover}
-use Rattle.units.specs.NaturalRounding.{Off, Compared}
-
-pub compared : (a b : ℕ) → Compared (compare a b) a b
-compared a b = go (compare a b) (leb→le a b) (nleb→lt a b) (eqb→eq a b) (λ (e : a ≡ b). rw e (eqb_refl b))
-  where
-    go : (o : Ordering) → (T (is_le o) → a ≤ b) → (T (not (is_le o)) → b < a) → (T (compare_is_eq o) → a ≡ b) → (a ≡ b → T (compare_is_eq o)) → Compared o a b
-    go Ordering.lt h k e n = lt_of_le-ne (h tt) n
-    go Ordering.eq h k e n = e tt
-    go Ordering.gt h k e n = k tt
-
-pub closest_half : (a b : ℕ) → 0 < b → Off b (2 * (closest a b * b)) (2 * a)
-closest_half a b B = go (compare (a % b * 2) b) (compared (a % b * 2) b)
-  where
-    low_bit : (q : ℕ) → q % 2 ≤ 1
-    low_bit q = omega arith
-
-    go : (o : Ordering) → Compared o (a % b * 2) b → Off b (2 * (nearest (a / b) o * b)) (2 * a)
-    go Ordering.lt h = omega (arith, div-add-mod' a b)
-    go Ordering.eq h = omega (arith, div-add-mod' a b, mul-le-mul_right b (low_bit (a / b)))
-    go Ordering.gt h = omega (arith, div-add-mod' a b, mod-lt a B)
+use Rattle.units.specs.NaturalRounding.{Off}
+use Rattle.units.proofs.Closest.{closest_half}
 
 closest_best : (a b m c : ℕ) → 0 < b → Off c (m * b) a → Off c (closest a b * b) a
 closest_best a b m c B h = go (closest a b) (closest_half a b B) (le_or_lt m (closest a b))
@@ -110,7 +90,7 @@ module _ (p n : ℕ) where
   rnd_short = record { exp = dropped p n; sig = closest n (2 ^ dropped p n); is = rnd_is; small = rnd_kept }
 
   -- the result is a multiple of each power of two up to its last place
-  finer : (j : ℕ) → j ≤ dropped p n → (w : ℕ) × (rnd p n ≡ w * 2 ^ j)
+  pub finer : (j : ℕ) → j ≤ dropped p n → (w : ℕ) × (rnd p n ≡ w * 2 ^ j)
   finer j l = (q * 2 ^ (dropped p n - j), rnd_is ∙ sym (mul_assoc q (2 ^ (dropped p n - j)) (2 ^ j) ∙ ap (λ (x : ℕ). q * x) (pow_split l)))
     where
       q : ℕ
@@ -192,6 +172,3 @@ module _ (p : ℕ) (P : 0 < p) where
       same l =
           let h : Off 0 (rnd p n) n = rnd_grid p n (m * 2 ^ (j - k)) 0 (rw (mul_assoc m (2 ^ (j - k)) (2 ^ k), pow_split l, ← e) (omega arith)) in
           omega arith
-
-  pub rnd_coarse : (n j : ℕ) → 2 ^ p * 2 ^ j ≤ 2 * n → (w : ℕ) × (rnd p n ≡ w * 2 ^ j)
-  rnd_coarse n j h = finer p n j (dropped_ge p n h)

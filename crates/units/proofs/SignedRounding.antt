@@ -11,6 +11,7 @@ use Rattle.units.specs.Rounding.{rnd, fl, Short, Representable}
 use Rattle.units.proofs.Powers.{le_or_lt}
 use Rattle.units.proofs.Multiples.{multiple_neg, multiple_same, multiple_one, multiple_pow}
 use Rattle.units.proofs.NaturalRounding as N
+use Rattle.units.proofs.CoarseRounding.{rnd_coarse}
 
 -- ---- numbers of p bits
 
@@ -163,8 +164,8 @@ module _ (p : ℕ) (P : 0 < p) where
   fl_coarse z j h = go (side z)
     where
       go : Side z → Multiple j (fl p z)
-      go (plus n e u d) = let w = N.rnd_coarse p P n j (omega arith) in record { count = nat w.0; is = omega (arith, w.1) }
-      go (minus n e u d) = let w = N.rnd_coarse p P n j (omega arith) in record { count = neg (nat w.0); is = omega (arith, w.1) }
+      go (plus n e u d) = let w = rnd_coarse p P n j (omega arith) in record { count = nat w.0; is = omega (arith, w.1) }
+      go (minus n e u d) = let w = rnd_coarse p P n j (omega arith) in record { count = neg (nat w.0); is = omega (arith, w.1) }
 
   -- zero only from zero
   pub fl_zero : (z : Whole) → fl p z ≈ nat 0 → z ≈ nat 0

@@ -5,7 +5,8 @@ use Rattle.std.proofs.Math.Nat.{eq_of_mul-eq-mul_right, pow-succ'}
 use Rattle.units.specs.Rounding.{dropped, rnd, Short}
 use Rattle.units.proofs.Powers.{le_or_lt, pow_pred}
 use Rattle.units.specs.NaturalRounding.{Off}
-use Rattle.units.proofs.NaturalRounding.{dropped_le, dropped_ge, best, above, half, rnd_coarse}
+use Rattle.units.proofs.NaturalRounding.{dropped_le, dropped_ge, best, above, half}
+use Rattle.units.proofs.CoarseRounding.{rnd_coarse}
 use Rattle.units.proofs.Ties.{rnd_tie}
 
 module _ (p : ℕ) (P : 0 < p) (h : ℕ) where

@@ -1,33 +1,18 @@
 -- At a tie the significand is even: where another number of p bits is as near, the rounding is a multiple of twice the number's last place. Assumes nothing.
 use Rattle.std.specs.Prelude.{◌≡◌, ◌⊎◌}
-use Rattle.std.proofs.Common.{ap, sym, ◌∙◌, inl, inr, mul-le-mul_right, div-add-mod', mod-lt, mul_assoc, arith, pow_pos}
-use Prim.Native.Nat.{ℕ, suc, ◌+◌, ◌-◌, ◌*◌, ◌/◌, ◌%◌, ◌^◌, ◌≤◌, ◌<◌, compare, Ordering}
+use Rattle.std.proofs.Common.{ap, sym, ◌∙◌, inl, inr, mul-le-mul_right, mul_assoc, arith, pow_pos}
+use Prim.Native.Nat.{ℕ, suc, ◌+◌, ◌-◌, ◌*◌, ◌^◌, ◌≤◌, ◌<◌}
 use Rattle.std.proofs.Math.Nat.{pow-succ'}
-use Rattle.std.specs.Float.Ieee.{nearest}
 use Rattle.std.specs.Float.Ieee.Nearest.{closest}
 use Rattle.units.specs.Whole.{Whole, nat, ◌⊕◌, ◌⊖◌, neg, ◌⊗◌, ◌≈◌, mag, Multiple}
 use Rattle.units.specs.Rounding.{dropped, rnd, fl, Short, Representable}
 use Rattle.units.proofs.Powers.{le_or_lt, pow_split, pow_pred}
 use Rattle.units.proofs.Multiples.{multiple_neg, multiple_same}
 use Rattle.units.proofs.NaturalRounding as N
-use Rattle.units.specs.NaturalRounding.{Off, Compared}
-use Rattle.units.proofs.NaturalRounding.{compared, rnd_is}
+use Rattle.units.specs.NaturalRounding.{Off}
+use Rattle.units.proofs.NaturalRounding.{rnd_is}
 use Rattle.units.proofs.SignedRounding.{rep_neg, rep_short, Side, plus, minus, side}
-
--- half-way between two multiples of b, the even one is taken
-closest_even : (a b : ℕ) → 0 < b → (2 * (closest a b * b) + b ≤ 2 * a) ⊎ (2 * a + b ≤ 2 * (closest a b * b)) → (v : ℕ) × (closest a b ≡ 2 * v)
-closest_even a b B h = go (compare (a % b * 2) b) (compared (a % b * 2) b) h
-  where
-    even : (q : ℕ) → q + q % 2 ≡ 2 * ((q + 1) / 2)
-    even q = omega arith
-
-    go : (o : Ordering) → Compared o (a % b * 2) b → (2 * (nearest (a / b) o * b) + b ≤ 2 * a) ⊎ (2 * a + b ≤ 2 * (nearest (a / b) o * b))
-        → (v : ℕ) × (nearest (a / b) o ≡ 2 * v)
-    go Ordering.lt c (inl t) = absurd (omega (arith, div-add-mod' a b))
-    go Ordering.lt c (inr t) = absurd (omega (arith, div-add-mod' a b))
-    go Ordering.eq c t = ((a / b + 1) / 2, even (a / b))
-    go Ordering.gt c (inl t) = absurd (omega (arith, div-add-mod' a b, mod-lt a B))
-    go Ordering.gt c (inr t) = absurd (omega (arith, div-add-mod' a b, mod-lt a B))
+use Rattle.units.proofs.ClosestEven.{closest_even}
 
 module _ (p : ℕ) (P : 0 < p) where
   -- a number of p bits that is as near as the rounding is a multiple of the last place too

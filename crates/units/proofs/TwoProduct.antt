@@ -2,7 +2,7 @@
 -- Document 000's Algorithm 1.1, for every p and s from half of p to one more. Each step is a multiple of 2 ^ j of at most 2 ^ (p + j). Assumes nothing.
 use Rattle.std.specs.Prelude.{◌≡◌, ℕ, ◌+◌, ◌-◌, ◌*◌, ◌^◌, ◌≤◌, ◌<◌}
 use Rattle.std.proofs.Math.Path.{ap}
-use Rattle.std.proofs.Common.{◌∙◌, le_of_lt, mul-le-mul_left, mul-le-mul_right, mul-lt-mul_of_pos_right, mul-pos, arith, pow-add, pow_pos, pow_mono}
+use Rattle.std.proofs.Common.{◌∙◌, le_of_lt, mul-le-mul_right, mul-lt-mul_of_pos_right, mul-pos, arith, pow-add, pow_pos, pow_mono}
 use Rattle.std.proofs.Math.Logic.{inl, inr}
 use Rattle.std.proofs.Math.Nat.{mul-le-mul}
 use Rattle.units.specs.Whole.{Whole, nat, ◌⊕◌, ◌⊖◌, neg, ◌⊗◌, ◌⊙◌, ◌≈◌, mag, Within, Under, Multiple}
@@ -14,6 +14,7 @@ use Rattle.units.proofs.SignedRounding.{rep_same, fl_neg, fl_exact, fl_half, fl_
 use Rattle.units.proofs.Products.{times_same, times_plus, plus_times, times_multiple, times_mag, times_within}
 use Rattle.units.specs.Split.{LastPlace, Halves}
 use Rattle.units.specs.TwoProduct.{product_error}
+use Rattle.units.proofs.SplitProducts.{upper_upper_on, lower_lower_small, upper_upper, lower_lower}
 
 -- ---- bounds of products, by factors
 module _ (a b : Whole) (c d : ℕ) where
@@ -22,9 +23,6 @@ module _ (a b : Whole) (c d : ℕ) where
 
   within_left : Within (2 ⊗ a) c → mag b ≤ d → Within (2 ⊗ (a ⊙ b)) (c * d)
   within_left h k = let l : 2 * mag a * mag b ≤ c * d = mul-le-mul (omega arith) k in omega (arith, times_mag a b)
-
-  within_both : Within (2 ⊗ a) c → Within (2 ⊗ b) d → Within (4 ⊗ (a ⊙ b)) (c * d)
-  within_both h k = let l : 2 * mag a * (2 * mag b) ≤ c * d = mul-le-mul (omega arith) (omega arith) in omega (arith, times_mag a b)
 
   under_left : 0 < c → Within (2 ⊗ a) c → mag b < d → Under (2 ⊗ (a ⊙ b)) (c * d)
   under_left c⁺ h k =
@@ -82,9 +80,6 @@ module _ (p s i j : ℕ) (least : p ≤ s + s) (most : s + s ≤ p + 2) (l : s <
   s_place : 2 ^ (s + (i + j)) ≡ 2 ^ s * (2 ^ i * 2 ^ j)
   s_place = pow-add 2 s (i + j) ∙ ap (λ (x : ℕ). 2 ^ s * x) (pow-add 2 i j)
 
-  upper_upper_on : Multiple (s + s + (i + j)) (a₁ ⊙ b₁)
-  upper_upper_on = multiple_finer (omega arith) (times_multiple HA.upper_on HB.upper_on)
-
   upper_lower_on : Multiple (s + (i + j)) (a₁ ⊙ b₂)
   upper_lower_on = multiple_finer (omega arith) (times_multiple HA.upper_on HB.lower_on)
 
@@ -97,34 +92,11 @@ module _ (p s i j : ℕ) (least : p ≤ s + s) (most : s + s ≤ p + 2) (l : s <
   lower_upper_small : Within (2 ⊗ (a₂ ⊙ b₁)) (2 ^ p * (2 ^ s * (2 ^ i * 2 ^ j)))
   lower_upper_small = omega (arith, within_left a₂ b₁ (2 ^ s * 2 ^ i) (2 ^ p * 2 ^ j) HA.lower_small (omega (arith, HB.upper_small)))
 
-  lower_lower_small : Within (4 ⊗ (a₂ ⊙ b₂)) (2 ^ s * 2 ^ s * (2 ^ i * 2 ^ j))
-  lower_lower_small = omega (arith, within_both a₂ b₂ (2 ^ s * 2 ^ i) (2 ^ s * 2 ^ j) HA.lower_small HB.lower_small)
-
-  upper_upper : Representable p (a₁ ⊙ b₁)
-  upper_upper = record {
-    exp = s + s + (i + j);
-    on = upper_upper_on;
-    small = omega (arith, times_within a₁ b₁ (2 ^ p * 2 ^ i) (2 ^ p * 2 ^ j) HA.upper_small HB.upper_small, mul-le-mul_left (2 ^ p) room);
-  }
-    where
-      room : 2 ^ p * (2 ^ i * 2 ^ j) ≤ 2 ^ (s + s + (i + j))
-      room = rw (pow-add 2 (s + s) (i + j), pow-add 2 i j) (mul-le-mul_right (2 ^ i * 2 ^ j) (pow_mono {i = p} {j = s + s} (omega arith)))
-
   upper_lower : Representable p (a₁ ⊙ b₂)
   upper_lower = record { exp = s + (i + j); on = upper_lower_on; small = rw s_place (omega (arith, upper_lower_small)) }
 
   lower_upper : Representable p (a₂ ⊙ b₁)
   lower_upper = record { exp = s + (i + j); on = lower_upper_on; small = rw s_place (omega (arith, lower_upper_small)) }
-
-  lower_lower : Representable p (a₂ ⊙ b₂)
-  lower_lower = record {
-    exp = i + j;
-    on = times_multiple HA.lower_on HB.lower_on;
-    small = rw (pow-add 2 i j) (omega (arith, lower_lower_small, mul-le-mul_right (2 ^ i * 2 ^ j) room));
-  }
-    where
-      room : 2 ^ s * 2 ^ s ≤ 2 ^ p * 2 ^ 2
-      room = rw (← (pow-add 2 s s), ← (pow-add 2 p 2)) (pow_mono {i = s + s} {j = p + 2} (omega arith))
 
   -- ---- the differences
   one_place : 1 * (2 ^ p * (2 ^ i * 2 ^ j)) ≤ 2 ^ s * (2 ^ p * (2 ^ i * 2 ^ j))
@@ -134,7 +106,7 @@ module _ (p s i j : ℕ) (least : p ≤ s + s) (most : s + s ≤ p + 2) (l : s <
   fewer = mul-le-mul_right (2 ^ s * (2 ^ i * 2 ^ j)) (pow_mono (le_of_lt l))
 
   first_on : Multiple (p - 1 + (i + j)) (X ⊖ a₁ ⊙ b₁)
-  first_on = multiple_sub X_on (multiple_finer (omega arith) upper_upper_on)
+  first_on = multiple_sub X_on (multiple_finer (omega arith) (upper_upper_on p s i j least most l LA LB HA HB))
 
   first : Representable p (X ⊖ a₁ ⊙ b₁)
   first = record {
@@ -182,7 +154,7 @@ module _ (p s i j : ℕ) (least : p ≤ s + s) (most : s + s ≤ p + 2) (l : s <
   third = record {
     exp = s + (i + j);
     on = third_on;
-    small = rw s_place (omega (arith, X_near, by_upper, upper_parts, lower_parts, lower_lower_small, one_place, fewer));
+    small = rw s_place (omega (arith, X_near, by_upper, upper_parts, lower_parts, (lower_lower_small p s i j least most l LA LB HA HB), one_place, fewer));
   }
 
   error : Representable p (A ⊙ B ⊖ X)
@@ -205,7 +177,7 @@ module _ (p s i j : ℕ) (least : p ≤ s + s) (most : s + s ≤ p + 2) (l : s <
       let d₁ : Whole = fl p (X ⊖ fl p (a₁ ⊙ b₁)) in
       let d₂ : Whole = fl p (d₁ ⊖ fl p (a₂ ⊙ b₁)) in
       let d₃ : Whole = fl p (d₂ ⊖ fl p (a₁ ⊙ b₂)) in
-      let e₁ : d₁ ≈ r₁ = exactly (X ⊖ fl p (a₁ ⊙ b₁)) r₁ (omega (arith, fl_exact p P upper_upper)) first in
+      let e₁ : d₁ ≈ r₁ = exactly (X ⊖ fl p (a₁ ⊙ b₁)) r₁ (omega (arith, fl_exact p P (upper_upper p s i j least most l LA LB HA HB))) first in
       let e₂ : d₂ ≈ r₂ = exactly (d₁ ⊖ fl p (a₂ ⊙ b₁)) r₂ (omega (arith, fl_exact p P lower_upper)) second in
       let e₃ : d₃ ≈ r₃ = exactly (d₂ ⊖ fl p (a₁ ⊙ b₂)) r₃ (omega (arith, fl_exact p P upper_lower)) third in
-      exactly (fl p (a₂ ⊙ b₂) ⊖ d₃) (A ⊙ B ⊖ X) (omega (arith, fl_exact p P lower_lower, by_upper, upper_parts, lower_parts)) error
+      exactly (fl p (a₂ ⊙ b₂) ⊖ d₃) (A ⊙ B ⊖ X) (omega (arith, fl_exact p P (lower_lower p s i j least most l LA LB HA HB), by_upper, upper_parts, lower_parts)) error

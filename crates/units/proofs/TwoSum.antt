@@ -9,7 +9,7 @@ use Rattle.units.specs.Rounding.{fl, Representable}
 use Rattle.units.proofs.Powers.{le_or_lt}
 use Rattle.units.proofs.Multiples.{multiple_add, multiple_sub, multiple_one, multiple_gap}
 use Rattle.units.proofs.SignedRounding.{rep_neg, rep_same, fl_exact, fl_below, fl_above, fl_rep, fl_half, fl_multiple}
-use Rattle.units.proofs.Distance.{sterbenz, error_rep}
+use Rattle.units.proofs.Distance.{sterbenz}
 
 module _ (p : ℕ) (P : 0 < p) where
   -- 2 a has p bits, and so has half of a unless a is small
@@ -93,9 +93,3 @@ module _ (p : ℕ) (P : 0 < p) where
 
         near : mag a ≤ 2 ^ p * 2 ^ j → Within (2 ⊗ (fl p (a ⊕ b) ⊖ (a ⊕ b))) (2 * 2 ^ j)
         near l = rw (pow-succ' 2 j) at (fl_half p P (a ⊕ b) (suc j) (rw (pow-succ' 2 j) (omega arith)))
-
-    -- q and y are exact, so x + y is a + b
-    pub two_sum : fl p (b ⊖ fl p (fl p (a ⊕ b) ⊖ a)) ≈ a ⊕ b ⊖ fl p (a ⊕ b)
-    two_sum =
-        let q = fl_exact p P two_sum_difference in
-        omega (arith, q, fl_exact p P (rep_same {b = b ⊖ fl p (fl p (a ⊕ b) ⊖ a)} (omega (arith, q)) (error_rep p P A B)))

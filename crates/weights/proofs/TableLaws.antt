@@ -17,7 +17,7 @@ use Rattle.kinds.specs.declared.Verdict.TheVariants as verdicts
 use Rattle.judge.specs.Judge.{first_fault, judged}
 use Rattle.judge.specs.Table.{Allowed}
 use Rattle.judge.proofs.FirstFaultLaws as faults
-use Rattle.judge.proofs.JudgeLaws.{judged_1, judged_4, judged_passed}
+use Rattle.judge.proofs.JudgeCases.{judged_1, judged_4, judged_passed}
 use Rattle.weights.specs.Weights.{grains, pattern_for, total, staying, handed, bad_weight}
 use Rattle.weights.specs.Weights.{weights_of, weighed, and_then, verdict_of, handed_after, handed_of, handed_heard}
 use Rattle.weights.specs.Table.{Weighed, Fitting, WeightList, Accepted, HandedWhen}

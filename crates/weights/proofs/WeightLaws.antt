@@ -18,7 +18,7 @@ use Rattle.units.specs.Rounding.{Short}
 use Rattle.units.proofs.Powers.{pow_split}
 use Rattle.ieee.specs.Units.{Is, Number, negative, magnitude, signed, value, sign_of, nearest_float, pattern_units}
 use Rattle.ieee.proofs.Finite.{is_units, is_finite, facts, finite_no_nan, same_float}
-use Rattle.ieee.proofs.Rounded.{round_exact}
+use Rattle.ieee.proofs.RoundExact.{round_exact}
 use Rattle.ieee.proofs.Overflow.{nearest_round, nearest_fits}
 use Rattle.ieee.proofs.Pattern.{pattern_is, pattern_positive, pattern_finite, pattern_le}
 use Rattle.ieee.proofs.Exponent.{power_pattern}

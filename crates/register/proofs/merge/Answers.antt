@@ -1,6 +1,7 @@
 -- `register::merge` meets its contract: past the test of the lengths there are three registers. Assumes nothing.
 use mathlib.Core.Path.{sym}
-use Rattle.register.proofs.MergeLaws.{right_lengths_lem, merged_wrong}
+use Rattle.register.proofs.MergeLaws.{merged_wrong}
+use Rattle.register.proofs.ThreeLengths.{right_lengths_lem}
 use Rattle.register.proofs.merge.Goals as goal
 
 pub merged-requires : goal.merged-requires

@@ -9,7 +9,7 @@ use Rattle.kinds.specs.Limits.{singles}
 use Rattle.judge.specs.Judge.{first_fault, judged}
 use Rattle.judge.specs.FaultLaws.{proper_singles}
 use Rattle.judge.specs.GreatestLaws.{greatest_good}
-use Rattle.judge.proofs.JudgeLaws.{judged_1, judged_4, judged_5, judged_passed}
+use Rattle.judge.proofs.JudgeCases.{judged_1, judged_4, judged_5, judged_passed}
 use Rattle.single_judge.proofs.measure.Goals as goal
 
 is_so : {b : Bool} → b ≡ true → T b

@@ -8,7 +8,7 @@ use lib.Dec.{T}
 use lib.Ieee.{binary32, top, to_bits}
 use Rattle.ieee.specs.Units.{Number, negative}
 use Rattle.ieee.proofs.Finite.{finite_no_nan}
-use Rattle.ieee.proofs.Pattern.{bits_units}
+use Rattle.ieee.proofs.PatternBounds.{bits_units}
 use Rattle.exponent.proofs.PowerLaws.{power_number}
 use Rattle.sound.specs.SigmaLaws.{power_from, negative_power}
 use Rattle.single_sound.proofs.numbers.power_from.Goals as goal

@@ -8,7 +8,7 @@ use lib.Ieee.{binary32, top, to_bits}
 use Rattle.ieee.specs.Units.{Number, negative, magnitude}
 use Rattle.ieee.proofs.Finite.{finite_no_nan}
 use Rattle.ieee.proofs.Fractions.{same_test}
-use Rattle.ieee.proofs.Pattern.{bits_units}
+use Rattle.ieee.proofs.PatternBounds.{bits_units}
 use Rattle.kinds.specs.Limits.{singles}
 use Rattle.sound.specs.Sound.{at_most}
 use Rattle.sound.proofs.SoundLaws.{at_most_holds}
