@@ -10,7 +10,7 @@ use words::WORDS;
 
 mod entries;
 mod faithful;
-mod nearest;
+mod nearest_sum;
 
 // rule C5
 const BYTES: usize = SIZE * WORDS;
@@ -45,12 +45,12 @@ pub extern "C" fn kewohiata_nearest(list: &[u8], out: &mut [u8]) -> u32
     }
     let n = list.len() / SIZE;
     if n <= 64 {
-        return nearest::short(list, out);
+        return nearest_sum::short(list, out);
     }
     if n <= 512 {
-        return nearest::middle(list, out);
+        return nearest_sum::middle(list, out);
     }
-    nearest::long(list, out)
+    nearest_sum::long(list, out)
 }
 
 // Adds one number to a register, as `register::add` does.

@@ -271,36 +271,3 @@ pub in_parts_minus : parts_arrays (0x8000000000000000 ∷ []) (one ∷ one ∷ [
     ≡ returned 0 (of_bits binary64 0x8000000000000000 ∷ of_bits binary64 0 ∷ []) (1 ∷ [])
 unfolding parts_arrays judged first_fault fault_of zero_sign every S.parts_after S.parts nearest_float value of_bits to_bits
 in_parts_minus = refl
-
--- ---- rule C10, another length of the array of values: 1 before it, 5 behind it, on a sheet all else before it
-pub too_many_first : nearest_arrays (replicate 4095 0) [] ≡ outcome 1 []
-unfolding nearest_with
-too_many_first = refl
-
-pub four_before_five : parts_arrays [] [] [] ≡ returned 4 [] []
-unfolding parts_arrays
-four_before_five = refl
-
-pub four_for_ten : step_arrays [] [] 7 0 ≡ returned 4 [] []
-unfolding step_with
-four_for_ten = refl
-
-pub sheet_first : read_arrays [] [] [] ≡ returned 11 [] []
-unfolding read_arrays read_of eights number
-sheet_first = refl
-
-pub four_last : read_arrays (1 ∷ 0 ∷ 0 ∷ 0 ∷ 0 ∷ []) [] [] ≡ returned 4 [] []
-unfolding read_arrays read_of eights number
-four_last = refl
-
-pub four_without_values : write_arrays [] (replicate 5 7) [] ≡ returned 4 (replicate 5 7) []
-unfolding write_arrays
-four_without_values = refl
-
-pub too_many_to_write : write_arrays (replicate 4095 0) [] [] ≡ returned 1 [] []
-unfolding write_arrays
-too_many_to_write = refl
-
-pub four_for_report : rescue_arrays (1 ∷ replicate 4 0) (replicate 5 7) [] (replicate 3 7) ≡ rescue_returned 4 (replicate 5 7) [] (replicate 3 7)
-unfolding rescue_arrays number
-four_for_report = refl

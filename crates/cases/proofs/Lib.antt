@@ -6,4 +6,5 @@ pub mod Holds
 pub mod Lanes
 pub mod LanesFromC
 pub mod Orders
+pub mod OtherLengths
 pub mod Singles

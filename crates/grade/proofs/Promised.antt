@@ -83,8 +83,10 @@ zeros_graded ps = by (judged doubles true true ps) refl
         → Number doubles.format (of_bits doubles.format b) × (magnitude doubles.format (of_bits doubles.format b) ≡ 0)
     none b z =
         let f = doubles.format in
-        let h : b % top f < ones f * hid f = rw z (lit< tt) in
-        (pattern_number f b h, (is_units f (of_bits f b) (leb (top f) b) (pattern_units f (b % top f)) (pattern_is f b h)).1 ∙ ap (pattern_units f) z ∙ no_units f)
+        let h : b % top f < ones f * hid f = rw z (lit< tt) in (
+          pattern_number f b h,
+          (is_units f (of_bits f b) (leb (top f) b) (pattern_units f (b % top f)) (pattern_is f b h)).1 ∙ ap (pattern_units f) z ∙ no_units f,
+        )
 
     by : (v : Verdict) → judged doubles true true ps ≡ v → grade_of doubles ps (top doubles.format) ≡ grade_of doubles ps 0
     by verdicts.Good e =

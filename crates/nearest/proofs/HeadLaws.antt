@@ -47,7 +47,8 @@ module _ (ds : List ℕ) (n : ℕ) (D : Digits word_bits ds) (U : Used word_bits
   head_two h y e =
       rw (below_some word_bits ds n D U h, leading_digits word_bits ds n D U h, leading_rest word_bits ds n D U h, ← e)
       (ap (λ (r : Bool). record { digits = a * 2 ^ (word_bits - y) + b / 2 ^ y; below = word_bits * (n - 2) + y; rest = r })
-      (cut_some (rw e (size-le a word_bits (D.below (n - 1)))) b (number word_bits (take (n - 2) ds)) (2 ^ (word_bits * (n - 2))) (pow_pos (word_bits * (n - 2)))))
+      (cut_some (rw e (size-le a word_bits (D.below (n - 1)))) b (number word_bits (take (n - 2) ds)) (2 ^ (word_bits * (n - 2)))
+      (pow_pos (word_bits * (n - 2)))))
     where
       a : ℕ
       a = slice_index ds (n - 1)

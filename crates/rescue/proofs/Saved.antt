@@ -65,7 +65,8 @@ module _ (W : Width) (bytes sheet marks : List ℕ) {r : Report} {out ms : List 
 
   pub sheet_stays : length out ≡ length sheet
   sheet_stays =
-      ap (λ (x : Rescuing). length x.sheet) (full W bytes sheet marks e) ∙ length_front (sheet_of kept) sheet (5 + 8 * length kept) (sheet_length kept) (was_given W bytes sheet marks e).2
+      ap (λ (x : Rescuing). length x.sheet) (full W bytes sheet marks e)
+      ∙ length_front (sheet_of kept) sheet (5 + 8 * length kept) (sheet_length kept) (was_given W bytes sheet marks e).2
 
   -- ---- rule H9, and rule H11 for the marks
   many : length (map (mark_of W) entries) ≡ r.taken
@@ -76,11 +77,13 @@ module _ (W : Width) (bytes sheet marks : List ℕ) {r : Report} {out ms : List 
 
   pub marks_behind : drop r.taken ms ≡ drop r.taken marks
   marks_behind =
-      ap (λ (x : Rescuing). drop r.taken x.marks) (full W bytes sheet marks e) ∙ drop_at (map (mark_of W) entries) _ r.taken many ∙ ap (λ (n : ℕ). drop n marks) (sym taken_is)
+      ap (λ (x : Rescuing). drop r.taken x.marks) (full W bytes sheet marks e) ∙ drop_at (map (mark_of W) entries) _ r.taken many
+      ∙ ap (λ (n : ℕ). drop n marks) (sym taken_is)
 
   pub marks_stay : length ms ≡ length marks
   marks_stay =
-      ap (λ (x : Rescuing). length x.marks) (full W bytes sheet marks e) ∙ length_front (map (mark_of W) entries) marks (taken_of bytes) (many ∙ taken_is) (was_given W bytes sheet marks e).3
+      ap (λ (x : Rescuing). length x.marks) (full W bytes sheet marks e)
+      ∙ length_front (map (mark_of W) entries) marks (taken_of bytes) (many ∙ taken_is) (was_given W bytes sheet marks e).3
 
   -- the kept entries are those that are marked 0, in their order
   pub kept_by_marks : kept_of W (entries_of bytes) ≡ marked_kept (take r.taken ms) (entries_of bytes)

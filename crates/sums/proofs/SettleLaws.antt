@@ -23,7 +23,14 @@ module _ (xs : List ℕ) (i : ℕ) (h : 2 * i + 1 < length xs) where
   pair_next =
       let e : 2 * (i + 1) ≡ suc (suc (2 * i)) = omega arith in
       let f : suc (2 * i) ≡ 2 * i + 1 = omega arith in
-      rw (e, number_next lane_bits xs {i = suc (2 * i)} (omega arith), number_next lane_bits xs {i = 2 * i} (omega arith), weight_next lane_bits (2 * i), same, f)
+      rw (
+        e,
+        number_next lane_bits xs {i = suc (2 * i)} (omega arith),
+        number_next lane_bits xs {i = 2 * i} (omega arith),
+        weight_next lane_bits (2 * i),
+        same,
+        f,
+      )
       (omega arith)
 
 -- one word more, with the weight W of its place: T, Z and A before it, P and M what is carried there, and what the two lanes of either side hold

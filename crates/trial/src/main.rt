@@ -3,7 +3,7 @@
 
 use kinds::Doubles;
 
-mod lists;
+mod drawn;
 mod text;
 mod ways;
 
@@ -11,13 +11,13 @@ mod ways;
 fn length(list: &mut [u64], work: &mut [f64], n: usize) {
     if n <= list.len() {
         if n <= work.len() {
-            lists::fill(
+            drawn::fill(
                 &mut list[0..n],
                 Doubles::MAGNITUDE,
-                lists::START ^ (n as u64),
+                drawn::START ^ (n as u64),
             );
             ways::all(&list[0..n], &mut work[0..n]);
-            lists::cancel(&mut list[0..n]);
+            drawn::cancel(&mut list[0..n]);
             ways::all(&list[0..n], &mut work[0..n]);
         }
     }
@@ -25,7 +25,7 @@ fn length(list: &mut [u64], work: &mut [f64], n: usize) {
 
 // A list that takes 51 rounds, the most; no shorter one does.
 fn ladder(list: &mut [u64], work: &mut [f64]) {
-    lists::ladder(list);
+    drawn::ladder(list);
     ways::all(list, work);
 }
 

@@ -1,5 +1,5 @@
 // The ways to sum a list: nearest, and the faithful walk in one call and block by block in three orders.
-use crate::{lists, text};
+use crate::{drawn, text};
 use kinds::{Nearest, Step};
 
 // The orders of a round's blocks: the lowest pending one first, the highest first, or by turns of the generator.
@@ -41,13 +41,13 @@ fn choice(order: u64, pending: u64, turn: u64) -> usize {
 // The walk block by block to its end.
 fn run(list: &[u64], work: &mut [f64], order: u64) -> Step {
     let mut at = walk::open(list, work, ENSEMBLE);
-    let mut turn = lists::START;
+    let mut turn = drawn::START;
     let mut steps = 0;
     while steps < STEPS {
         let Step::More(s, _) = at else {
             break;
         };
-        turn = lists::following(turn);
+        turn = drawn::following(turn);
         at = walk::step(s, work, choice(order, s.pending, turn), ENSEMBLE);
         steps += 1;
     }
@@ -57,10 +57,10 @@ fn run(list: &[u64], work: &mut [f64], order: u64) -> Step {
 
 // A number that changes with every bit of the work area.
 fn mix(work: &[f64]) -> u64 {
-    let mut m = lists::START;
+    let mut m = drawn::START;
     let mut i = 0;
     while i < work.len() {
-        m = lists::following(m ^ text::bits(work[i]));
+        m = drawn::following(m ^ text::bits(work[i]));
         i += 1;
     }
     m

@@ -180,4 +180,5 @@ module _ (p s i j : ℕ) (least : p ≤ s + s) (most : s + s ≤ p + 2) (l : s <
       let e₁ : d₁ ≈ r₁ = exactly (X ⊖ fl p (a₁ ⊙ b₁)) r₁ (omega (arith, fl_exact p P (upper_upper p s i j least most l LA LB HA HB))) first in
       let e₂ : d₂ ≈ r₂ = exactly (d₁ ⊖ fl p (a₂ ⊙ b₁)) r₂ (omega (arith, fl_exact p P lower_upper)) second in
       let e₃ : d₃ ≈ r₃ = exactly (d₂ ⊖ fl p (a₁ ⊙ b₂)) r₃ (omega (arith, fl_exact p P upper_lower)) third in
-      exactly (fl p (a₂ ⊙ b₂) ⊖ d₃) (A ⊙ B ⊖ X) (omega (arith, fl_exact p P (lower_lower p s i j least most l LA LB HA HB), by_upper, upper_parts, lower_parts)) error
+      let low = lower_lower p s i j least most l LA LB HA HB in
+      exactly (fl p (a₂ ⊙ b₂) ⊖ d₃) (A ⊙ B ⊖ X) (omega (arith, fl_exact p P low, by_upper, upper_parts, lower_parts)) error

@@ -8,7 +8,8 @@ use Rattle.units.proofs.Turns.{round_closes}
 use Rattle.units.proofs.Closing.{left_small, left_none, close_restart, close_further}
 
 module _ (p M n : ℕ) (two : 2 ≤ M) (fit : M + M < p) (few : n + 2 ≤ 2 ^ M) where
-  pub closes : {e : ℕ} {S t tau : Whole} {xs : List Whole} → Opened p M n e S t xs → Gathered p (M + e) xs tau → Closed p M n e S t tau (remainders p (M + e) xs)
+  pub closes : {e : ℕ} {S t tau : Whole} {xs : List Whole} → Opened p M n e S t xs → Gathered p (M + e) xs tau
+      → Closed p M n e S t tau (remainders p (M + e) xs)
   closes {e} O g = round_closes p (omega arith) M e (omega arith) (omega arith) O (omega arith) g
 
   lowered : (m : ℕ) {e e' : ℕ} → m * (p - M) ≤ e' → e' + (p - M) ≤ e → suc m * (p - M) ≤ e

@@ -53,7 +53,10 @@ returns-in-Refused-nearest c =
     let a = c.args in
     let e = ap (λ (w : Walked). w.answer) (sym c.faithful.ensures) ∙ c.in-Done.is in
     let g = sym c.nearest.ensures ∙ c.in-Refused-nearest.is in
-    record { left = ap (λ (w : Walked). w.area) c.faithful.ensures; lines = rw (lines_near_refused a.list.now a.work.now _ _ e _ _ g) c.refused-in-Refused-nearest.ensures }
+    record {
+      left = ap (λ (w : Walked). w.area) c.faithful.ensures;
+      lines = rw (lines_near_refused a.list.now a.work.now _ _ e _ _ g) c.refused-in-Refused-nearest.ensures;
+    }
 
 pub returns-in-Sum : goal.returns-in-Sum
 returns-in-Sum c =

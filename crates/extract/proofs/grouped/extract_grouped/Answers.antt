@@ -42,7 +42,8 @@ float_from_bits-most c =
     let positive : Positive binary64 c.args.largest (magnitude binary64 c.args.largest) =
     record { number = record { fit = subst T (sym c.well_formed.1.1.0.1) tt; fini = c.requires.0 }; sign = c.requires.1; units = refl } in
     let stands : (let a = c.args in Stands binary64 c.turns-sums.result.most
-    (max (magnitude binary64 a.largest) (largest binary64 (remainders binary64 a.sigma (take (8 * (length a.work.now / 8)) a.work.now))))) = c.turns-sums.ensures.2.stands _ (positive_stands binary64 positive) in
+    (max (magnitude binary64 a.largest) (largest binary64 (remainders binary64 a.sigma (take (8 * (length a.work.now / 8)) a.work.now))))) =
+    c.turns-sums.ensures.2.stands _ (positive_stands binary64 positive) in
     pattern_no_nan binary64 stands.below
 
 pub extract-requires : goal.extract-requires
@@ -50,7 +51,8 @@ extract-requires c =
     let positive : Positive binary64 c.args.largest (magnitude binary64 c.args.largest) =
     record { number = record { fit = subst T (sym c.well_formed.1.1.0.1) tt; fini = c.requires.0 }; sign = c.requires.1; units = refl } in
     let stands : (let a = c.args in Stands binary64 c.turns-sums.result.most
-    (max (magnitude binary64 a.largest) (largest binary64 (remainders binary64 a.sigma (take (8 * (length a.work.now / 8)) a.work.now))))) = c.turns-sums.ensures.2.stands _ (positive_stands binary64 positive) in
+    (max (magnitude binary64 a.largest) (largest binary64 (remainders binary64 a.sigma (take (8 * (length a.work.now / 8)) a.work.now))))) =
+    c.turns-sums.ensures.2.stands _ (positive_stands binary64 positive) in
     let xs = c.args.work.now in
     let k = 8 * (length xs / 8) in
     let P : Float → Type 0 = λ x. T (finite (remainder_of binary64 c.args.sigma x)) in
@@ -62,7 +64,8 @@ returns c =
     let positive : Positive binary64 c.args.largest (magnitude binary64 c.args.largest) =
     record { number = record { fit = subst T (sym c.well_formed.1.1.0.1) tt; fini = c.requires.0 }; sign = c.requires.1; units = refl } in
     let stands : (let a = c.args in Stands binary64 c.turns-sums.result.most
-    (max (magnitude binary64 a.largest) (largest binary64 (remainders binary64 a.sigma (take (8 * (length a.work.now / 8)) a.work.now))))) = c.turns-sums.ensures.2.stands _ (positive_stands binary64 positive) in
+    (max (magnitude binary64 a.largest) (largest binary64 (remainders binary64 a.sigma (take (8 * (length a.work.now / 8)) a.work.now))))) =
+    c.turns-sums.ensures.2.stands _ (positive_stands binary64 positive) in
     let a = c.args in
     let xs = a.work.now in
     let k = 8 * (length xs / 8) in

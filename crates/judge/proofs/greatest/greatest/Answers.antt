@@ -18,5 +18,10 @@ returns c =
     let fourth : 4 * k - 3 * k ≡ k = omega arith in
     let left = take_all (length ps - 4 * k) (drop (4 * k) ps) (rw (length-drop (4 * k) ps) (omega arith)) in
     let four = c.of_four-four.ensures
-    ∙ (λ i. greatest_of_four doubles (take (first i) ps) (take (second i) (drop k ps)) (take (third i) (drop (2 * k) ps)) (take (fourth i) (drop (3 * k) ps))) in
+    ∙ (λ i.
+    greatest_of_four doubles
+    (take (first i) ps)
+    (take (second i) (drop k ps))
+    (take (third i) (drop (2 * k) ps))
+    (take (fourth i) (drop (3 * k) ps))) in
     c.with.ensures ∙ (λ i. max (four i) (greatest doubles (left i))) ∙ greatest_quarters doubles k ps

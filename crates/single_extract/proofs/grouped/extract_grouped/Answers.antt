@@ -43,7 +43,8 @@ float_from_bits-most c =
     let positive : Positive binary32 c.args.largest (magnitude binary32 c.args.largest) =
     record { number = record { fit = subst T (sym c.well_formed.1.1.0.1) tt; fini = c.requires.0 }; sign = c.requires.1; units = refl } in
     let stands : (let a = c.args in Stands binary32 c.turns-sums.result.most
-    (max (magnitude binary32 a.largest) (largest binary32 (remainders binary32 a.sigma (take (8 * (length a.work.now / 8)) a.work.now))))) = c.turns-sums.ensures.2.stands _ (positive_stands binary32 positive) in
+    (max (magnitude binary32 a.largest) (largest binary32 (remainders binary32 a.sigma (take (8 * (length a.work.now / 8)) a.work.now))))) =
+    c.turns-sums.ensures.2.stands _ (positive_stands binary32 positive) in
     pattern_no_nan binary32 stands.below
 
 pub extract-requires : goal.extract-requires
@@ -51,7 +52,8 @@ extract-requires c =
     let positive : Positive binary32 c.args.largest (magnitude binary32 c.args.largest) =
     record { number = record { fit = subst T (sym c.well_formed.1.1.0.1) tt; fini = c.requires.0 }; sign = c.requires.1; units = refl } in
     let stands : (let a = c.args in Stands binary32 c.turns-sums.result.most
-    (max (magnitude binary32 a.largest) (largest binary32 (remainders binary32 a.sigma (take (8 * (length a.work.now / 8)) a.work.now))))) = c.turns-sums.ensures.2.stands _ (positive_stands binary32 positive) in
+    (max (magnitude binary32 a.largest) (largest binary32 (remainders binary32 a.sigma (take (8 * (length a.work.now / 8)) a.work.now))))) =
+    c.turns-sums.ensures.2.stands _ (positive_stands binary32 positive) in
     let xs = c.args.work.now in
     let k = 8 * (length xs / 8) in
     let P : Float → Type 0 = λ x. T (finite (remainder_of binary32 c.args.sigma x)) in
@@ -63,7 +65,8 @@ returns c =
     let positive : Positive binary32 c.args.largest (magnitude binary32 c.args.largest) =
     record { number = record { fit = subst T (sym c.well_formed.1.1.0.1) tt; fini = c.requires.0 }; sign = c.requires.1; units = refl } in
     let stands : (let a = c.args in Stands binary32 c.turns-sums.result.most
-    (max (magnitude binary32 a.largest) (largest binary32 (remainders binary32 a.sigma (take (8 * (length a.work.now / 8)) a.work.now))))) = c.turns-sums.ensures.2.stands _ (positive_stands binary32 positive) in
+    (max (magnitude binary32 a.largest) (largest binary32 (remainders binary32 a.sigma (take (8 * (length a.work.now / 8)) a.work.now))))) =
+    c.turns-sums.ensures.2.stands _ (positive_stands binary32 positive) in
     let a = c.args in
     let xs = a.work.now in
     let k = 8 * (length xs / 8) in

@@ -18,7 +18,8 @@ use Rattle.single_walk.proofs.run.run.Given as goal
 abbrev pub invariant-loop-next : goal.invariant-loop-next
 invariant-loop-next l =
     (length l.work ≡ length l.initial.work) × Running singles singles_fit l.initial.s.n (wide_state l.s) l.work
-    × (rounds_from singles (blocks_of singles l.initial.s.n) (suc singles.rounds - l.initial.s.rounds) (outcome (More (wide_state l.initial.s) (plus_zero binary32)) l.initial.work)
+    × (rounds_from singles (blocks_of singles l.initial.s.n) (suc singles.rounds - l.initial.s.rounds)
+    (outcome (More (wide_state l.initial.s) (plus_zero binary32)) l.initial.work)
     ≡ rounds_from singles (blocks_of singles l.initial.s.n) (suc singles.rounds - l.s.rounds) (outcome (More (wide_state l.s) (plus_zero binary32)) l.work))
 
 abbrev pub decreases-loop-next : goal.decreases-loop-next

@@ -16,7 +16,8 @@ use Rattle.walk.proofs.run.run.Given as goal
 abbrev pub invariant-loop-next : goal.invariant-loop-next
 invariant-loop-next l =
     (length l.work ≡ length l.initial.work) × Running doubles doubles_fit l.initial.s.n l.s l.work
-    × (rounds_from doubles (blocks_of doubles l.initial.s.n) (suc doubles.rounds - l.initial.s.rounds) (outcome (More l.initial.s (plus_zero binary64)) l.initial.work)
+    × (rounds_from doubles (blocks_of doubles l.initial.s.n) (suc doubles.rounds - l.initial.s.rounds)
+    (outcome (More l.initial.s (plus_zero binary64)) l.initial.work)
     ≡ rounds_from doubles (blocks_of doubles l.initial.s.n) (suc doubles.rounds - l.s.rounds) (outcome (More l.s (plus_zero binary64)) l.work))
 
 abbrev pub decreases-loop-next : goal.decreases-loop-next

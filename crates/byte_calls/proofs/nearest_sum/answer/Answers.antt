@@ -1,4 +1,4 @@
--- `byte_calls::nearest::answer` meets its contract: a sum is a number, and a refusal is one of the table. Assumes nothing.
+-- `byte_calls::nearest_sum::answer` meets its contract: a sum is a number, and a refusal is one of the table. Assumes nothing.
 use mathlib.Core.Path.{sym, ap, ◌∙◌}
 use mathlib.Core.List.{[]}
 use Prim.Native.Nat.{ℕ}
@@ -9,7 +9,7 @@ use Rattle.sums.proofs.SumLaws.{sums_doubles}
 use Rattle.sums.proofs.AnswerNumbers.{nearest_no_nan, nearest_refusal}
 use Rattle.calls.specs.Calls.{answered}
 use Rattle.calls.proofs.CallsLaws.{answered_nearest, answered_refused}
-use Rattle.byte_calls.proofs.nearest.answer.Goals as goal
+use Rattle.byte_calls.proofs.nearest_sum.answer.Goals as goal
 
 pub float_to_bits-x : goal.float_to_bits-x
 float_to_bits-x c = nearest_no_nan sums_doubles c.args.numbers.now (sym c.nearest.ensures ∙ c.in-Sum.is)

@@ -1,7 +1,7 @@
--- `byte_calls::nearest::short` meets its contract: 64 places hold the list. Assumes nothing.
+-- `byte_calls::nearest_sum::middle` meets its contract: 512 places hold the list. Assumes nothing.
 use mathlib.Core.Path.{sym}
 use Rattle.calls.proofs.CallsLaws.{front_length, front_bytes}
-use Rattle.byte_calls.proofs.nearest.short.Goals as goal
+use Rattle.byte_calls.proofs.nearest_sum.middle.Goals as goal
 
 pub slice_bounds-within-end : goal.slice_bounds-within-end
 slice_bounds-within-end c = sym (front_length c.requires.0 0)

@@ -1,6 +1,6 @@
--- `trial::lists::rungs` meets its contract: stores keep the length. Assumes nothing.
+-- `trial::drawn::fill` meets its contract: stores keep the length. Assumes nothing.
 use Rattle.std.proofs.Common.{◌≡◌, ◌-◌, length}
-use Rattle.trial.proofs.lists.rungs.Given as goal
+use Rattle.trial.proofs.drawn.fill.Given as goal
 
 abbrev pub invariant-loop-i : goal.invariant-loop-i
 invariant-loop-i l = length l.list ≡ length l.initial.list

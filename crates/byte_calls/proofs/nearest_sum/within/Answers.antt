@@ -1,8 +1,8 @@
--- `byte_calls::nearest::within` meets its contract: the numbers are those that the bytes are. Assumes nothing.
+-- `byte_calls::nearest_sum::within` meets its contract: the numbers are those that the bytes are. Assumes nothing.
 use mathlib.Core.Path.{◌∙◌}
 use lib.ListN.{length}
 use Rattle.calls.proofs.CallsLaws.{nearest_within}
-use Rattle.byte_calls.proofs.nearest.within.Goals as goal
+use Rattle.byte_calls.proofs.nearest_sum.within.Goals as goal
 
 pub returns : goal.returns
 returns c =
