@@ -2,7 +2,7 @@
 #![tactic(auto)]
 
 use crate::place::place;
-use kinds::SIGN;
+use kinds::{Floating, SIGN};
 use words::ripple::{add_at, sub_at};
 
 pub mod place;
@@ -17,12 +17,12 @@ ghost use Rattle.words.specs.Words.{word_count, whole_of, words_of};
 ghost use Rattle.addend.specs.Addend.{units_of};
 
 // A NaN or an infinity has no units, and the place of a number is one of 33 words.
-pub fn add(words: &mut [u64], p: u64)
-    requires { (length words.old ≡ word_count) × T (finite (of_bits doubles.format p)) }
-    ensures { words.new ≡ words_of (whole_of words.old +ℤ units_of doubles p) }
+pub fn add<F: Floating>(words: &mut [u64], p: F::Pattern)
+    requires { (length words.old ≡ word_count) × T (finite (of_bits F.width.format (F.pattern p))) }
+    ensures { words.new ≡ words_of (whole_of words.old +ℤ units_of F.width (F.pattern p)) }
 {
-    let at = place(p);
-    if p < SIGN {
+    let at = place::<F>(p);
+    if F::word(p) < F::SIGN {
         add_at(words, at.word, at.lo, at.hi);
     } else {
         sub_at(words, at.word, at.lo, at.hi);
@@ -41,5 +41,5 @@ pub fn withdraw(words: &mut [u64], p: u64)
     requires { (length words.old ≡ word_count) × T (finite (of_bits doubles.format p)) }
     ensures { words.new ≡ words_of (whole_of words.old -ℤ units_of doubles p) }
 {
-    add(words, opposite(p));
+    add::<f64>(words, opposite(p));
 }

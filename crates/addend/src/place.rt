@@ -2,12 +2,11 @@
 ghost use Rattle.std.specs.Prelude.{◌≡◌, ◌+◌, ◌*◌, ◌^◌, ◌<◌, T};
 ghost use Rattle.std.specs.Float.Ieee.{of_bits};
 ghost use Rattle.std.specs.Float.Ieee.Scale.{finite};
-ghost use Rattle.kinds.specs.Limits.{doubles};
 ghost use Rattle.lists.specs.Carry.{two};
 ghost use Rattle.words.specs.Words.{word_bits, word_count};
 ghost use Rattle.addend.specs.Addend.{AtWord, Scaled};
 
-use kinds::{LEAST_NORMAL, SIGN};
+use kinds::Floating;
 
 #[derive(Drop)]
 pub struct Shift {
@@ -16,13 +15,14 @@ pub struct Shift {
 }
 
 // The magnitude of a finite number in units. A NaN or an infinity has none.
-pub fn scaled(p: u64) -> Shift
-    requires { T (finite (of_bits doubles.format p)) }
-    ensures { Scaled doubles.format p result.significand result.by }
+pub fn scaled<F: Floating>(p: F::Pattern) -> Shift
+    requires { T (finite (of_bits F.width.format (F.pattern p))) }
+    ensures { Scaled F.width.format (F.pattern p) result.significand result.by }
 {
-    let magnitude = p % SIGN;
-    let field = magnitude / LEAST_NORMAL;
-    let digits = magnitude % LEAST_NORMAL;
+    let least_normal = 1u64 << F::DIGITS;
+    let magnitude = F::word(F::unsigned(p));
+    let field = magnitude / least_normal;
+    let digits = magnitude % least_normal;
     if field == 0 {
         return Shift {
             significand: digits,
@@ -30,7 +30,7 @@ pub fn scaled(p: u64) -> Shift
         };
     }
     Shift {
-        significand: LEAST_NORMAL + digits,
+        significand: least_normal + digits,
         by: field - 1,
     }
 }
@@ -56,10 +56,10 @@ pub fn shifted(m: u64, e: u64) -> Pair
 }
 
 // The words of a finite number's magnitude. What is required is as above.
-pub fn place(p: u64) -> Pair
-    requires { T (finite (of_bits doubles.format p)) }
-    ensures { AtWord doubles.format p result.word result.lo result.hi }
+pub fn place<F: Floating>(p: F::Pattern) -> Pair
+    requires { T (finite (of_bits F.width.format (F.pattern p))) }
+    ensures { AtWord F.width.format (F.pattern p) result.word result.lo result.hi }
 {
-    let number = scaled(p);
+    let number = scaled::<F>(p);
     shifted(number.significand, number.by)
 }

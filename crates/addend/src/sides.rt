@@ -18,7 +18,7 @@ pub fn add(words: &mut [u64], p: u64) -> u64
     requires { (length words.old ≡ word_count + word_count) × T (finite (of_bits doubles.format p)) }
     ensures { Carried word_bits words.old (side_by_side (sides_of doubles p)) words.new (length words.old) result }
 {
-    let at = place(p);
+    let at = place::<f64>(p);
     add_at(words, at.word + WORDS * ((p >> 63) as usize), at.lo, at.hi)
 }
 
@@ -27,5 +27,6 @@ pub fn settle(both: &[u64], words: &mut [u64])
     requires { (length both.now ≡ word_count + word_count) × (length words.old ≡ word_count) }
     ensures { words.new ≡ words_of (whole_of (take word_count both.now) -ℤ pos (number word_bits (drop word_count both.now))) }
 {
-    columns::sub(&both[0..WORDS], &both[WORDS..2 * WORDS], words);
+    let (positive, negative) = both.split_at(WORDS);
+    columns::sub(positive, negative, words);
 }

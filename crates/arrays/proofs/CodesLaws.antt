@@ -10,7 +10,7 @@ use Rattle.kinds.specs.Outcome.{Outcome, outcome}
 use Rattle.kinds.specs.Heard.{Place, Heard, refused, more, done, nearest, parts, accepted, count, rescued}
 use Rattle.kinds.proofs.Hearing.{exactly}
 use Rattle.kinds.proofs.OutcomeLaws.{same}
-use Rattle.kinds.specs.declared.Verdict.TheVariants as verdicts
+use Rattle.kinds.specs.Verdict as verdicts
 use Rattle.judge.specs.Table as list-rows
 use Rattle.judge.specs.Table.{ListWhen}
 use Rattle.arrays.specs.Arrays.{code_of, values_of, Returned, returned, too_many_of}

@@ -1,7 +1,7 @@
 -- What the theorems of proofs/CodesLaws.antt speak of. Definitions only.
 use Rattle.std.specs.Prelude.{ℕ}
 use Rattle.kinds.specs.Outcome.{Outcome}
-use Rattle.kinds.specs.declared.Verdict.TheVariants as verdicts
+use Rattle.kinds.specs.Verdict as verdicts
 use Rattle.judge.specs.Table as list-rows
 use Rattle.arrays.specs.Arrays.{Returned}
 

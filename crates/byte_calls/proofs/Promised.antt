@@ -8,8 +8,8 @@ use Rattle.ieee.proofs.Zeros.{minus_bits}
 use Rattle.kinds.specs.Limits.{doubles}
 use Rattle.kinds.specs.Outcome.{outcome}
 use Rattle.kinds.specs.Heard.{Refusal, Heard, refused, done, tells, place_of, step_heard, nearest_heard}
-use Rattle.kinds.specs.declared.Verdict.{Verdict}
-use Rattle.kinds.specs.declared.Verdict.TheVariants as verdicts
+use Rattle.kinds.specs.Verdict.{Verdict}
+use Rattle.kinds.specs.Verdict as verdicts
 use Rattle.judge.specs.Judge.{judged, zero_sign}
 use Rattle.judge.proofs.JudgeLaws.{list_when, list_allowed}
 use Rattle.judge.specs.Table.{Allowed, First, ListWhen, MinusZeros, ZeroWhen, too_many, wrong_area, wrong_parts, bad_number, allowed}

@@ -1,6 +1,6 @@
 -- A register in bytes: a call that returns 0 changes the whole number by exactly the number's units, what was added and is withdrawn leaves the same
 -- 264 bytes, and the code of every row of the table. Assumes nothing.
-use Rattle.std.specs.Prelude.{◌≡◌, ℕ, ◌+◌, ◌*◌, ℤ, ◌+ℤ◌, ◌-ℤ◌, length}
+use Rattle.std.specs.Prelude.{◌≡◌, ℕ, ◌*◌, ℤ, ◌+ℤ◌, ◌-ℤ◌, length}
 use Rattle.std.proofs.Math.Path.{refl, ap}
 use Rattle.std.proofs.Common.{sym, ◌∙◌, arith}
 use mathlib.Core.List.{List, []}
@@ -8,8 +8,8 @@ use Rattle.lists.specs.Digits.{Digits}
 use Rattle.kinds.specs.Limits.{doubles}
 use Rattle.kinds.specs.Outcome.{outcome}
 use Rattle.kinds.specs.Heard.{entry_heard}
-use Rattle.kinds.specs.declared.Entry.{Entry}
-use Rattle.kinds.specs.declared.Entry.TheVariants as entries
+use Rattle.kinds.specs.Entry.{Entry}
+use Rattle.kinds.specs.Entry as entries
 use Rattle.octets.specs.Octets.{little_endian, little, packed, unpacked}
 use Rattle.octets.proofs.OctetsLaws.{little_length, little_below, little_back, little_bytes_back}
 use Rattle.octets.proofs.EightsLaws.{eights_length, eights_below, eights_joined, joined_eights, joined_length}

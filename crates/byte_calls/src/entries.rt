@@ -1,23 +1,45 @@
-// What was entered in a register's words, in its bytes.
-ghost use Rattle.std.specs.Prelude.{◌≡◌, length};
+// What is entered in a register in bytes, before its answer is a code.
+ghost use Rattle.std.specs.Prelude.{◌≡◌, ◌≤◌, IfErr};
+ghost use Rattle.kinds.specs.Limits.{doubles};
 ghost use Rattle.kinds.specs.Outcome.{outcome};
-ghost use Rattle.kinds.specs.Heard.{entry_heard};
-ghost use Rattle.calls.specs.Calls.{register_bytes, answered};
-ghost use Rattle.words.specs.Words.{word_count};
-ghost use Rattle.calls.specs.Inner.{EntryRefusal};
+ghost use Rattle.kinds.specs.Refusals.{place};
+ghost use Rattle.calls.specs.Calls.{add_call, withdraw_call};
+ghost use Rattle.calls.specs.Inner.{code};
 
-use kinds::Entry;
+use kinds::Refusal;
+use octets::little::SIZE;
+use words::WORDS;
 
-// What was entered in the words goes to the register's bytes; a refusal leaves them.
-pub fn written(entry: Entry, words: &[u64], register: &mut [u8]) -> u32
-    requires { EntryRefusal entry × (length words.now ≡ word_count) × (length register.old ≡ register_bytes) }
-    ensures { outcome result register.new ≡ answered (entry_heard entry) register.old words.now }
+// rule C5
+const BYTES: usize = SIZE * WORDS;
+
+// The words go to the register's bytes; a refusal leaves them.
+#[tactic(auto, unfolding(calls::specs::Calls::register_call, calls::specs::Calls::answered))]
+pub fn add(register: &mut [u8], pattern: u64) -> Result<(), Refusal>
+    ensures told { IfErr result (λ refusal. place refusal ≤ doubles.length) }
+    ensures written { outcome (code result) register.new ≡ add_call register.old pattern }
 {
-    match entry {
-        Entry::Entered => {
-            octets::little::pack(words, register);
-            0
-        }
-        Entry::Refused(number, place) => calls::refusal(number, place),
+    if register.len() != BYTES {
+        return Err(Refusal::WrongLength);
     }
+    let mut words = [0u64; WORDS];
+    octets::little::unpack(register, &mut words);
+    register::add(&mut words, pattern)?;
+    octets::little::pack(&words, register);
+    Ok(())
+}
+
+#[tactic(auto, unfolding(calls::specs::Calls::register_call, calls::specs::Calls::answered))]
+pub fn withdraw(register: &mut [u8], pattern: u64) -> Result<(), Refusal>
+    ensures told { IfErr result (λ refusal. place refusal ≤ doubles.length) }
+    ensures written { outcome (code result) register.new ≡ withdraw_call register.old pattern }
+{
+    if register.len() != BYTES {
+        return Err(Refusal::WrongLength);
+    }
+    let mut words = [0u64; WORDS];
+    octets::little::unpack(register, &mut words);
+    register::withdraw(&mut words, pattern)?;
+    octets::little::pack(&words, register);
+    Ok(())
 }

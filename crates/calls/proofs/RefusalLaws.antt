@@ -3,7 +3,7 @@ use Rattle.std.specs.Prelude.{◌≡◌, refl, ◌⊎◌, List, ℕ, ◌<◌, �
 use Rattle.std.proofs.Common.{inl, inr, arith, lit<}
 use Rattle.kinds.proofs.Hearing.{at_place_0}
 use Rattle.kinds.specs.Limits.{doubles}
-use Rattle.kinds.specs.declared.Entry.{Entry}
+use Rattle.kinds.specs.Entry.{Entry}
 use Rattle.judge.specs.Judge.{fault_of}
 use Rattle.judge.specs.FaultLaws.{fault_number}
 use Rattle.register.specs.Register.{enter}

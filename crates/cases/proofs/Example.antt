@@ -11,12 +11,12 @@ use Rattle.lists.specs.Digits.{number}
 use Rattle.ieee.specs.Units.{value, magnitude, nearest_float}
 use Rattle.kinds.specs.Limits.{doubles, blocks_of}
 use Rattle.kinds.specs.Outcome.{outcome}
-use Rattle.kinds.specs.declared.Step.TheVariants.{Done}
-use Rattle.kinds.specs.declared.Step.TheVariants as steps
-use Rattle.kinds.specs.declared.Nearest.TheVariants.{Sum}
-use Rattle.kinds.specs.declared.Sheet.TheVariants.{Read}
-use Rattle.kinds.specs.declared.Verdict.{Verdict}
-use Rattle.kinds.specs.declared.Verdict.TheVariants.{Good, Refused}
+use Rattle.kinds.specs.Step.{Done}
+use Rattle.kinds.specs.Step as steps
+use Rattle.kinds.specs.Nearest.{Sum}
+use Rattle.kinds.specs.Sheet.{Read}
+use Rattle.kinds.specs.Verdict.{Verdict}
+use Rattle.kinds.specs.Verdict.{Good, Refused}
 use Rattle.lists.specs.Every.{every}
 use Rattle.judge.specs.Judge.{fault_of, first_fault, judged, zero_sign}
 use Rattle.extract.specs.Extract.{remainders, gathered, last_sum, largest, largest_with}

@@ -10,7 +10,7 @@ use Rattle.ieee.specs.Units.{value, magnitude, negative, nearest_float}
 use Rattle.ieee.proofs.Finite.{same_float}
 use Rattle.ieee.proofs.PatternBounds.{pattern_number}
 use Rattle.kinds.specs.Limits.{Width, singles}
-use Rattle.kinds.specs.declared.Verdict.TheVariants.{Good}
+use Rattle.kinds.specs.Verdict.{Good}
 use Rattle.kinds.specs.Outcome.{outcome}
 use Rattle.kinds.specs.Heard.{Heard, done, refused, nowhere, step_heard, nearest, nearest_heard}
 use Rattle.judge.specs.Judge.{fault_of, first_fault, judged}

@@ -9,7 +9,7 @@ use Rattle.kinds.specs.Heard.{Heard, step_heard, nearest_heard, parted_heard, en
 use Rattle.register.specs.Register.{added, withdrawn, rounded}
 use Rattle.register.specs.Merge.{merged}
 use Rattle.kinds.specs.States.{state_of}
-use Rattle.kinds.specs.declared.State.{State}
+use Rattle.kinds.specs.State.{State}
 use Rattle.walk.specs.Walk.{Walked, opened, stepped, faithful_of}
 use Rattle.sums.specs.Sums.{nearest_of, parts_of}
 use Rattle.sheet.specs.Sheet.{read_of}

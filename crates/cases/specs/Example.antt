@@ -1,6 +1,6 @@
 -- What the theorems of proofs/Example.antt speak of. Definitions only.
 use Rattle.std.specs.Prelude.{List, [], ◌∷◌, ℕ}
-use Rattle.kinds.specs.declared.Step.TheVariants as steps
+use Rattle.kinds.specs.Step as steps
 use Rattle.sound.specs.Sound as N
 use Rattle.rounds.specs.Round as R
 use Rattle.walk.specs.Walk as W

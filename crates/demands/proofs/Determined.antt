@@ -4,11 +4,11 @@ use Rattle.std.specs.Prelude.{◌≡◌, List, ℕ, Float}
 use Rattle.kinds.specs.Limits.{doubles}
 use Rattle.kinds.specs.Outcome.{outcome}
 use Rattle.kinds.proofs.OutcomeLaws.{same, determined}
-use Rattle.kinds.specs.declared.State.{State}
-use Rattle.kinds.specs.declared.Step.{Step}
-use Rattle.kinds.specs.declared.Nearest.{Nearest}
-use Rattle.kinds.specs.declared.Parted.{Parted}
-use Rattle.kinds.specs.declared.Entry.{Entry}
+use Rattle.kinds.specs.State.{State}
+use Rattle.kinds.specs.Step.{Step}
+use Rattle.kinds.specs.Nearest.{Nearest}
+use Rattle.kinds.specs.Parted.{Parted}
+use Rattle.kinds.specs.Entry.{Entry}
 use Rattle.sums.specs.Sums.{nearest_of, parts_of}
 use Rattle.register.specs.Register.{added, withdrawn, rounded}
 use Rattle.register.specs.Merge.{merged}

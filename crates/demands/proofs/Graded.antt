@@ -5,9 +5,9 @@ use Rattle.std.specs.Float.Ieee.{to_bits}
 use Rattle.lists.proofs.Apart.{apart}
 use Rattle.kinds.specs.Limits.{doubles}
 use Rattle.kinds.specs.Heard.{step_heard, done}
-use Rattle.kinds.specs.declared.Step.{Step}
-use Rattle.kinds.specs.declared.Step.TheVariants.{More, Done, Refused}
-use Rattle.kinds.specs.declared.Verdict.TheVariants.{Good}
+use Rattle.kinds.specs.Step.{Step}
+use Rattle.kinds.specs.Step.{More, Done, Refused}
+use Rattle.kinds.specs.Verdict.{Good}
 use Rattle.judge.specs.Table.{ListWhen, allowed}
 use Rattle.judge.proofs.JudgeLaws.{list_passed, list_allowed}
 use Rattle.rounds.specs.Instances.{doubles_fit}

@@ -5,12 +5,12 @@ use Rattle.std.proofs.Common.{inl}
 use Rattle.kinds.specs.Heard.{Place, refused, Row, step_heard, nearest_heard, parted_heard, entry_heard}
 use Rattle.kinds.proofs.Hearing.{nearest_is, parted_is, entry_is, hears, placed}
 use Rattle.kinds.specs.Limits.{doubles}
-use Rattle.kinds.specs.declared.State.{State}
-use Rattle.kinds.specs.declared.Verdict.TheVariants as verdicts
-use Rattle.kinds.specs.declared.Step.TheVariants as steps
-use Rattle.kinds.specs.declared.Nearest.TheVariants as nearests
-use Rattle.kinds.specs.declared.Parted.TheVariants as parteds
-use Rattle.kinds.specs.declared.Entry.TheVariants as entries
+use Rattle.kinds.specs.State.{State}
+use Rattle.kinds.specs.Verdict as verdicts
+use Rattle.kinds.specs.Step as steps
+use Rattle.kinds.specs.Nearest as nearests
+use Rattle.kinds.specs.Parted as parteds
+use Rattle.kinds.specs.Entry as entries
 use Rattle.judge.specs.Table.{ListWhen}
 use Rattle.judge.proofs.JudgeLaws.{list_refusal}
 use Rattle.words.specs.Words.{whole_of}

@@ -1,5 +1,6 @@
 -- The crate's theorems and lemmas.
 pub mod Determined
+pub mod Results
 pub mod Graded
 pub mod Hearing
 pub mod Products

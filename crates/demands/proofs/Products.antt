@@ -8,8 +8,8 @@ use Rattle.std.specs.Float.{binary64}
 use Rattle.std.specs.Float.Ieee.{low}
 use Rattle.ieee.specs.Accuracy.{EqualOrNeighbouring}
 use Rattle.kinds.specs.Limits.{doubles}
-use Rattle.kinds.specs.declared.Step.TheVariants.{Done}
-use Rattle.kinds.specs.declared.Verdict.TheVariants.{Good}
+use Rattle.kinds.specs.Step.{Done}
+use Rattle.kinds.specs.Verdict.{Good}
 use Rattle.judge.specs.Table.{ListWhen}
 use Rattle.judge.proofs.JudgeLaws.{list_passed, list_allowed}
 use Rattle.words.specs.Words.{whole_of}

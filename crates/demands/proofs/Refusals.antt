@@ -5,14 +5,14 @@ use Rattle.std.proofs.Common.{ap}
 use Rattle.lists.proofs.Apart.{apart}
 use Rattle.kinds.specs.Limits.{doubles}
 use Rattle.kinds.specs.Outcome.{Outcome, outcome}
-use Rattle.kinds.specs.declared.State.{State}
-use Rattle.kinds.specs.declared.Verdict.{Verdict}
-use Rattle.kinds.specs.declared.Verdict.TheVariants as verdicts
-use Rattle.kinds.specs.declared.Nearest.TheVariants as nearests
-use Rattle.kinds.specs.declared.Parted.{Parted}
-use Rattle.kinds.specs.declared.Parted.TheVariants as parteds
-use Rattle.kinds.specs.declared.Entry.TheVariants as entries
-use Rattle.kinds.specs.declared.Step.TheVariants as steps
+use Rattle.kinds.specs.State.{State}
+use Rattle.kinds.specs.Verdict.{Verdict}
+use Rattle.kinds.specs.Verdict as verdicts
+use Rattle.kinds.specs.Nearest as nearests
+use Rattle.kinds.specs.Parted.{Parted}
+use Rattle.kinds.specs.Parted as parteds
+use Rattle.kinds.specs.Entry as entries
+use Rattle.kinds.specs.Step as steps
 use Rattle.judge.specs.Judge.{judged}
 use Rattle.judge.specs.Table.{ListWhen}
 use Rattle.words.specs.Words.{whole_of}

@@ -17,7 +17,7 @@ use Rattle.ieee.specs.Units.{magnitude}
 use Rattle.lists.specs.Bitset.{has}
 use Rattle.lists.specs.Each.{Each}
 use Rattle.kinds.specs.Limits.{Width, doubles, singles, exponent_of, blocks_of}
-use Rattle.kinds.specs.declared.State.{State}
+use Rattle.kinds.specs.State.{State}
 use Rattle.judge.specs.Table.{size_of}
 use Rattle.sound.specs.Sound.{sound_numbers, sound_pending, sound_place, bad_place, sound}
 use Rattle.sound.specs.Numbers.{limit_exponent, Numbers}

@@ -9,10 +9,10 @@ use Rattle.lists.specs.Bitset.{has}
 use Rattle.lists.specs.Each.{each_at}
 use Rattle.kinds.proofs.Hearing.{exactly}
 use Rattle.kinds.specs.Limits.{Width, blocks_of}
-use Rattle.kinds.specs.declared.State.{State}
-use Rattle.kinds.specs.declared.Verdict.{Verdict}
-use Rattle.kinds.specs.declared.Verdict.TheVariants.{Good, Refused}
-use Rattle.kinds.specs.declared.Nearest.{Nearest}
+use Rattle.kinds.specs.State.{State}
+use Rattle.kinds.specs.Verdict.{Verdict}
+use Rattle.kinds.specs.Verdict.{Good, Refused}
+use Rattle.kinds.specs.Nearest.{Nearest}
 use Rattle.words.specs.Words.{word_count, whole_of}
 use Rattle.register.specs.Register.{rounded}
 use Rattle.register.proofs.RoundedLaws.{rounded_length, rounded_beyond, rounded_sum}

@@ -5,10 +5,10 @@ use Rattle.std.proofs.Common.{inr}
 use Rattle.kinds.specs.Heard.{Place, refused, place_of, told, Row, step_heard, nearest_heard}
 use Rattle.kinds.proofs.Hearing.{step_is, nearest_is, hears, placed}
 use Rattle.kinds.specs.Limits.{Width}
-use Rattle.kinds.specs.declared.State.{State}
-use Rattle.kinds.specs.declared.Verdict.TheVariants as verdicts
-use Rattle.kinds.specs.declared.Step.TheVariants as steps
-use Rattle.kinds.specs.declared.Nearest.TheVariants as nearests
+use Rattle.kinds.specs.State.{State}
+use Rattle.kinds.specs.Verdict as verdicts
+use Rattle.kinds.specs.Step as steps
+use Rattle.kinds.specs.Nearest as nearests
 use Rattle.judge.specs.Table.{ListWhen}
 use Rattle.judge.proofs.JudgeLaws.{list_refusal}
 use Rattle.sums.specs.Sums.{nearest_of}

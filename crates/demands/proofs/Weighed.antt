@@ -10,7 +10,7 @@ use Rattle.ieee.specs.Units.{nearest_float}
 use Rattle.ieee.proofs.Overflow.{nearest_round}
 use Rattle.kinds.specs.Limits.{doubles}
 use Rattle.kinds.specs.Heard.{nearest_heard, nearest}
-use Rattle.kinds.specs.declared.Verdict.TheVariants.{Good}
+use Rattle.kinds.specs.Verdict.{Good}
 use Rattle.judge.specs.Judge.{zero_sign}
 use Rattle.judge.specs.Table.{ListWhen, allowed}
 use Rattle.sums.specs.Sums.{sum_of, nearest_of}

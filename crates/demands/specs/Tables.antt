@@ -5,11 +5,11 @@ use Rattle.std.specs.Float.{binary64}
 use Rattle.ieee.specs.Units.{limit, nearest_float}
 use Rattle.lists.specs.Bitset.{has}
 use Rattle.kinds.specs.Limits.{Width, blocks_of}
-use Rattle.kinds.specs.declared.State.{State}
-use Rattle.kinds.specs.declared.Verdict.{Verdict}
-use Rattle.kinds.specs.declared.Verdict.TheVariants.{Good, Refused}
-use Rattle.kinds.specs.declared.Nearest.{Nearest}
-use Rattle.kinds.specs.declared.Nearest.TheVariants as nearests
+use Rattle.kinds.specs.State.{State}
+use Rattle.kinds.specs.Verdict.{Verdict}
+use Rattle.kinds.specs.Verdict.{Good, Refused}
+use Rattle.kinds.specs.Nearest.{Nearest}
+use Rattle.kinds.specs.Nearest as nearests
 use Rattle.judge.specs.Table.{ListWhen}
 use Rattle.words.specs.Words.{word_count, whole_of}
 use Rattle.sound.specs.Numbers.{Numbers}

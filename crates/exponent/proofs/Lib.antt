@@ -1,3 +1,4 @@
 -- The crate's theorems and lemmas.
 pub mod CeilingLaws
+pub mod PatternLaws
 pub mod PowerLaws

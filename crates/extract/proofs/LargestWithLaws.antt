@@ -5,12 +5,12 @@ use Rattle.std.proofs.Math.Path.{ap}
 use Rattle.std.proofs.Math.Bool.{false}
 use mathlib.Core.List.{List, [], ◌∷◌, ◌++◌}
 use Rattle.std.specs.Float.{Format}
-use Rattle.std.specs.Float.Ieee.{top, of_bits, to_bits}
+use Rattle.std.specs.Float.Ieee.{top, fits, of_bits, to_bits}
 use Rattle.std.specs.Float.Ieee.Fits.{sub-fits}
 use Rattle.std.specs.Float.Ieee.Bits.{of_bits-fits}
 use Rattle.std.specs.Float.Ieee.Scale.{finite}
 use Rattle.units.proofs.Powers.{le_or_lt}
-use Rattle.ieee.specs.Units.{Is, Number, magnitude, signed, value, sign_of, nearest_float}
+use Rattle.ieee.specs.Units.{Is, Number, negative, magnitude, signed, value, sign_of, nearest_float}
 use Rattle.ieee.proofs.Finite.{facts, is_units, is_finite, same_float}
 use Rattle.ieee.proofs.RoundExact.{round_exact}
 use Rattle.ieee.proofs.Overflow.{nearest_round, nearest_fits}
@@ -18,8 +18,13 @@ use Rattle.ieee.proofs.PatternBounds.{bits_units}
 use Rattle.lists.specs.Each.{Each, each_map}
 use Rattle.extract.specs.Extract.{high_part, remainder_of, remainders, largest, largest_with}
 use Rattle.extract.specs.ExtractLaws.{largest_none, largest_join}
-use Rattle.extract.specs.LargestLaws.{Positive, Stands, number_stands, stands_is, zero_positive}
+use Rattle.extract.specs.LargestLaws.{Positive, Stands, number_stands, stands_is, zero_positive, larger, kept}
+use Rattle.extract.specs.GroupedLaws.{Raised, raised_kept, raised_larger}
 use Rattle.extract.specs.LargestWithLaws.{Sized}
+
+-- a float without a sign that is a number of the format
+pub positive_here : (f : Format) (x : Float) → T (fits f x) → T (finite x) → negative x ≡ false → Positive f x (magnitude f x)
+positive_here f x fit fini sign = record { number = record { fit = fit; fini = fini }; sign = sign; units = refl }
 
 -- a positive number is its units
 pub positive_same : {f : Format} {x y : Float} {n : ℕ} → Positive f x n → Positive f y n → x ≡ y
@@ -95,3 +100,17 @@ unfolding remainders
 remainders_numbers f sigma xs h =
     each_map (λ x. T (finite (remainder_of f sigma x))) (Number f) (remainder_of f sigma)
     (λ x fini. record { fit = sub-fits f x (high_part f sigma x); fini = fini }) xs h
+
+-- the greater of two patterns stands for the larger of what they stand for
+pub stands_max : (f : Format) {r q m n : ℕ} → Stands f r m → Stands f q n → (k : ℕ) → k ≡ max r q → Stands f k (max m n)
+stands_max f {r} {q} R Q k e = elim (le_or_lt q r) [
+  | inl l ↦ let g : k ≡ r = omega arith in rw g (kept f R Q l)
+  | inr l ↦ let g : k ≡ q = omega arith in rw g (larger f R Q l)
+]
+
+pub raised_max : (f : Format) {p r q : ℕ} {xs : List Float} → Raised f p xs r → (x : Float) → Stands f q (magnitude f x) → (k : ℕ) → k ≡ max r q
+    → Raised f p (xs ++ (x ∷ [])) k
+raised_max f {p} {r} {q} R x Q k e = elim (le_or_lt q r) [
+  | inl l ↦ let g : k ≡ r = omega arith in rw g (raised_kept f R x Q l)
+  | inr l ↦ let g : k ≡ q = omega arith in rw g (raised_larger f R x Q l)
+]

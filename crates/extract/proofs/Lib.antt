@@ -1,3 +1,4 @@
 -- The crate's theorems and lemmas.
+pub mod AreaLaws
 pub mod LargestWithLaws
 pub mod TurnLaws

@@ -1,7 +1,6 @@
 // A whole area with tau in eight sums, so that eight additions are under way at once.
 ghost use Rattle.std.specs.Prelude.{◌≡◌, false, ◌++◌, ◌*◌, ◌/◌, T, length, take, drop};
-ghost use Rattle.std.specs.Float.{binary64};
-ghost use Rattle.std.specs.Float.Ieee.{to_bits};
+ghost use Rattle.std.specs.Float.Ieee.{to_bits, fits};
 ghost use Rattle.std.specs.Float.Ieee.Scale.{finite};
 ghost use Rattle.lists.specs.Each.{Each};
 ghost use Rattle.ieee.specs.Units.{negative};
@@ -10,81 +9,77 @@ ghost use Rattle.extract.specs.Grouped.{spread, spreads, joined, grouped};
 ghost use Rattle.extract.specs.GroupedLaws.{Raised};
 
 use crate::{Extracted, extract};
-use kinds::SIGN;
+use kinds::Floating;
 
-// The eight sums, and the greatest pattern of the remainders.
+// The eight sums in one, and the greatest pattern of the remainders. The eight aren't a field: how much room an array of `F` takes in a struct isn't known to
+// a proof.
 #[derive(Drop)]
-struct Sums {
-    taus: [f64; 8],
-    most: u64,
+struct Gathered<F: Floating> {
+    tau: F,
+    most: F::Pattern,
 }
 
 // Eight numbers: each high part goes to a sum of its own.
-fn turn(part: &mut [f64], sigma: f64, sums: Sums) -> Sums
-    requires { (length part.old ≡ 8) × Each (λ x. T (finite (remainder_of binary64 sigma x))) part.old }
-    ensures { (result.taus ≡ spread binary64 sigma sums.taus part.old) × (part.new ≡ remainders binary64 sigma part.old)
-        × Raised binary64 sums.most (remainders binary64 sigma part.old) result.most }
+fn turn<F: Floating>(part: &mut [F], sigma: F, taus: &mut [F], largest: F::Pattern) -> F::Pattern
+    requires { (length part.old ≡ 8) × (length taus.old ≡ 8)
+        × Each (λ x. T (finite (remainder_of F.width.format (F.value sigma) x))) (F.values part.old) }
+    ensures { (F.values taus.new ≡ spread F.width.format (F.value sigma) (F.values taus.old) (F.values part.old))
+        × (F.values part.new ≡ remainders F.width.format (F.value sigma) (F.values part.old))
+        × Raised F.width.format (F.pattern largest) (remainders F.width.format (F.value sigma) (F.values part.old)) (F.pattern result) }
 {
-    let mut taus = sums.taus;
-    let mut most = sums.most;
-    let mut k = 0;
-    while k < 8 {
+    let mut most = largest;
+    for k in 0..8 {
         let x = part[k];
         let q = (sigma + x) - sigma;
         let rest = x - q;
         part[k] = rest;
         taus[k] = taus[k] + q;
-        let m = f64::to_bits(rest) % SIGN;
-        if most < m {
-            most = m;
-        }
-        k += 1;
+        most = F::larger(most, F::unsigned(rest.bits()));
     }
-    Sums { taus, most }
+    most
 }
 
-// The area in turns of eight; what is behind the last is left as it is.
-fn turns(work: &mut [f64], sigma: f64, largest: f64) -> Sums
-    requires { Each (λ x. T (finite (remainder_of binary64 sigma x))) work.old × T (finite largest) }
-    ensures { (result.taus ≡ spreads binary64 sigma work.old (length work.old / 8))
-        × (work.new
-        ≡ remainders binary64 sigma (take (8 * (length work.old / 8)) work.old)
-        ++ drop (8 * (length work.old / 8)) work.old)
-        × Raised binary64 (to_bits binary64 largest) (remainders binary64 sigma (take (8 * (length work.old / 8)) work.old)) result.most }
+// The area in turns of eight; what is behind the last is left as it is. A turn's part is cut by place: what `chunks_exact_mut` leaves in the area isn't known
+// to a proof.
+fn turns<F: Floating>(work: &mut [F], sigma: F, largest: F) -> Gathered<F>
+    requires { Each (λ x. T (finite (remainder_of F.width.format (F.value sigma) x))) (F.values work.old) × T (finite (F.value largest)) }
+    ensures { (F.value result.tau ≡ joined F.width.format (spreads F.width.format (F.value sigma) (F.values work.old) (length work.old / 8)))
+        × (F.values work.new
+        ≡ remainders F.width.format (F.value sigma) (take (8 * (length work.old / 8)) (F.values work.old))
+        ++ drop (8 * (length work.old / 8)) (F.values work.old))
+        × Raised F.width.format (to_bits F.width.format (F.value largest))
+        (remainders F.width.format (F.value sigma) (take (8 * (length work.old / 8)) (F.values work.old))) (F.pattern result.most)
+        × T (fits F.width.format (F.value largest)) }
 {
-    let eights = work.len() / 8;
-    let mut sums = Sums {
-        taus: [0.0; 8],
-        most: f64::to_bits(largest),
-    };
-    let mut i = 0;
-    while i < eights {
+    let mut taus = [F::zero(); 8];
+    let mut most = largest.bits();
+    for i in 0..work.len() / 8 {
         let from = 8 * i;
-        let to = from + 8;
-        sums = turn(&mut work[from..to], sigma, sums);
-        i += 1;
+        most = turn(&mut work[from..from + 8], sigma, &mut taus, most);
     }
-    sums
+    Gathered {
+        tau: join(taus),
+        most,
+    }
 }
 
 // The eight sums in one.
-fn join(taus: [f64; 8]) -> f64
-    ensures { result ≡ joined binary64 taus }
+fn join<F: Floating>(taus: [F; 8]) -> F
+    ensures { F.value result ≡ joined F.width.format (F.values taus) }
 {
     ((taus[0] + taus[1]) + (taus[2] + taus[3])) + ((taus[4] + taus[5]) + (taus[6] + taus[7]))
 }
 
 // As `extract` from tau = +0, where any grouping of the additions to tau has the same answer. What is behind the last eight goes to the sum of the eight.
-pub fn extract_grouped(work: &mut [f64], sigma: f64, largest: f64) -> Extracted
-    requires { T (finite largest) × (negative largest ≡ false) × Each (λ x. T (finite (remainder_of binary64 sigma x))) work.old }
-    ensures { (result.tau ≡ grouped binary64 sigma work.old)
-        × (result.largest ≡ largest_with binary64 largest (remainders binary64 sigma work.old))
-        × (work.new ≡ remainders binary64 sigma work.old) }
+pub fn extract_grouped<F: Floating>(work: &mut [F], sigma: F, largest: F) -> Extracted<F>
+    requires { T (finite (F.value largest)) × (negative (F.value largest) ≡ false)
+        × Each (λ x. T (finite (remainder_of F.width.format (F.value sigma) x))) (F.values work.old) }
+    ensures { (F.value result.tau ≡ grouped F.width.format (F.value sigma) (F.values work.old))
+        × (F.value result.largest ≡ largest_with F.width.format (F.value largest) (remainders F.width.format (F.value sigma) (F.values work.old)))
+        × (F.values work.new ≡ remainders F.width.format (F.value sigma) (F.values work.old)) }
 {
     let from = 8 * (work.len() / 8);
     let sums = turns(work, sigma, largest);
-    let taus = sums.taus;
-    let tau = join(taus);
-    let most = f64::from_bits(sums.most);
-    extract(&mut work[from..], sigma, tau, most)
+    let most = F::from_bits(sums.most);
+    extract(&mut work[from..], sigma, sums.tau, most)
 }

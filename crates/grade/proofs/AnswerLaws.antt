@@ -3,11 +3,11 @@ use Rattle.std.specs.Prelude.{◌≡◌, true, false, List, ℕ}
 use Rattle.std.specs.Float.Ieee.{of_bits}
 use Rattle.std.specs.Float.Ieee.Scale.{finite}
 use Rattle.kinds.specs.Limits.{Width}
-use Rattle.kinds.specs.declared.Verdict.{Verdict}
-use Rattle.kinds.specs.declared.Verdict.TheVariants as verdicts
+use Rattle.kinds.specs.Verdict.{Verdict}
+use Rattle.kinds.specs.Verdict as verdicts
 use Rattle.sums.specs.Sums.{sum_of}
 use Rattle.grade.specs.Grade.{grade_at, graded_after}
-use Rattle.grade.specs.declared.Graded.TheVariants.{Refused}
+use Rattle.grade.specs.Graded.{Refused}
 
 module _ (W : Width) (ps : List ℕ) (c : ℕ) where
   pub list_refused : {v : Verdict} (k i : ℕ) → v ≡ verdicts.Refused k i → graded_after W v ps c ≡ Refused k i

@@ -6,7 +6,7 @@ use Rattle.std.specs.Float.Ieee.{to_bits}
 use Rattle.ieee.specs.Units.{magnitude, value}
 use Rattle.grade.specs.Grade.{near, other_side, grade_at}
 use Rattle.grade.proofs.Distances.{apart_none, not_apart}
-use Rattle.grade.specs.declared.Graded.TheVariants.{Exact, Nearest, Faithful, Wrong}
+use Rattle.grade.specs.Graded.{Exact, Nearest, Faithful, Wrong}
 
 -- ---- whether a float is S, as the test has it
 module _ (f : Format) (x : Float) (S : ℤ) where

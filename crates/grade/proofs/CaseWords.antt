@@ -22,7 +22,7 @@ use Rattle.grade.specs.Grade.{near, other_side, grade_at}
 use Rattle.grade.proofs.Distances.{not_apart, apart_none}
 use Rattle.grade.proofs.CaseLaws.{grade_exact, grade_missed, grade_near, grade_side, grade_off}
 use Rattle.grade.proofs.SideLaws.{near_zero, no_number}
-use Rattle.grade.specs.declared.Graded.TheVariants.{Exact, Nearest, Faithful, Wrong}
+use Rattle.grade.specs.Graded.{Exact, Nearest, Faithful, Wrong}
 use Rattle.grade.proofs.PatternLaws.{number_of, bits_of}
 use Rattle.grade.proofs.WordLaws.{near_back, nothing_left, something_left, side_is}
 

@@ -1,5 +1,5 @@
 -- Distances and orders of numbers of a format, as those of differences of naturals; and that exact is nearest, and nearest faithful. Assumes nothing.
-use Rattle.std.specs.Prelude.{◌≡◌, ◌-◌, ◌≤◌, ◌<◌, ℤ, ◌-ℤ◌, nat_abs, ◌<ℤ◌, Float}
+use Rattle.std.specs.Prelude.{◌≡◌, ◌≤◌, ℤ, ◌-ℤ◌, nat_abs, ◌<ℤ◌, Float}
 use Rattle.std.proofs.Common.{sym, ap, ◌∙◌, arith}
 use Rattle.std.specs.Float.{Format}
 use Rattle.units.specs.Whole.{◌⊖◌, ◌≈◌, ◌≺◌, mag, int, difference}

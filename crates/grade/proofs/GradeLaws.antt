@@ -19,8 +19,8 @@ use Rattle.grade.proofs.Amid.{lower_faithful, upper_faithful, amid_only}
 use Rattle.grade.proofs.CaseLaws.{grade_exact, grade_missed, grade_near, grade_side, grade_off}
 use Rattle.grade.specs.SideLaws.{Inside, far, Sides, near_below, far_below, Beside}
 use Rattle.grade.proofs.SideLaws.{beside}
-use Rattle.grade.specs.declared.Graded.{Graded}
-use Rattle.grade.specs.declared.Graded.TheVariants.{Exact, Nearest, Faithful, Wrong}
+use Rattle.grade.specs.Graded.{Graded}
+use Rattle.grade.specs.Graded.{Exact, Nearest, Faithful, Wrong}
 
 -- a zero of either sign is no units
 pub zero_value : (f : Format) (x : Float) → magnitude f x ≡ 0 → value f x ≡ pos 0

@@ -12,3 +12,4 @@ pub mod Promised
 pub mod Reordered
 pub mod SideLaws
 pub mod TableLaws
+pub mod GradedSame

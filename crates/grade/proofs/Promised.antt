@@ -13,8 +13,8 @@ use Rattle.ieee.specs.Accuracy.{FaithfulTo, NearestTo}
 use Rattle.lists.proofs.Apart.{apart}
 use Rattle.kinds.specs.Limits.{doubles}
 use Rattle.kinds.specs.Heard.{nearest_heard, nearest}
-use Rattle.kinds.specs.declared.Verdict.{Verdict}
-use Rattle.kinds.specs.declared.Verdict.TheVariants as verdicts
+use Rattle.kinds.specs.Verdict.{Verdict}
+use Rattle.kinds.specs.Verdict as verdicts
 use Rattle.judge.specs.Judge.{judged, zero_sign}
 use Rattle.judge.specs.Table.{ListWhen}
 use Rattle.judge.proofs.JudgeLaws.{list_when}
@@ -29,8 +29,8 @@ use Rattle.grade.proofs.Distances.{nearest_faithful}
 use Rattle.grade.proofs.GradeLaws.{some_grade, grade_earned, zeros_alike}
 use Rattle.grade.proofs.AnswerLaws.{list_refused, claim_graded}
 use Rattle.grade.proofs.TableLaws.{roomy_doubles}
-use Rattle.grade.specs.declared.Graded.{Graded}
-use Rattle.grade.specs.declared.Graded.TheVariants.{Wrong}
+use Rattle.grade.specs.Graded.{Graded}
+use Rattle.grade.specs.Graded.{Wrong}
 
 module _ (ps : List ℕ) (G : ListWhen doubles true true ps verdicts.Good) where
   -- the grade of a finite claim

@@ -2,8 +2,8 @@
 use Rattle.std.specs.Prelude.{◌≡◌, refl, true, ℕ}
 use mathlib.Core.List.{List, Perm}
 use Rattle.kinds.specs.Limits.{Width}
-use Rattle.kinds.specs.declared.Verdict.{Verdict}
-use Rattle.kinds.specs.declared.Verdict.TheVariants.{Good, Refused}
+use Rattle.kinds.specs.Verdict.{Verdict}
+use Rattle.kinds.specs.Verdict.{Good, Refused}
 use Rattle.judge.specs.Judge.{judged}
 use Rattle.judge.specs.Table.{Allowed}
 use Rattle.sums.proofs.Reordered.{judged_same, sum_of_reordered}

@@ -12,8 +12,8 @@ use Rattle.kinds.specs.Limits.{Width, doubles}
 use Rattle.kinds.specs.Heard.{Place, nowhere, at, Heard, refused, more, done, nearest, parts, accepted, count, rescued, tells, Row, Refusal}
 use Rattle.kinds.proofs.Hearing.{exactly, at_place_0, hears}
 use Rattle.kinds.proofs.OutcomeLaws.{same}
-use Rattle.kinds.specs.declared.Verdict.{Verdict}
-use Rattle.kinds.specs.declared.Verdict.TheVariants as verdicts
+use Rattle.kinds.specs.Verdict.{Verdict}
+use Rattle.kinds.specs.Verdict as verdicts
 use Rattle.judge.specs.Judge.{judged}
 use Rattle.judge.specs.Table as lists
 use Rattle.judge.specs.Table.{Allowed, Passed, ListWhen}
@@ -25,8 +25,8 @@ use Rattle.grade.specs.Table as table
 use Rattle.grade.specs.Table.{Earns, GradedWhen, too_many, bad_number, bad_claim, earned}
 use Rattle.grade.proofs.GradeLaws.{some_grade, grade_earned}
 use Rattle.grade.proofs.AnswerLaws.{list_refused, claim_refused, claim_graded}
-use Rattle.grade.specs.declared.Graded.{Graded}
-use Rattle.grade.specs.declared.Graded.TheVariants.{Exact, Nearest, Faithful, Wrong, Refused}
+use Rattle.grade.specs.Graded.{Graded}
+use Rattle.grade.specs.Graded.{Exact, Nearest, Faithful, Wrong, Refused}
 use Rattle.grade.specs.TableLaws.{Roomy, IsGrade}
 
 pub roomy_doubles : Roomy doubles

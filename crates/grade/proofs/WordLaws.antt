@@ -4,24 +4,21 @@ use mathlib.Core.Path.{◌≡◌, refl, sym, ap, ◌∙◌}
 use mathlib.Core.Logic.{inl, inr}
 use mathlib.Core.Bool.{Bool, true, false, cond}
 use mathlib.Core.List.{List}
-use Prim.Native.Nat.{ℕ, zero, suc, ◌+◌, ◌-◌, ◌*◌, ◌^◌, ◌≤◌, ◌<◌}
-use native.Mathlib.Nat.{zero-add, not-le_of_lt, lt_of_le_of_lt}
+use Prim.Native.Nat.{ℕ, zero, suc, ◌+◌, ◌-◌, ◌^◌, ◌≤◌, ◌<◌}
+use native.Mathlib.Nat.{not-le_of_lt, lt_of_le_of_lt}
 use native.Mathlib.Omega.{arith}
 use borrow.Author.Tests.{le-leb, lt-leb, eqb-true, eqb-false}
 use lib.Dec.{T, leb, eqb, lit<}
 use lib.IntN.{ℤ, pos, negsuc, ◌-ℤ◌, nat_abs}
 use lib.ListN.{length, get_or}
-use lib.Ieee.{Float, Format, binary64, prec, hid, top, of_bits, to_bits}
+use lib.Ieee.{Float, Format, binary64, top, of_bits, to_bits}
 use lib.Ieee.Bits.{of_bits-to_bits}
-use lib.Ieee.Nearest.{closest}
 use lib.Ieee.Scale.{finite}
 use Rattle.units.specs.Whole.{◌⊖◌, ◌≈◌, difference}
-use Rattle.units.specs.Rounding.{dropped}
 use Rattle.units.proofs.Powers.{le_or_lt}
 use Rattle.units.proofs.Integers.{mag_difference}
-use Rattle.ieee.specs.Units.{Number, magnitude, signed_whole, value, whole, sign_of, limit, rounded_bits}
-use Rattle.ieee.proofs.WrittenBits.{round_bits}
-use Rattle.ieee.proofs.Overflow.{rnd_finite, nearest_round, nearest_negative}
+use Rattle.ieee.specs.Units.{Number, magnitude, signed_whole, value, whole, sign_of, limit}
+use Rattle.ieee.proofs.Overflow.{nearest_negative}
 use Rattle.ieee.proofs.Nearest.{nearest_number}
 use Rattle.ieee.proofs.PatternBounds.{bits_units}
 use Rattle.lists.specs.Digits.{number, Digits}
@@ -81,16 +78,6 @@ module _ (p m : ℕ) where
   back (negsuc n) (pos zero) d h = refl
   back (negsuc n) (pos (suc k)) d h = refl
   back (negsuc n) (negsuc k) d h = absurd (omega arith)
-
--- ---- the nearest double's pattern, from its sign and the pattern without it
-pub near_bits : (f : Format) (S : ℤ) → nat_abs S < limit f → to_bits f (near f S) ≡ cond (sign_of false S) (top f) 0 + rounded_bits f false (nat_abs S)
-near_bits f S l =
-    ap (to_bits f) (nearest_round f false S)
-    ∙ round_bits f (sign_of false S) (nat_abs S) (rnd_finite f l)
-    ∙ ap (λ (b : ℕ). cond (sign_of false S) (top f) 0 + b) (sym (zero-add (k * hid f + closest (nat_abs S) (2 ^ k))))
-  where
-    k : ℕ
-    k = dropped (prec f) (nat_abs S)
 
 module _ (S : ℤ) (l : nat_abs S < limit binary64) {p : ℕ} (e : p ≡ to_bits binary64 (near binary64 S)) where
   abbrev f : Format

@@ -6,12 +6,12 @@ use Rattle.std.specs.Float.Ieee.Scale.{finite}
 use Rattle.ieee.specs.Units.{magnitude, value, nearest_float}
 use Rattle.kinds.specs.Limits.{Width}
 use Rattle.kinds.specs.Heard.{Heard, refused, count, place_of}
-use Rattle.kinds.specs.declared.Verdict.{Verdict}
-use Rattle.kinds.specs.declared.Verdict.TheVariants as verdicts
+use Rattle.kinds.specs.Verdict.{Verdict}
+use Rattle.kinds.specs.Verdict as verdicts
 use Rattle.judge.specs.Judge.{judged}
 use Rattle.sums.specs.Sums.{sum_of}
-use Rattle.grade.specs.declared.Graded.{Graded}
-use Rattle.grade.specs.declared.Graded.TheVariants.{Exact, Nearest, Faithful, Wrong, Refused}
+use Rattle.grade.specs.Graded.{Graded}
+use Rattle.grade.specs.Graded.{Exact, Nearest, Faithful, Wrong, Refused}
 
 -- the double nearest to S, and the pattern of the one on the other side of S: the next pattern away from zero where the nearest falls short of S, and the next
 -- one towards zero where it doesn't

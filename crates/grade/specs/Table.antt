@@ -8,8 +8,8 @@ use Rattle.kinds.specs.Limits.{Width}
 use Rattle.judge.specs.Table.{float_of, Allowed, First}
 use Rattle.sums.specs.Sums.{sum_of}
 use Rattle.grade.specs.Grade.{grade_of}
-use Rattle.grade.specs.declared.Graded.{Graded}
-use Rattle.grade.specs.declared.Graded.TheVariants.{Exact, Nearest, Faithful, Wrong, Refused}
+use Rattle.grade.specs.Graded.{Graded}
+use Rattle.grade.specs.Graded.{Exact, Nearest, Faithful, Wrong, Refused}
 
 -- the grade that a claim x of the exact sum S earns, whoever made it
 pub data Earns (f : Format) (S : ℤ) (x : Float) : Graded → Type 0 where

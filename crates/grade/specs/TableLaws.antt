@@ -1,14 +1,14 @@
 -- What the theorems of proofs/TableLaws.antt speak of. Definitions only.
 use Rattle.std.specs.Prelude.{true, List, ℕ}
 use Rattle.kinds.specs.Limits.{Width}
-use Rattle.kinds.specs.declared.Verdict.TheVariants as verdicts
+use Rattle.kinds.specs.Verdict as verdicts
 use Rattle.judge.specs.Table as lists
 use Rattle.judge.specs.Table.{ListWhen}
 use Rattle.sums.specs.Sums.{sum_of}
 use Rattle.grade.specs.Table as table
 use Rattle.grade.specs.SideLaws.{Inside}
-use Rattle.grade.specs.declared.Graded.{Graded}
-use Rattle.grade.specs.declared.Graded.TheVariants.{Exact, Nearest, Faithful, Wrong, Refused}
+use Rattle.grade.specs.Graded.{Graded}
+use Rattle.grade.specs.Graded.{Exact, Nearest, Faithful, Wrong, Refused}
 
 -- no exact sum of the width's allowed lists is beyond the largest number of its format
 pub record Roomy (W : Width) : Type 0 where

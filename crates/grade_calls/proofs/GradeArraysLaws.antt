@@ -7,8 +7,8 @@ use Rattle.kinds.specs.Outcome.{outcome}
 use Rattle.kinds.specs.Heard.{Refusal}
 use Rattle.grade.specs.Grade.{grade_of, graded_heard}
 use Rattle.grade.proofs.TableLaws.{roomy_doubles, graded_when, graded_refusal}
-use Rattle.grade.specs.declared.Graded.{Graded}
-use Rattle.grade.specs.declared.Graded.TheVariants.{Refused}
+use Rattle.grade.specs.Graded.{Graded}
+use Rattle.grade.specs.Graded.{Refused}
 use Rattle.arrays.specs.Arrays.{code_of, values_of, too_many_or_4}
 use Rattle.grade_calls.specs.GradeArrays.{grade_arrays}
 

@@ -8,7 +8,7 @@ use Rattle.kinds.proofs.OutcomeLaws.{determined}
 use Rattle.grade.specs.Grade.{grade_of, graded_heard}
 use Rattle.grade.specs.Table.{GradedWhen, too_many, bad_number, bad_claim, earned}
 use Rattle.grade.proofs.TableLaws.{roomy_doubles, graded_heard_lem, is_grade}
-use Rattle.grade.specs.declared.Graded.TheVariants.{Refused}
+use Rattle.grade.specs.Graded.{Refused}
 use Rattle.arrays.specs.Arrays.{too_many_or_4}
 use Rattle.arrays.specs.Codes.{Coded}
 use Rattle.arrays.specs.CodesLaws.{answer_in}

@@ -3,7 +3,7 @@ use Rattle.std.specs.Prelude.{◌≡◌, refl, ◌↔◌, Bool, true, false, con
 use Rattle.lists.proofs.Apart.{apart}
 use Rattle.lists.specs.Every.{every}
 use Rattle.kinds.specs.Limits.{Width}
-use Rattle.kinds.specs.declared.Verdict.TheVariants.{Good, Refused}
+use Rattle.kinds.specs.Verdict.{Good, Refused}
 use Rattle.judge.specs.Judge.{fault_of, first_fault}
 use Rattle.judge.specs.FaultlessLaws.{faultless}
 

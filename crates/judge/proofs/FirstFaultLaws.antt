@@ -7,7 +7,7 @@ use Rattle.std.specs.Float.Ieee.{of_bits}
 use Rattle.ieee.specs.Units.{Number, magnitude}
 use Rattle.lists.proofs.Front.{map_at}
 use Rattle.kinds.specs.Limits.{Width}
-use Rattle.kinds.specs.declared.Verdict.TheVariants.{Good, Refused}
+use Rattle.kinds.specs.Verdict.{Good, Refused}
 use Rattle.judge.specs.Judge.{fault_of, first_fault, floats}
 use Rattle.judge.specs.Table.{CleanBy, FirstBy, most, Clean, Allowed, First, Faulty}
 use Rattle.judge.specs.FaultLaws.{fault_0, fault_number, allowed_number}

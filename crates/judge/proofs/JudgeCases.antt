@@ -3,7 +3,7 @@ use Rattle.std.specs.Prelude.{◌≡◌, Bool, not, List, ℕ, ◌≤◌, ◌<�
 use Rattle.std.proofs.Common.{lt-ltb, le-ltb}
 use Rattle.std.specs.Float.Ieee.Bits.{is_true, is_false}
 use Rattle.kinds.specs.Limits.{Width}
-use Rattle.kinds.specs.declared.Verdict.TheVariants.{Refused}
+use Rattle.kinds.specs.Verdict.{Refused}
 use Rattle.judge.specs.Judge.{first_fault, judged}
 use Rattle.judge.specs.Table.{Passed}
 

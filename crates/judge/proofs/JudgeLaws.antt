@@ -1,12 +1,12 @@
 -- What a list is refused for, case by case, and that each verdict is given exactly when rule O6 says. Assumes nothing.
-use Rattle.std.specs.Prelude.{◌≡◌, refl, ◌⊎◌, ◌↔◌, Bool, true, false, List, ℕ, ◌≤◌, ◌<◌, T, length}
+use Rattle.std.specs.Prelude.{◌≡◌, refl, ◌⊎◌, ◌↔◌, Bool, true, false, List, ℕ, ◌≤◌, T, length}
 use Rattle.std.proofs.Common.{◌∙◌, inl, inr, arith, lit<}
 use Rattle.units.proofs.Powers.{le_or_lt}
 use Rattle.kinds.specs.Limits.{Width}
 use Rattle.kinds.specs.Heard.{Refusal}
 use Rattle.kinds.proofs.Hearing.{exactly, placed, at_place_0}
-use Rattle.kinds.specs.declared.Verdict.{Verdict}
-use Rattle.kinds.specs.declared.Verdict.TheVariants.{Good, Refused}
+use Rattle.kinds.specs.Verdict.{Verdict}
+use Rattle.kinds.specs.Verdict.{Good, Refused}
 use Rattle.judge.specs.Judge.{judged}
 use Rattle.judge.specs.Table.{Passed, Allowed, ListWhen, too_many, wrong_area, wrong_parts, bad_number, allowed}
 use Rattle.judge.proofs.FirstFaultLaws.{found, first_good, first_refused, first_number}

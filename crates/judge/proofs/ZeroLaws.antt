@@ -8,6 +8,9 @@ use mathlib.Core.List.{List, [], ◌∷◌}
 use borrow.Author.Tests.{ltb-true, lt-ltb, eqb-true, eq-eqb, ne_eqb}
 use Rattle.std.proofs.Math.Dec.{ltb, eqb}
 use Rattle.std.proofs.Math.Seq.{drop-cons}
+use Rattle.std.specs.List.{list_all}
+use Rattle.std.proofs.Common.{arith}
+use Rattle.std.proofs.lemmas.Bool.Decides.{nat_tests}
 use Rattle.std.specs.Float.Ieee.{to_bits}
 use Rattle.ieee.specs.Units.{nearest_float}
 use Rattle.ieee.proofs.Zeros.{zero_bits}
@@ -63,6 +66,23 @@ module _ (W : Width) where
       some : (z : Bool) → zero_sign W ps ≡ z → (p : ℕ) × ZeroWhen W ps p
       some true e = (_, minus ((zero_sign_lem ps).0 e))
       some false e = (_, plus ((zero_plus ps).0 e))
+
+  -- ---- every pattern looked at for the sign alone
+  pub all_minus : (ps : List ℕ) → list_all (λ p. eqb p (minus_pattern W)) ps ≡ every (eqb (minus_pattern W)) ps
+  unfolding every
+  all_minus [] = refl
+  all_minus (p ∷ ps) = rw (turned p (minus_pattern W), all_minus ps) refl
+    where
+      turned : (a b : ℕ) → eqb a b ≡ eqb b a
+      turned a b = grind (arith, nat_tests)
+
+  pub sign_of_all : (ps : List ℕ) → list_all (λ p. eqb p (minus_pattern W)) ps ≡ true → (some : Bool) → some ≡ ltb 0 (length ps) → some ≡ zero_sign W ps
+  unfolding zero_sign
+  sign_of_all ps h some e = e ∙ rw (← (all_minus ps), h) (sym (and-true (ltb 0 (length ps))))
+
+  pub sign_of_other : (ps : List ℕ) → list_all (λ p. eqb p (minus_pattern W)) ps ≡ false → false ≡ zero_sign W ps
+  unfolding zero_sign
+  sign_of_other ps h = rw (← (all_minus ps), h) (sym (and-false (ltb 0 (length ps))))
 
   -- ---- the patterns before place i were looked at, and each is that of -0
   module _ (ps : List ℕ) (i : ℕ) (L : Looked (eqb (minus_pattern W)) ps true i) where

@@ -6,7 +6,7 @@ use mathlib.Core.List.{List, [], ◌∷◌, ◌++◌, foldr}
 use native.Mathlib.Omega.{arith}
 use Rattle.std.specs.Float.Ieee.{ones, hid, top}
 use Rattle.kinds.specs.Limits.{Width}
-use Rattle.kinds.specs.declared.Verdict.TheVariants.{Good}
+use Rattle.kinds.specs.Verdict.{Good}
 use Rattle.judge.specs.Judge.{fault_of, first_fault}
 use Rattle.judge.specs.FaultLaws.{pattern_0}
 

@@ -5,8 +5,8 @@ use Rattle.std.specs.Float.Ieee.Scale.{finite}
 use Rattle.ieee.specs.Units.{magnitude}
 use Rattle.lists.specs.Every.{every}
 use Rattle.kinds.specs.Limits.{Width}
-use Rattle.kinds.specs.declared.Verdict.{Verdict}
-use Rattle.kinds.specs.declared.Verdict.TheVariants.{Good, Refused}
+use Rattle.kinds.specs.Verdict.{Verdict}
+use Rattle.kinds.specs.Verdict.{Good, Refused}
 
 -- rules R2 and R3: 2 where a pattern isn't finite, 3 where its magnitude is beyond the limit, 0 where it is allowed
 unfoldable pub fault_of : Width → ℕ → ℕ

@@ -4,8 +4,8 @@ use Rattle.std.specs.Float.Ieee.{of_bits}
 use Rattle.ieee.specs.Units.{magnitude}
 use Rattle.lists.specs.Each.{Each}
 use Rattle.kinds.specs.Limits.{Width}
-use Rattle.kinds.specs.declared.Verdict.{Verdict}
-use Rattle.kinds.specs.declared.Verdict.TheVariants.{Good, Refused}
+use Rattle.kinds.specs.Verdict.{Verdict}
+use Rattle.kinds.specs.Verdict.{Good, Refused}
 use Rattle.judge.specs.Judge.{fault_of, minus_pattern}
 
 -- the number that a pattern stands for, its magnitude in units, and the limit's

@@ -1,100 +1,86 @@
 // Which lists are allowed: the fault of one pattern, and the first refusal of a list; and the sign of a zero sum.
 #![tactic(auto)]
 
-use kinds::{Doubles, INFINITY, SIGN, Verdict};
+use kinds::{Fault, Floating, Refusal};
 
 mod greatest;
 
-ghost use Rattle.std.specs.Prelude.{◌≡◌, ◌≤◌, length};
-ghost use Rattle.kinds.specs.Limits.{doubles};
-ghost use Rattle.kinds.specs.declared.Verdict.TheVariants.{Good};
+ghost use Rattle.std.specs.Prelude.{◌≡◌, ◌≤◌, length, IfOk};
+ghost use Rattle.kinds.specs.Refusals.{fault_numbered};
+ghost use Rattle.kinds.specs.Answers.{as_verdict};
 ghost use Rattle.judge.specs.GreatestLaws.{greatest};
 ghost use Rattle.judge.specs.Judge.{fault_of, first_fault, judged, zero_sign};
 
-// The number of a pattern's fault, 0 for none: rules R2 and R3.
-pub fn fault(p: u64) -> u32
-    ensures { result ≡ fault_of doubles p }
+// Rules R2 and R3, of one number by its pattern.
+pub fn fault<F: Floating>(p: F::Pattern) -> Option<Fault>
+    ensures { fault_numbered result ≡ fault_of F.width (F.pattern p) }
 {
-    let magnitude = p % SIGN;
-    if INFINITY <= magnitude {
-        return 2;
+    let magnitude = F::word(F::unsigned(p));
+    if F::INFINITY <= magnitude {
+        return Some(Fault::NotFinite);
     }
-    if Doubles::MAGNITUDE < magnitude {
-        return 3;
+    if F::MAGNITUDE < magnitude {
+        return Some(Fault::TooLarge);
     }
-    0
+    None
 }
 
-// The first bad place, with the fault that it has. The bound on the length, which `judge` tests, is there because a place is told in 32 bits.
-fn first_fault(list: &[u64]) -> Verdict
-    requires { length list.now ≤ doubles.length }
-    ensures { result ≡ first_fault doubles list.now 0 }
+// The first bad place, with the fault that it has. The bound on the length, which `measure` tests, is there because a place is told in 32 bits.
+fn first_fault<F: Floating>(list: &[F::Pattern]) -> Result<(), Refusal>
+    requires { length list.now ≤ F.width.length }
+    ensures { as_verdict result ≡ first_fault F.width (F.patterns list.now) 0 }
 {
-    let mut place = 0;
-    while place < list.len() {
-        let k = fault(list[place]);
-        if k != 0 {
-            return Verdict::Refused(k, place as u32);
+    for (place, p) in list.iter().enumerate() {
+        if let Some(fault) = fault::<F>(*p) {
+            return Err(fault.at(place as u32));
         }
-        place += 1;
     }
-    Verdict::Good
-}
-
-// What a list is refused for, beside its greatest pattern.
-#[derive(Drop)]
-pub struct Measured {
-    pub verdict: Verdict,
-    pub greatest: u64,
-}
-
-// A verdict beside the greatest pattern, which is told of a good list alone.
-fn beside(verdict: Verdict, greatest: u64) -> Measured
-    ensures { (result.verdict ≡ verdict) × (result.greatest ≡ greatest) }
-{
-    Measured { verdict, greatest }
+    Ok(())
 }
 
 // Rule O1, with the greatest pattern of a good list: its sign taken off, so that it stands for the largest magnitude. Either fault of a number is a pattern
 // above the limit's: a NaN's and an infinity's are above every number's. A list is only read (rule A4).
-pub fn measure(list: &[u64], area: bool, parts: bool) -> Measured
-    ensures { (result.verdict ≡ judged doubles area parts list.now) × (result.verdict ≡ Good → result.greatest ≡ greatest doubles list.now) }
+pub fn measure<F: Floating>(
+    list: &[F::Pattern],
+    area: bool,
+    parts: bool,
+) -> Result<F::Pattern, Refusal>
+    ensures judged { as_verdict result ≡ judged F.width area parts (F.patterns list.now) }
+    ensures greatest { IfOk result (λ p. F.pattern p ≡ greatest F.width (F.patterns list.now)) }
 {
-    if Doubles::LENGTH < list.len() {
-        return beside(Verdict::Refused(1, 0), 0);
+    if F::LENGTH < list.len() {
+        return Err(Refusal::TooMany);
     }
     if !area {
-        return beside(Verdict::Refused(4, 0), 0);
+        return Err(Refusal::WrongLength);
     }
     if !parts {
-        return beside(Verdict::Refused(5, 0), 0);
+        return Err(Refusal::WrongParts);
     }
-    let most = greatest::greatest(list);
-    if most <= Doubles::MAGNITUDE {
-        return beside(Verdict::Good, most);
+    let most = greatest::greatest::<F>(list);
+    if F::MAGNITUDE < F::word(most) {
+        first_fault::<F>(list)?;
     }
-    beside(first_fault(list), most)
+    Ok(most)
 }
 
 // The verdict alone.
-pub fn judge(list: &[u64], area: bool, parts: bool) -> Verdict
-    ensures { result ≡ judged doubles area parts list.now }
+pub fn judge<F: Floating>(list: &[F::Pattern], area: bool, parts: bool) -> Result<(), Refusal>
+    ensures { as_verdict result ≡ judged F.width area parts (F.patterns list.now) }
 {
-    let measured = measure(list, area, parts);
-    measured.verdict
+    measure::<F>(list, area, parts)?;
+    Ok(())
 }
 
-// Rule S3: the sign of the zero that a list with exact sum zero answers, the same for the faithful sum, the nearest and the first part. The loop is left at
-// the first number that isn't -0, so that a list which doesn't begin with one costs a comparison.
-pub fn zero_sign(list: &[u64]) -> bool
-    ensures { result ≡ zero_sign doubles list.now }
+// Rule S3: the sign of the zero that a list with exact sum zero answers, the same for the faithful sum, the nearest and the first part. The look ends at the
+// first number that isn't -0, so that a list which doesn't begin with one costs a comparison.
+pub fn zero_sign<F: Floating>(list: &[F::Pattern]) -> bool
+    ensures { result ≡ zero_sign F.width (F.patterns list.now) }
 {
-    let mut at = 0;
-    while at < list.len() {
-        if list[at] != SIGN {
+    for p in list {
+        if F::word(*p) != F::SIGN {
             return false;
         }
-        at += 1;
     }
-    0 < list.len()
+    !list.is_empty()
 }

@@ -233,7 +233,7 @@ pub extern "C" fn kewohiata_pairs_nearest(a: &[u64], b: &[u64], out: &mut [u64])
     pair_calls::kewohiata_pairs_nearest(a, b, out)
 }
 
-// Opens the walk of a list, as `single_walk::open` does. The state is ten numbers.
+// Opens the walk of a list, as `walk::open` does at binary32. The state is ten numbers.
 #[unsafe(no_mangle)]
 pub extern "C" fn kewohiata_single_open(
     list: &[u32],
@@ -243,11 +243,11 @@ pub extern "C" fn kewohiata_single_open(
 ) -> u32
     ensures { returned result work.new state.new ≡ open_singles ensemble list.now work.old state.old }
 {
-    single_step_calls::kewohiata_single_open(list, work, state, ensemble)
+    step_calls::kewohiata_single_open(list, work, state, ensemble)
 }
 
-// Takes one block of a walk, as `single_walk::step` does. Numbers that are no state's are refused in the same order: 4; 21 where the eighth isn't the number named, as
-// none above 32 bits is; else 8.
+// Takes one block of a walk, as `walk::step` does at binary32. Numbers that are no state's are refused in the same order: 4; 21 where the eighth isn't the
+// number named, as none above 32 bits is; else 8.
 #[unsafe(no_mangle)]
 pub extern "C" fn kewohiata_single_step(
     state: &mut [u64],
@@ -257,21 +257,21 @@ pub extern "C" fn kewohiata_single_step(
 ) -> u32
     ensures { returned result work.new state.new ≡ step_singles state.old work.old ensemble block }
 {
-    single_step_calls::kewohiata_single_step(state, work, block, ensemble)
+    step_calls::kewohiata_single_step(state, work, block, ensemble)
 }
 
-// The faithful sum of a list, as `single_walk::faithful` has it: its pattern and the rounds.
+// The faithful sum of a list, as `walk::faithful` has it at binary32: its pattern and the rounds.
 #[unsafe(no_mangle)]
 pub extern "C" fn kewohiata_single_faithful(list: &[u32], work: &mut [f32], out: &mut [u64]) -> u32
     ensures { returned result work.new out.new ≡ faithful_singles list.now work.old out.old }
 {
-    single_sum_calls::kewohiata_single_faithful(list, work, out)
+    sum_calls::kewohiata_single_faithful(list, work, out)
 }
 
-// The nearest sum of a list, as `single_sums::nearest` has it: its pattern.
+// The nearest sum of a list, as `sums::nearest` has it at binary32: its pattern.
 #[unsafe(no_mangle)]
 pub extern "C" fn kewohiata_single_nearest(list: &[u32], out: &mut [u64]) -> u32
     ensures { outcome result out.new ≡ nearest_singles list.now out.old }
 {
-    single_sum_calls::kewohiata_single_nearest(list, out)
+    sum_calls::kewohiata_single_nearest(list, out)
 }

@@ -5,16 +5,16 @@ use Rattle.std.specs.Float.Ieee.Bits.{is_true}
 use Rattle.lists.proofs.Apart.{apart}
 use Rattle.kinds.specs.Limits.{Width}
 use Rattle.kinds.specs.Heard.{Place, Heard, refused, tells, place_of, told, Row, Refusal, step_heard, nearest_heard, parted_heard, entry_heard, sheet_heard}
-use Rattle.kinds.specs.declared.Step.{Step}
-use Rattle.kinds.specs.declared.Step.TheVariants as steps
-use Rattle.kinds.specs.declared.Nearest.{Nearest}
-use Rattle.kinds.specs.declared.Nearest.TheVariants as nearests
-use Rattle.kinds.specs.declared.Parted.{Parted}
-use Rattle.kinds.specs.declared.Parted.TheVariants as parteds
-use Rattle.kinds.specs.declared.Entry.{Entry}
-use Rattle.kinds.specs.declared.Entry.TheVariants as entries
-use Rattle.kinds.specs.declared.Sheet.{Sheet}
-use Rattle.kinds.specs.declared.Sheet.TheVariants as sheets
+use Rattle.kinds.specs.Step.{Step}
+use Rattle.kinds.specs.Step as steps
+use Rattle.kinds.specs.Nearest.{Nearest}
+use Rattle.kinds.specs.Nearest as nearests
+use Rattle.kinds.specs.Parted.{Parted}
+use Rattle.kinds.specs.Parted as parteds
+use Rattle.kinds.specs.Entry.{Entry}
+use Rattle.kinds.specs.Entry as entries
+use Rattle.kinds.specs.Sheet.{Sheet}
+use Rattle.kinds.specs.Sheet as sheets
 
 -- a table with a row for what is given, of which each row gives one thing, is read both ways
 pub exactly : {A : Type 0} (a : A) (When : A → Type 0) → ((b : A) → When b → a ≡ b) → (b : A) × When b → (b : A) → (a ≡ b) ↔ When b

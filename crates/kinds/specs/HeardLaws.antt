@@ -2,10 +2,10 @@
 use Rattle.std.specs.Prelude.{T}
 use Rattle.std.specs.Float.Ieee.{fits}
 use Rattle.kinds.specs.Limits.{Width}
-use Rattle.kinds.specs.declared.Step.{Step}
-use Rattle.kinds.specs.declared.Step.TheVariants.{More, Done, Refused}
-use Rattle.kinds.specs.declared.Nearest.{Nearest}
-use Rattle.kinds.specs.declared.Nearest.TheVariants as nearests
+use Rattle.kinds.specs.Step.{Step}
+use Rattle.kinds.specs.Step.{More, Done, Refused}
+use Rattle.kinds.specs.Nearest.{Nearest}
+use Rattle.kinds.specs.Nearest as nearests
 
 -- ---- the answers with floats
 

@@ -3,7 +3,7 @@ use Rattle.std.specs.Prelude.{◌≡◌, ℕ, ◌+◌}
 use Rattle.std.specs.Float.{Format, binary32, binary64}
 use Rattle.units.specs.Rounding.{ceil}
 use Rattle.units.specs.Walk.{rounded_up}
-use Rattle.kinds.specs.declared.Limits.{Limits}
+use Rattle.kinds.specs.declared.limits.Limits.{Limits}
 
 -- the format; how many numbers a list has at most; the pattern of the largest magnitude; how many numbers a block holds; how many parts there are at most;
 -- the pattern that bounds t and tau of a sound state, and how many rounds it has closed at most

@@ -6,8 +6,8 @@ use Rattle.kinds.specs.Outcome.{Outcome, outcome}
 use Rattle.kinds.specs.Heard.{Refusal}
 use Rattle.lanes.specs.Lanes.{Laying, lay, Settling, settling, settled, laid_heard}
 use Rattle.lanes.proofs.LanesLaws.{lay_when, lay_refusal, settle_when, settle_refusal}
-use Rattle.lanes.specs.declared.Laid.{Laid}
-use Rattle.lanes.specs.declared.Laid.TheVariants.{Counted, Refused}
+use Rattle.lanes.specs.Laid.{Laid}
+use Rattle.lanes.specs.Laid.{Counted, Refused}
 use Rattle.arrays.specs.Arrays.{code_of, values_of, returned}
 use Rattle.arrays.proofs.ArraysLaws.{heard_returned}
 use Rattle.lane_calls.specs.LaneArrays.{LaidRefusal, laid_returned, settle_returned, settle_lanes}

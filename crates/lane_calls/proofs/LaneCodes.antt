@@ -9,7 +9,7 @@ use Rattle.lanes.specs.Table.{LayWhen}
 use Rattle.lanes.specs.SettleTable as settle-rows
 use Rattle.lanes.specs.SettleTable.{SettleWhen}
 use Rattle.lanes.proofs.LanesLaws.{laid_is, lay_heard, lay_keeps, settle_heard, settle_keeps}
-use Rattle.lanes.specs.declared.Laid.TheVariants.{Refused}
+use Rattle.lanes.specs.Laid.{Refused}
 use Rattle.arrays.specs.Arrays.{code_of, values_of, returned}
 use Rattle.arrays.specs.Codes.{Coded, Left}
 use Rattle.arrays.specs.CodesLaws.{code_in}

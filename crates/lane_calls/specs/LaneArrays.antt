@@ -3,8 +3,8 @@ use Rattle.std.specs.Prelude.{◌≡◌, cond, List, ℕ, eqb, ℤ, length}
 use Rattle.kinds.specs.Limits.{doubles}
 use Rattle.kinds.specs.Heard.{Refusal}
 use Rattle.lanes.specs.Lanes.{Laying, lane_added, lane_withdrawn, settled, laid_heard}
-use Rattle.lanes.specs.declared.Laid.{Laid}
-use Rattle.lanes.specs.declared.Laid.TheVariants.{Counted, Refused}
+use Rattle.lanes.specs.Laid.{Laid}
+use Rattle.lanes.specs.Laid.{Counted, Refused}
 use Rattle.arrays.specs.Arrays.{code_of, values_of, Returned, returned}
 
 -- a refusal, if it is one, is of the table

@@ -1,27 +1,30 @@
 // A register that carries later, for C: an addition, a withdrawal, and a settling.
 #![tactic(auto)]
 
-ghost use Rattle.std.specs.Prelude.{◌≡◌, length};
+ghost use Rattle.std.specs.Prelude.{◌≡◌, ◌≤◌, IfErr, length};
+ghost use Rattle.kinds.specs.Limits.{doubles};
 ghost use Rattle.kinds.specs.Outcome.{outcome};
+ghost use Rattle.kinds.specs.Refusals.{place};
+ghost use Rattle.calls.specs.Inner.{code};
+ghost use Rattle.lanes.specs.Laid.{as_laid};
 ghost use Rattle.lanes.specs.Lanes.{laid_heard};
 ghost use Rattle.arrays.specs.Arrays.{code_of, values_of, returned};
 ghost use Rattle.lane_calls.specs.LaneArrays.{LaidRefusal, add_lanes, withdraw_lanes, settle_returned, settle_lanes};
 
-use lanes::Laid;
+use calls::{code, refusal};
+use kinds::Refusal;
 
-// The count is the one value; a refusal leaves it.
-fn answer(laid: Laid, out: &mut [u64]) -> u32
-    requires { (length out.old ≡ 1) × LaidRefusal laid }
-    ensures { outcome result out.new ≡ outcome (code_of (laid_heard laid)) (values_of (laid_heard laid) out.old) }
+// Rule C10: the count is the one value.
+const VALUES: usize = 1;
+
+// Writes the count; a refusal leaves the value.
+fn answer(laid: Result<u64, Refusal>, out: &mut [u64]) -> Result<(), Refusal>
+    requires { (length out.old ≡ 1) × LaidRefusal (as_laid laid) }
+    ensures told { IfErr result (λ refusal. place refusal ≤ doubles.length) }
+    ensures written { let heard = laid_heard (as_laid laid) in outcome (code result) out.new ≡ outcome (code_of heard) (values_of heard out.old) }
 {
-    match laid {
-        Laid::Counted(count) => {
-            let one = [count];
-            arrays::values::write(&one, out);
-            0
-        }
-        Laid::Refused(number, place) => calls::refusal(number, place),
-    }
+    out.copy_from_slice(&[laid?]);
+    Ok(())
 }
 
 // Adds one number, as `lanes::add` does: the next count.
@@ -34,10 +37,10 @@ pub extern "C" fn kewohiata_lanes_add(
 ) -> u32
     ensures { returned result lanes.new out.new ≡ add_lanes lanes.old count pattern out.old }
 {
-    if out.len() != 1 {
-        return 4;
+    if out.len() != VALUES {
+        return refusal(Refusal::WrongLength);
     }
-    answer(lanes::add(lanes, count, pattern), out)
+    code(answer(lanes::add(lanes, count, pattern), out))
 }
 
 // Takes one number out, as `lanes::withdraw` does: the next count.
@@ -50,10 +53,10 @@ pub extern "C" fn kewohiata_lanes_withdraw(
 ) -> u32
     ensures { returned result lanes.new out.new ≡ withdraw_lanes lanes.old count pattern out.old }
 {
-    if out.len() != 1 {
-        return 4;
+    if out.len() != VALUES {
+        return refusal(Refusal::WrongLength);
     }
-    answer(lanes::withdraw(lanes, count, pattern), out)
+    code(answer(lanes::withdraw(lanes, count, pattern), out))
 }
 
 // Settles the lanes and writes their words, as `lanes::settle` does: the count that starts afresh.
@@ -67,8 +70,8 @@ pub extern "C" fn kewohiata_lanes_settle(
     ensures { settle_returned result lanes.new words.new out.new
         ≡ settle_lanes lanes.old count words.old out.old }
 {
-    if out.len() != 1 {
-        return 4;
+    if out.len() != VALUES {
+        return refusal(Refusal::WrongLength);
     }
-    answer(lanes::settle(lanes, count, words), out)
+    code(answer(lanes::settle(lanes, count, words), out))
 }

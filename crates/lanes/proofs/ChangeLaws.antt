@@ -13,7 +13,7 @@ use Rattle.judge.specs.FaultLaws.{most_doubles}
 use Rattle.addend.specs.Addend.{units_of}
 use Rattle.register.specs.Entries.{Change, add, withdraw, pattern_of, change_of}
 use Rattle.register.proofs.RunLaws.{change_small}
-use Rattle.lanes.specs.declared.Laid.TheVariants.{Counted}
+use Rattle.lanes.specs.Laid.{Counted}
 use Rattle.lanes.specs.Lanes.{lane_bits, lane_count, lane_sum, most_calls, digits_of, plus_lanes, lay, lane_added, lane_withdrawn}
 use Rattle.lanes.specs.Runs.{lane_changed}
 use Rattle.lanes.proofs.SumLaws.{sum_plus, sum_digits, sum_minus}

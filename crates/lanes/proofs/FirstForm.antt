@@ -8,7 +8,7 @@ use Rattle.units.proofs.Powers.{le_or_lt}
 use Rattle.lists.specs.Digits.{inside}
 use Rattle.lists.proofs.SignedDigits.{cut_whole, whole_inside}
 use Rattle.kinds.specs.Limits.{doubles}
-use Rattle.kinds.specs.declared.Entry.TheVariants as entries
+use Rattle.kinds.specs.Entry as entries
 use Rattle.judge.specs.Judge.{fault_of}
 use Rattle.words.specs.Words.{word_bits, word_count, register_bits, whole_of, words_of}
 use Rattle.register.specs.Register.{Changed}
@@ -16,7 +16,7 @@ use Rattle.register.specs.Entries.{Change, pattern_of, change_of, changed, run, 
 use Rattle.register.proofs.EnterLaws.{enter_bad, enter_out, enter_in}
 use Rattle.register.proofs.RegisterLaws.{held_after}
 use Rattle.register.proofs.RunLaws.{change_whole, zero_whole, zeros_held}
-use Rattle.lanes.specs.declared.Laid.TheVariants.{Counted, Refused}
+use Rattle.lanes.specs.Laid.{Counted}
 use Rattle.lanes.specs.Lanes.{lane_sum, no_lanes, most_calls, roomy, Laying, settled_lanes, Settling, settling, settled, laid_heard}
 use Rattle.lanes.specs.Runs.{lane_changed, LaneRegister, begun, Act, change, settle, acted, lane_run, changes_of, NotFull, NeverFull}
 use Rattle.lanes.specs.SettleTable.{SettledTo}

@@ -10,7 +10,7 @@ use Rattle.judge.specs.Judge.{fault_of}
 use Rattle.addend.specs.Addend.{units_of}
 use Rattle.register.specs.Entries.{Change, add, withdraw, pattern_of, change_of}
 use Rattle.register.specs.Farewell.{history, stayed}
-use Rattle.lanes.specs.declared.Laid.TheVariants.{Counted}
+use Rattle.lanes.specs.Laid.{Counted}
 use Rattle.lanes.specs.Lanes.{lane_count, most_calls, digits_of, plus_lanes, laid_heard}
 use Rattle.lanes.specs.Table.{Roomy, counted}
 use Rattle.lanes.specs.Runs.{lane_changed, LaneRegister, change, acted, lane_run, AllCounted, plus_all}

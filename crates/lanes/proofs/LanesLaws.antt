@@ -12,13 +12,13 @@ use Rattle.kinds.proofs.Hearing.{exactly, at_place_0, hears}
 use Rattle.kinds.specs.Limits.{doubles}
 use Rattle.kinds.specs.Outcome.{outcome}
 use Rattle.kinds.proofs.OutcomeLaws.{same, determined}
-use Rattle.kinds.specs.declared.Verdict.{Verdict}
-use Rattle.kinds.specs.declared.Verdict.TheVariants as verdicts
+use Rattle.kinds.specs.Verdict.{Verdict}
+use Rattle.kinds.specs.Verdict as verdicts
 use Rattle.judge.specs.Judge.{fault_of}
 use Rattle.judge.specs.FaultLaws.{fault_number}
 use Rattle.words.specs.Words.{word_count, register_bits}
-use Rattle.lanes.specs.declared.Laid.{Laid}
-use Rattle.lanes.specs.declared.Laid.TheVariants.{Counted, Refused}
+use Rattle.lanes.specs.Laid.{Laid}
+use Rattle.lanes.specs.Laid.{Counted, Refused}
 use Rattle.lanes.specs.Lanes.{lane_count, lane_sum, most_calls, roomy, Laying, lay, Settling, settling, settled, laid_heard}
 use Rattle.lanes.proofs.LayLaws.{lay_long, lay_tight, lay_bad, lay_full, lay_in}
 use Rattle.lanes.proofs.LayLaws.{settled_lanes_long, settled_words_long, settled_tight, settled_out, settled_in}

@@ -14,7 +14,7 @@ use Rattle.addend.specs.Addend.{units_of}
 use Rattle.addend.specs.OppositePattern.{opposite}
 use Rattle.addend.proofs.RegisterWords.{opposite_units}
 use Rattle.register.proofs.EnterLaws.{opposite_fault}
-use Rattle.lanes.specs.declared.Laid.TheVariants.{Counted, Refused}
+use Rattle.lanes.specs.Laid.{Counted, Refused}
 use Rattle.lanes.specs.Lanes.{lane_count, lane_sum, most_calls, digits_of, plus_lanes, roomy, lay, lane_added, lane_withdrawn, settled_lanes, settling, settled}
 
 module _ (zs : List ℤ) (calls p : ℕ) (z : ℤ) where

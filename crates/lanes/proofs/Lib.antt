@@ -5,10 +5,12 @@ pub mod FirstForm
 pub mod LaneFarewell
 pub mod LanesLaws
 pub mod LayLaws
+pub mod Laying
 pub mod ListPromise
 pub mod Neighbours
 pub mod PairLaws
 pub mod Promise
+pub mod Results
 pub mod RoomLaws
 pub mod RunLaws
 pub mod SettleLaws

@@ -12,7 +12,7 @@ use Rattle.judge.specs.FaultLaws.{fault_0}
 use Rattle.addend.specs.PatternFields.{pattern_subnormal, pattern_normal}
 use Rattle.register.specs.Entries.{Change, pattern_of, change_of}
 use Rattle.register.proofs.RunLaws.{change_size}
-use Rattle.lanes.specs.declared.Laid.TheVariants.{Counted}
+use Rattle.lanes.specs.Laid.{Counted}
 use Rattle.lanes.specs.Lanes.{lane_bits, lane_count}
 use Rattle.lanes.specs.Table.{ButThree}
 use Rattle.lanes.specs.Three.{AtLane, laid_but_three}

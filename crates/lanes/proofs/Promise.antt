@@ -9,8 +9,8 @@ use Rattle.judge.specs.FaultLaws.{fault_number}
 use Rattle.words.specs.Words.{word_count, whole_of}
 use Rattle.register.specs.Entries.{Change, pattern_of, change_of, run, allowed_in, zeros}
 use Rattle.register.proofs.RunLaws.{allowed_one, allowed_rest, never_out}
-use Rattle.lanes.specs.declared.Laid.{Laid}
-use Rattle.lanes.specs.declared.Laid.TheVariants.{Counted, Refused}
+use Rattle.lanes.specs.Laid.{Laid}
+use Rattle.lanes.specs.Laid.{Counted, Refused}
 use Rattle.lanes.specs.Lanes.{most_calls, settled_lanes, settled}
 use Rattle.lanes.specs.Table.{LayWhen, counted, wrong_length, no_room, bad_number, too_many}
 use Rattle.lanes.specs.SettleTable.{SettledTo}

@@ -10,8 +10,8 @@ use Rattle.judge.specs.Judge.{fault_of}
 use Rattle.judge.specs.FaultLaws.{fault_number}
 use Rattle.words.specs.Words.{word_count}
 use Rattle.register.specs.Entries.{Change, pattern_of, change_of}
-use Rattle.lanes.specs.declared.Laid.{Laid}
-use Rattle.lanes.specs.declared.Laid.TheVariants.{Counted, Refused}
+use Rattle.lanes.specs.Laid.{Laid}
+use Rattle.lanes.specs.Laid.{Counted, Refused}
 use Rattle.lanes.specs.Lanes.{most_calls, Laying, Settling, settling, settled, laid_heard}
 use Rattle.lanes.specs.Table.{LayWhen, counted, wrong_length, no_room, bad_number, too_many}
 use Rattle.lanes.specs.SettleTable as settle-table

@@ -6,7 +6,7 @@ use Rattle.lists.specs.Digits.{inside}
 use Rattle.lists.proofs.SignedDigits.{cut_words, whole_cut}
 use Rattle.words.specs.Words.{word_bits, word_count, register_bits, whole_of, words_of}
 use Rattle.addend.specs.Addend.{Held}
-use Rattle.lanes.specs.declared.Laid.TheVariants.{Counted}
+use Rattle.lanes.specs.Laid.{Counted}
 use Rattle.lanes.specs.Lanes.{lane_bits, lane_count, low_lanes, lane_sum, settled_lanes, Settling, settling, settled}
 use Rattle.lanes.specs.Table.{Roomy}
 use Rattle.lanes.proofs.LayLaws.{settled_in}

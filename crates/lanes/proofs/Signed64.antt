@@ -1,20 +1,17 @@
--- A signed number of 64 bits, as the machine reads it back; and two comparisons of one that tell its magnitude. Assumes nothing.
-use mathlib.Core.Path.{◌≡◌, refl, sym, ap, ◌∙◌}
-use mathlib.Core.Bool.{Bool, true, false, cond, ◌&&◌, and-true}
-use mathlib.Core.Logic.{inl, inr}
+-- A signed number of 64 bits, as the machine reads it back. Assumes nothing.
+use mathlib.Core.Path.{◌≡◌, refl, ap, ◌∙◌}
+use mathlib.Core.Bool.{Bool, true, false, cond}
 use Prim.Native.Nat.{ℕ, zero, suc, ◌+◌, ◌-◌, ◌*◌, ◌/◌, ◌%◌, ◌^◌, ◌≤◌, ◌<◌}
 use native.Mathlib.Nat.{mod-lt, div-add-mod', mod-eq_of_lt, add-mul-mod_self_right}
 use native.Mathlib.Omega.{arith}
 use borrow.Author.Rules.{sfits_of}
-use borrow.Author.Tests.{le-leb, lt-leb, le-ltb, lt-ltb}
-use lib.Dec.{leb, ltb, leb-suc-suc}
+use lib.Dec.{ltb}
 use lib.IntN.{ℤ, pos, negsuc, neg_ℤ, nat_abs}
-use lib.Signed.{mag, le_z, lt_z}
+use lib.Signed.{mag}
 use mir.Syntax.{w64}
 use mir.Val.{to_z, of_z}
 use mir.ValLaws.{to_z-of_z}
-use Rattle.units.proofs.Powers.{le_or_lt}
-use Rattle.lists.specs.Digits.{residue, inside}
+use Rattle.lists.specs.Digits.{residue}
 use Rattle.lanes.specs.Three.{with_sign}
 
 pub mag_abs : (z : ℤ) → mag z ≤ nat_abs z
@@ -42,24 +39,6 @@ sign_abs p d = by (ltb p (2 ^ 63))
 
 pub sign_back : (r : ℤ) (p d : ℕ) → r ≡ with_sign p d → d < 2 ^ 32 → to_z w64 (of_z w64 r) ≡ with_sign p d
 sign_back r p d e h = rw e (back (with_sign p d) (omega (arith, sign_abs p d)))
-
-pub sign_room : (r : ℤ) (p d : ℕ) → r ≡ with_sign p d → d < 2 ^ 32 → nat_abs (to_z w64 (of_z w64 r)) ≤ 2 ^ 32
-sign_room r p d e h = rw (sign_back r p d e h) (omega (arith, (sign_abs p d).1))
-
--- compared with both ends, neither of which is beyond 64 bits
-pub between : (z : ℤ) (m : ℕ) → (le_z (neg_ℤ (pos m)) z && le_z z (pos m)) ≡ leb (nat_abs z) m
-between (pos n) zero = rw (le-leb 0 n (omega arith))
-between (pos n) (suc m) = refl
-between (negsuc n) zero = sym (lt-leb (suc n) 0 (omega arith))
-between (negsuc n) (suc m) = and-true (leb n m) ∙ sym (leb-suc-suc n m)
-
--- from -2^31 to below 2^31
-pub inside_top : (t : ℤ) → (le_z (negsuc (2 ^ 31 - 1)) t && lt_z t (pos (2 ^ 31))) ≡ inside 32 t
-inside_top (pos n) = refl
-inside_top (negsuc n) = elim (le_or_lt (2 ^ 31) n) [
-  | inl h ↦ rw (lt-leb n (2 ^ 31 - 1) (omega arith), le-ltb n (2 ^ 31) h)
-  | inr h ↦ rw (le-leb n (2 ^ 31 - 1) (omega arith), lt-ltb n (2 ^ 31) h)
-]
 
 -- the lowest 32 of 64 bits
 pub low_bits : (z : ℤ) → mag z < 2 ^ 63 → of_z w64 z % 2 ^ 32 ≡ residue 32 z

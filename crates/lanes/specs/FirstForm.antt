@@ -1,6 +1,5 @@
 -- What the theorems of proofs/FirstForm.antt speak of. Definitions only.
 use Rattle.std.specs.Prelude.{◌≡◌, List, ℕ}
-use Rattle.kinds.specs.declared.Entry.TheVariants as entries
 use Rattle.words.specs.Words.{whole_of}
 use Rattle.addend.specs.Addend.{Held}
 use Rattle.lanes.specs.Lanes.{lane_sum}

@@ -1,5 +1,5 @@
 -- What the theorems of proofs/LaneFarewell.antt speak of. Definitions only.
-use Rattle.std.specs.Prelude.{List, ◌∷◌, ◌++◌, ◌+◌}
+use Rattle.std.specs.Prelude.{List, ◌∷◌, ◌++◌}
 use Rattle.register.specs.Entries.{Change}
 
 -- ---- a comes after xs, its opposite b after ys, and ws follow

@@ -9,8 +9,8 @@ use Rattle.kinds.specs.Heard.{Heard, refused, count, place_of}
 use Rattle.judge.specs.Judge.{fault_of}
 use Rattle.words.specs.Words.{word_count, register_bits, words_of}
 use Rattle.addend.specs.Addend.{units_of}
-use Rattle.lanes.specs.declared.Laid.{Laid}
-use Rattle.lanes.specs.declared.Laid.TheVariants.{Counted, Refused}
+use Rattle.lanes.specs.Laid.{Laid}
+use Rattle.lanes.specs.Laid.{Counted, Refused}
 
 -- ---- rule N1: 66 lanes of 32 bits each, and the whole number that they stand for
 abbrev pub lane_count : ℕ

@@ -1,4 +1,5 @@
 -- A register that carries later. Definitions first, then laws.
+pub mod Laid
 pub mod Lanes
 pub mod Limits
 pub mod Settle

@@ -3,7 +3,6 @@ use Rattle.std.specs.Prelude.{◌≡◌, length}
 use Rattle.words.specs.Words.{word_count}
 use Rattle.lanes.specs.Lanes.{lane_count}
 use Rattle.lanes.specs.Table.{Roomy}
-use Rattle.lanes.specs.SettleTable as settle-table
 use Rattle.lanes.specs.Runs.{LaneRegister}
 
 -- ---- lanes and words of the right lengths, and room

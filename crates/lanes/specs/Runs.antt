@@ -2,8 +2,8 @@
 use Rattle.std.specs.Prelude.{◌≡◌, List, [], ◌∷◌, ℕ, ◌+◌, ℤ}
 use Rattle.kinds.specs.Heard.{nowhere, refused, count}
 use Rattle.register.specs.Entries.{Change, pattern_of, change_of}
-use Rattle.lanes.specs.declared.Laid.{Laid}
-use Rattle.lanes.specs.declared.Laid.TheVariants.{Counted, Refused}
+use Rattle.lanes.specs.Laid.{Laid}
+use Rattle.lanes.specs.Laid.{Counted, Refused}
 use Rattle.lanes.specs.Lanes.{no_lanes, digits_of, plus_lanes, Laying, lay, settled, laid_heard}
 
 -- one call: `lane_added` or `lane_withdrawn`, of its pattern

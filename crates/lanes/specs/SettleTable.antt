@@ -3,8 +3,8 @@ use Rattle.std.specs.Prelude.{◌≡◌, true, false, List, ℕ, ℤ, length}
 use Rattle.lists.specs.Digits.{inside}
 use Rattle.kinds.specs.Heard.{count}
 use Rattle.words.specs.Words.{word_count, register_bits, words_of}
-use Rattle.lanes.specs.declared.Laid.{Laid}
-use Rattle.lanes.specs.declared.Laid.TheVariants.{Counted, Refused}
+use Rattle.lanes.specs.Laid.{Laid}
+use Rattle.lanes.specs.Laid.{Counted, Refused}
 use Rattle.lanes.specs.Lanes.{lane_count, lane_sum, settled_lanes, Settling, laid_heard}
 use Rattle.lanes.specs.Table.{Roomy}
 

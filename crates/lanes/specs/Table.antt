@@ -3,8 +3,8 @@ use Rattle.std.specs.Prelude.{◌≡◌, List, ℕ, ◌+◌, ◌^◌, ◌≤◌,
 use Rattle.lists.specs.Each.{Each}
 use Rattle.kinds.specs.Limits.{doubles}
 use Rattle.judge.specs.Judge.{fault_of}
-use Rattle.lanes.specs.declared.Laid.{Laid}
-use Rattle.lanes.specs.declared.Laid.TheVariants.{Counted, Refused}
+use Rattle.lanes.specs.Laid.{Laid}
+use Rattle.lanes.specs.Laid.{Counted, Refused}
 use Rattle.lanes.specs.Lanes.{lane_bits, lane_count, most_calls, lane_limit, digits_of, plus_lanes}
 
 -- what one call puts into a lane

@@ -14,11 +14,9 @@ pub fn top(lanes: &[i64]) -> i64
     requires { (length lanes.now ≡ lane_count) × Roomy most_calls lanes.now }
     ensures { result ≡ top_lane lanes.now }
 {
-    let mut carry = 0i64;
-    let mut i = 0;
-    while i < TOP {
+    let mut carry = 0;
+    for i in 0..TOP {
         carry = lane::handed_on(lane::plus(lanes[i], carry));
-        i += 1;
     }
     lane::plus(lanes[TOP], carry)
 }
@@ -28,15 +26,11 @@ pub fn carry(lanes: &mut [i64])
     requires { (length lanes.old ≡ lane_count) × Roomy most_calls lanes.old }
     ensures { lanes.new ≡ map pos (lane_digits (pos 0) (take low_lanes lanes.old)) ++ (top_lane lanes.old ∷ []) }
 {
-    let mut carry = 0i64;
-    let mut i = 0;
-    while i < TOP {
+    let mut carry = 0;
+    for i in 0..TOP {
         let sum = lane::plus(lanes[i], carry);
-        let digit = lane::rest(sum);
-        lanes[i] = digit;
+        lanes[i] = lane::rest(sum);
         carry = lane::handed_on(sum);
-        i += 1;
     }
-    let sum = lane::plus(lanes[TOP], carry);
-    lanes[TOP] = sum;
+    lanes[TOP] = lane::plus(lanes[TOP], carry);
 }

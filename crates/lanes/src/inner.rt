@@ -47,8 +47,7 @@ fn put(lanes: &mut [i64], k: usize, d: i64)
     requires { (k < length lanes.old) × (nat_abs (get_or lanes.old k (pos 0)) ≤ lane_limit most_calls) × (nat_abs d ≤ 2 ^ lane_bits) }
     ensures { lanes.new ≡ put lanes.old k d }
 {
-    let sum = plus(lanes[k], d);
-    lanes[k] = sum;
+    lanes[k] = plus(lanes[k], d);
 }
 
 // A NaN or an infinity has no units; the lanes have to be there, and none beyond what the last call may leave.
@@ -56,7 +55,7 @@ pub fn add(lanes: &mut [i64], p: u64)
     requires { (length lanes.old ≡ lane_count) × Roomy most_calls lanes.old × T (finite (of_bits doubles.format p)) }
     ensures { lanes.new ≡ plus_lanes lanes.old (digits_of (units_of doubles p)) }
 {
-    let number = scaled(p);
+    let number = scaled::<f64>(p);
     let at = shifted(number.significand, number.by);
     let k = at.lane;
     put(lanes, k, with_sign(p, at.low));

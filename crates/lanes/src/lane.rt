@@ -73,5 +73,5 @@ pub fn digit(t: i64) -> u64
 pub fn fits(t: i64) -> bool
     ensures { result ≡ inside lane_bits t }
 {
-    (-HALF <= t) & (t < HALF)
+    (-HALF..HALF).contains(&t)
 }

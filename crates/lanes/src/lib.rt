@@ -1,6 +1,7 @@
 // A register that carries later: 66 lent lanes, each a signed number of 64 bits that stands for 32 bits of the unit count.
 #![tactic(auto)]
 
+use kinds::Refusal;
 use words::WORDS;
 
 mod carries;
@@ -12,6 +13,7 @@ mod room;
 ghost use Rattle.std.specs.Prelude.{◌≡◌, ◌≤◌};
 ghost use Rattle.kinds.specs.Outcome.{outcome};
 ghost use Rattle.lanes.specs.Lanes.{most_calls, lane_limit, lane_added, lane_withdrawn, settling, settled};
+ghost use Rattle.lanes.specs.Laid.{as_laid};
 ghost use Rattle.lanes.specs.Limits.{LanesTied};
 
 // Lanes, by the additions and withdrawals that they have taken since they were settled. Their limits are constants of this type.
@@ -63,57 +65,48 @@ impl Lanes {
     }
 }
 
-// What a call on lanes answers: how many additions and withdrawals they have taken since they were settled.
-#[derive(Drop)]
-pub enum Laid {
-    Counted(u64),
-    Refused(u32, u32),
-}
-
-// Adds one allowed number to lanes that have taken so many calls: rules N3 and O13.
-pub fn add(lanes: &mut [i64], count: u64, p: u64) -> Laid
-    ensures { outcome result lanes.new ≡ lane_added lanes.old count p }
+// Adds one allowed number to lanes that have taken so many calls: rules N3 and O13. It gives how many they have taken then.
+#[tactic(auto, unfolding(crate::specs::Lanes::lay), using(crate::proofs::Laying::adding))]
+pub fn add(lanes: &mut [i64], count: u64, p: u64) -> Result<u64, Refusal>
+    ensures { outcome (as_laid result) lanes.new ≡ lane_added lanes.old count p }
 {
-    let fault = judge::fault(p);
     if lanes.len() != Lanes::LENGTH {
-        return Laid::Refused(4, 0);
+        return Err(Refusal::WrongLength);
     }
     if !room::roomy(lanes, count) {
-        return Laid::Refused(25, 0);
+        return Err(Refusal::NoRoom);
     }
-    if fault != 0 {
-        return Laid::Refused(fault, 0);
+    if let Some(fault) = judge::fault::<f64>(p) {
+        return Err(fault.at(0));
     }
     if count == Lanes::CALLS {
-        return Laid::Refused(24, 0);
+        return Err(Refusal::TooManyCalls);
     }
     inner::add(lanes, p);
-    Laid::Counted(count + 1)
+    Ok(count + 1)
 }
 
 // Takes one allowed number out, with the same refusals: it adds the opposite number.
-pub fn withdraw(lanes: &mut [i64], count: u64, p: u64) -> Laid
-    ensures { outcome result lanes.new ≡ lane_withdrawn lanes.old count p }
+pub fn withdraw(lanes: &mut [i64], count: u64, p: u64) -> Result<u64, Refusal>
+    ensures { outcome (as_laid result) lanes.new ≡ lane_withdrawn lanes.old count p }
 {
     add(lanes, count, addend::opposite(p))
 }
 
 // Settles lanes that have taken so many calls, and writes their words: rules N5 and O14. The count starts afresh.
-pub fn settle(lanes: &mut [i64], count: u64, words: &mut [u64]) -> Laid
-    ensures { settling result lanes.new words.new ≡ settled lanes.old count words.old }
+#[tactic(auto, unfolding(crate::specs::Lanes::settled), using(crate::proofs::Laying::settling))]
+pub fn settle(lanes: &mut [i64], count: u64, words: &mut [u64]) -> Result<u64, Refusal>
+    ensures { settling (as_laid result) lanes.new words.new ≡ settled lanes.old count words.old }
 {
-    if lanes.len() != Lanes::LENGTH {
-        return Laid::Refused(4, 0);
-    }
-    if words.len() != WORDS {
-        return Laid::Refused(4, 0);
+    if lanes.len() != Lanes::LENGTH || words.len() != WORDS {
+        return Err(Refusal::WrongLength);
     }
     if !room::roomy(lanes, count) {
-        return Laid::Refused(25, 0);
+        return Err(Refusal::NoRoom);
     }
     if !lane::fits(carries::top(lanes)) {
-        return Laid::Refused(9, 0);
+        return Err(Refusal::RegisterFull);
     }
     inner::settle(lanes, words);
-    Laid::Counted(0)
+    Ok(0)
 }

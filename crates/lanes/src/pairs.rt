@@ -20,10 +20,7 @@ pub fn write(lanes: &[i64], words: &mut [u64])
     requires { (length lanes.now ≡ lane_count) × (length words.old ≡ word_count) }
     ensures { words.new ≡ pairs (map lane_digit lanes.now) }
 {
-    let mut i = 0;
-    while i < WORDS {
-        let pair = word(lanes[2 * i], lanes[2 * i + 1]);
-        words[i] = pair;
-        i += 1;
+    for (i, pair) in words.iter_mut().enumerate() {
+        *pair = word(lanes[2 * i], lanes[2 * i + 1]);
     }
 }

@@ -12,20 +12,16 @@ pub fn all_within(lanes: &[i64], limit: u64) -> bool
     ensures { result ≡ every (λ z. leb (nat_abs z) limit) lanes.now }
 {
     let mut good = true;
-    let mut i = 0;
-    while i < lanes.len() {
-        good = good & within(lanes[i], limit);
-        i += 1;
+    for lane in lanes {
+        good &= within(*lane, limit);
     }
     good
 }
 
 // Rule R25, of lanes whose length the caller has looked at or will.
+#[tactic(auto, unfolding(crate::specs::Lanes::roomy))]
 pub fn roomy(lanes: &[i64], count: u64) -> bool
     ensures { result ≡ roomy count lanes.now }
 {
-    if Lanes::CALLS < count {
-        return false;
-    }
-    all_within(lanes, Lanes::after(count).limit())
+    count <= Lanes::CALLS && all_within(lanes, Lanes::after(count).limit())
 }

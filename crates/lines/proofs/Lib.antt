@@ -2,5 +2,6 @@
 pub mod Instances
 pub mod LineLaws
 pub mod LinesLaws
+pub mod Places
 pub mod SheetAlone
 pub mod SumLaws

@@ -5,8 +5,11 @@ use Rattle.std.proofs.Common.{◌∙◌, arith, length-append}
 use Rattle.kinds.specs.Limits.{doubles}
 use Rattle.kinds.specs.Heard.{Refusal, place_of, tells}
 use Rattle.numerals.specs.Numerals.{decimal_of, hex_of, capitals_of}
+use Rattle.numerals.specs.Put.{Put}
+use Rattle.numerals.specs.declared.Text.{Text}
 use Rattle.numerals.proofs.NumeralLaws.{decimal_length}
-use Rattle.lines.specs.Lines.{refused_word, at_word, line_end, count_line, faithful_line, refused_line}
+use Rattle.numerals.proofs.TextLaws.{put_room}
+use Rattle.lines.specs.Lines.{refused_word, at_word, line_end, count_line, faithful_line, refused_line, longest}
 
 pub hex_length : (p : ℕ) → length (hex_of p) ≡ 16
 unfolding capitals_of
@@ -30,6 +33,14 @@ rounds_length rounds h = decimal_length 1 rounds (omega arith)
 -- a refusal's number or place
 pub word_length : (k : ℕ) → k < 2 ^ 32 → length (decimal_of k) ≤ 10
 word_length k h = decimal_length 9 k (omega arith)
+
+-- any word of 64 bits, and the room behind a refusal's in an area for the longest lines
+pub wide_length : (n : ℕ) → n < 2 ^ 64 → length (decimal_of n) ≤ 20
+wide_length n h = decimal_length 19 n (omega arith)
+
+pub numbered_room : {n : ℕ} {t u : Text} → n < 2 ^ 64 → t.end + longest ≤ length t.area.now → Put (refused_word ++ decimal_of n) t u
+    → u.end + 44 ≤ length u.area.now
+numbered_room {n} h room P = put_room 44 (omega (arith, wide_length n h)) P
 
 -- ---- a refusal's place
 module _ {k p : ℕ} (R : Refusal doubles.length k p) where

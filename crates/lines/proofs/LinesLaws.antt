@@ -6,8 +6,8 @@ use Rattle.std.proofs.Math.ListN.{drop}
 use Rattle.kinds.specs.Limits.{doubles}
 use Rattle.kinds.specs.Outcome.{outcome}
 use Rattle.kinds.specs.Heard.{Refusal, place_of}
-use Rattle.kinds.specs.declared.Sheet.{Sheet}
-use Rattle.kinds.specs.declared.Sheet.TheVariants.{Read, Refused}
+use Rattle.kinds.specs.Sheet.{Sheet}
+use Rattle.kinds.specs.Sheet.{Read, Refused}
 use Rattle.octets.specs.Octets.{big}
 use Rattle.octets.proofs.EightsLaws.{eights_length}
 use Rattle.sheet.specs.Sheet.{Reading, count_of, patterns_of, read_of}

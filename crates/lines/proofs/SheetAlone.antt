@@ -6,12 +6,12 @@ use mathlib.Core.List.{List, ◌++◌}
 use Rattle.std.proofs.Math.ListN.{length, take, drop}
 use Rattle.std.proofs.Math.Seq.{length-take-le}
 use Rattle.kinds.specs.Limits.{doubles, blocks_of}
-use Rattle.kinds.specs.declared.Sheet.{Sheet}
-use Rattle.kinds.specs.declared.Sheet.TheVariants.{Read, Refused}
-use Rattle.kinds.specs.declared.Verdict.{Verdict}
-use Rattle.kinds.specs.declared.Verdict.TheVariants as verdicts
-use Rattle.kinds.specs.declared.Step.{Step}
-use Rattle.kinds.specs.declared.Step.TheVariants as steps
+use Rattle.kinds.specs.Sheet.{Sheet}
+use Rattle.kinds.specs.Sheet.{Read, Refused}
+use Rattle.kinds.specs.Verdict.{Verdict}
+use Rattle.kinds.specs.Verdict as verdicts
+use Rattle.kinds.specs.Step.{Step}
+use Rattle.kinds.specs.Step as steps
 use Rattle.judge.specs.Judge.{judged}
 use Rattle.sheet.specs.Sheet.{read_of}
 use Rattle.sheet.specs.Table.{SheetWhen, no_header, other_version, too_many, too_short, too_long, no_room, all_read}

@@ -3,9 +3,9 @@ use Rattle.std.specs.Prelude.{◌≡◌, List, [], ◌++◌, ℕ, length, Float}
 use Rattle.std.specs.Float.Ieee.{to_bits}
 use Rattle.kinds.specs.Limits.{doubles}
 use Rattle.kinds.specs.Heard.{place_of}
-use Rattle.kinds.specs.declared.State.{State}
-use Rattle.kinds.specs.declared.Step.TheVariants as steps
-use Rattle.kinds.specs.declared.Nearest.TheVariants as nearests
+use Rattle.kinds.specs.State.{State}
+use Rattle.kinds.specs.Step as steps
+use Rattle.kinds.specs.Nearest as nearests
 use Rattle.walk.specs.Walk.{faithful_of}
 use Rattle.sums.specs.Sums.{nearest_of}
 use Rattle.lines.specs.Lines.{count_line, faithful_line, nearest_line, refused_line, sum_lines, list_lines}

@@ -1,3 +1,4 @@
 -- What the sheet program prints.
 pub mod Lines
+pub mod Told
 pub mod Instances

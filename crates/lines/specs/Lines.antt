@@ -3,12 +3,12 @@ use Rattle.std.specs.Prelude.{List, [], ◌∷◌, ◌++◌, ℕ, length, take, 
 use Rattle.std.specs.Float.Ieee.{to_bits}
 use Rattle.kinds.specs.Limits.{doubles}
 use Rattle.kinds.specs.Heard.{Place, nowhere, at, place_of}
-use Rattle.kinds.specs.declared.Step.{Step}
-use Rattle.kinds.specs.declared.Step.TheVariants as steps
-use Rattle.kinds.specs.declared.Nearest.{Nearest}
-use Rattle.kinds.specs.declared.Nearest.TheVariants as nearests
-use Rattle.kinds.specs.declared.Sheet.{Sheet}
-use Rattle.kinds.specs.declared.Sheet.TheVariants as sheets
+use Rattle.kinds.specs.Step.{Step}
+use Rattle.kinds.specs.Step as steps
+use Rattle.kinds.specs.Nearest.{Nearest}
+use Rattle.kinds.specs.Nearest as nearests
+use Rattle.kinds.specs.Sheet.{Sheet}
+use Rattle.kinds.specs.Sheet as sheets
 use Rattle.sheet.specs.Sheet.{read_of}
 use Rattle.walk.specs.Walk.{faithful_of}
 use Rattle.sums.specs.Sums.{nearest_of}

@@ -1,35 +1,39 @@
 // What the sheet program prints: the lines of a sheet, made in a lent area.
 #![tactic(auto)]
 
-use kinds::{Nearest, Sheet, Step};
+use kinds::Refusal;
+use numerals::Text;
+use walk::Sum;
 
 mod line;
 
-ghost use Rattle.std.specs.Prelude.{◌≡◌, ◌≤◌, length};
+ghost use Rattle.std.specs.Prelude.{◌≡◌, ◌+◌, ◌≤◌, length};
 ghost use Rattle.kinds.specs.Limits.{doubles};
 ghost use Rattle.walk.specs.Walk.{faithful_of};
-ghost use Rattle.numerals.specs.Text.{Placed};
+ghost use Rattle.numerals.specs.Put.{Put};
+ghost use Rattle.lines.specs.Told.{Told};
 ghost use Rattle.lines.specs.Lines.{list_lines, printed, lines_of, longest};
 
-// Of a list: its three lines, or the line of its refusal. The undivided call answers no state.
-fn summed(list: &[u64], work: &mut [f64], text: &mut [u8]) -> usize
-    requires { (length list.now ≤ doubles.length) × (longest ≤ length text.old) }
+// The three lines of a list that is accepted.
+fn accepted(list: &[u64], work: &mut [f64], text: &mut Text) -> Result<(), Refusal>
+    requires { (length list.now ≤ doubles.length) × (text.old.end + longest ≤ length text.old.area.now) }
     ensures left { work.new ≡ (faithful_of doubles list.now work.old).area }
-    ensures lines { Placed (list_lines list.now work.old) 0 text.old result text.new }
+    ensures lines { Told (list_lines list.now work.old) result text.old text.new }
 {
-    match walk::faithful(list, work) {
-        Step::More(_, _) => 0,
-        Step::Refused(k, place) => line::refused(text, k, place),
-        Step::Done(sum, rounds) => match sums::nearest(list) {
-            Nearest::Refused(k, place) => line::refused(text, k, place),
-            Nearest::Sum(near) => line::three(
-                text,
-                list.len(),
-                f64::to_bits(sum),
-                rounds,
-                f64::to_bits(near),
-            ),
-        },
+    let Sum { sum, rounds } = walk::faithful::<f64>(list, work)?;
+    let near = sums::nearest::<f64>(list)?;
+    line::three(text, list.len(), sum.to_bits(), rounds, near.to_bits());
+    Ok(())
+}
+
+// Of a list: its three lines, or the line of its refusal.
+fn summed(list: &[u64], work: &mut [f64], text: &mut Text)
+    requires { (length list.now ≤ doubles.length) × (text.old.end + longest ≤ length text.old.area.now) }
+    ensures left { work.new ≡ (faithful_of doubles list.now work.old).area }
+    ensures lines { Put (list_lines list.now work.old) text.old text.new }
+{
+    if let Err(refusal) = accepted(list, work, text) {
+        line::refused(text, refusal);
     }
 }
 
@@ -43,8 +47,10 @@ pub fn lines(sheet: &[u8], numbers: &mut [u64], work: &mut [f64], text: &mut [u8
     ensures { printed result numbers.new work.new text.new
         ≡ lines_of sheet.now numbers.old work.old text.old }
 {
+    let mut out = Text::new(text);
     match sheet::read(sheet, numbers) {
-        Sheet::Refused(k, place) => line::refused(text, k, place),
-        Sheet::Read(n) => summed(&numbers[0..n], &mut work[0..n], text),
+        Ok(n) => summed(&numbers[0..n], &mut work[0..n], &mut out),
+        Err(refusal) => line::refused(&mut out, refusal),
     }
+    out.end
 }

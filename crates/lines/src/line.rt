@@ -1,61 +1,59 @@
 // The lines, each put behind a text.
 ghost use Rattle.std.specs.Prelude.{◌≡◌, ◌++◌, suc, ◌+◌, ◌≤◌, length};
 ghost use Rattle.kinds.specs.Limits.{doubles};
-ghost use Rattle.kinds.specs.Heard.{Refusal, place_of};
-ghost use Rattle.numerals.specs.Text.{Placed};
+ghost use Rattle.kinds.specs.Heard.{place_of};
+ghost use Rattle.kinds.specs.Refusals.{number, place};
+ghost use Rattle.numerals.specs.Put.{Put};
 ghost use Rattle.numerals.specs.Numerals.{decimal_of};
 ghost use Rattle.lines.specs.Lines.{count_line, faithful_line, nearest_line, refused_line, longest};
 
-use kinds::tells;
-use numerals::{decimal, pattern, put};
+use kinds::Refusal;
+use numerals::Text;
 
 // `count 3`
-pub fn count(text: &mut [u8], end: usize, n: usize) -> usize
-    requires { end + 7 + length (decimal_of n) ≤ length text.old }
-    ensures { Placed (count_line n) end text.old result text.new }
+pub fn count(text: &mut Text, n: usize)
+    requires { text.old.end + 7 + length (decimal_of n) ≤ length text.old.area.now }
+    ensures { Put (count_line n) text.old text.new }
 {
-    let counted = decimal(text, end, b"count ", n as u64);
-    put(text, counted, b"\n")
+    text.decimal(b"count ", n as u64).put(b"\n");
 }
 
 // `faithful 3FF0000000000000 rounds 2`
-pub fn faithful(text: &mut [u8], end: usize, p: u64, rounds: u32) -> usize
-    requires { end + 34 + length (decimal_of rounds) ≤ length text.old }
-    ensures { Placed (faithful_line p rounds) end text.old result text.new }
+pub fn faithful(text: &mut Text, p: u64, rounds: u32)
+    requires { text.old.end + 34 + length (decimal_of rounds) ≤ length text.old.area.now }
+    ensures { Put (faithful_line p rounds) text.old text.new }
 {
-    let summed = pattern(text, end, b"faithful ", p);
-    let counted = decimal(text, summed, b" rounds ", rounds as u64);
-    put(text, counted, b"\n")
+    text.pattern(b"faithful ", p)
+        .decimal(b" rounds ", u64::from(rounds))
+        .put(b"\n");
 }
 
 // `nearest 3FF0000000000000`
-pub fn nearest(text: &mut [u8], end: usize, p: u64) -> usize
-    requires { end + 25 ≤ length text.old }
-    ensures { Placed (nearest_line p) end text.old result text.new }
+pub fn nearest(text: &mut Text, p: u64)
+    requires { text.old.end + 25 ≤ length text.old.area.now }
+    ensures { Put (nearest_line p) text.old text.new }
 {
-    let summed = pattern(text, end, b"nearest ", p);
-    put(text, summed, b"\n")
+    text.pattern(b"nearest ", p).put(b"\n");
 }
 
-// The three lines of a list that was summed, at the start of the text.
-pub fn three(text: &mut [u8], n: usize, sum: u64, rounds: u32, near: u64) -> usize
-    requires { (n ≤ doubles.length) × (rounds ≤ suc doubles.rounds) × (longest ≤ length text.old) }
-    ensures { Placed (count_line n ++ faithful_line sum rounds ++ nearest_line near) 0 text.old result text.new }
+// The three lines of a list that was summed.
+pub fn three(text: &mut Text, n: usize, sum: u64, rounds: u32, near: u64)
+    requires { (n ≤ doubles.length) × (rounds ≤ suc doubles.rounds) × (text.old.end + longest ≤ length text.old.area.now) }
+    ensures { Put (count_line n ++ faithful_line sum rounds ++ nearest_line near) text.old text.new }
 {
-    let counted = count(text, 0, n);
-    let summed = faithful(text, counted, sum, rounds);
-    nearest(text, summed, near)
+    count(text, n);
+    faithful(text, sum, rounds);
+    nearest(text, near);
 }
 
-// `refused 3 at 1` or `refused 11`, at the start of the text
-pub fn refused(text: &mut [u8], k: u32, place: u32) -> usize
-    requires { Refusal doubles.length k place × (longest ≤ length text.old) }
-    ensures { Placed (refused_line k (place_of k place)) 0 text.old result text.new }
+// `refused 3 at 1` or `refused 11`
+pub fn refused(text: &mut Text, refusal: Refusal)
+    requires { text.old.end + longest ≤ length text.old.area.now }
+    ensures { Put (refused_line (number refusal) (place_of (number refusal) (place refusal))) text.old text.new }
 {
-    let numbered = decimal(text, 0, b"refused ", k as u64);
-    if tells(k) {
-        let told = decimal(text, numbered, b" at ", place as u64);
-        return put(text, told, b"\n");
-    }
-    put(text, numbered, b"\n")
+    let numbered = text.decimal(b"refused ", u64::from(refusal.number()));
+    match refusal.place() {
+        Some(place) => numbered.decimal(b" at ", u64::from(place)).put(b"\n"),
+        None => numbered.put(b"\n"),
+    };
 }

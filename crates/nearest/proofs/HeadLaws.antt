@@ -1,6 +1,6 @@
 -- The head of a number of words, from its upper words. Assumes nothing.
 use Rattle.std.specs.Prelude.{◌≡◌, ℕ, suc, ◌+◌, ◌-◌, ◌*◌, ◌/◌, ◌%◌, ◌^◌, ◌<◌, ◌≤◌, Bool, false, List, length, take, nat_lt, slice_index}
-use Rattle.std.proofs.Common.{ap, mul_comm, div-one, pow_pos}
+use Rattle.std.proofs.Common.{Fits, w64, get_or, ap, mul_comm, div-one, pow_pos}
 use Rattle.std.proofs.Math.Nat.{mul-suc, mod-one}
 use native.Mathlib.Omega.{arith}
 use Rattle.std.specs.Float.Ieee.{size}
@@ -13,6 +13,10 @@ use Rattle.lists.proofs.WordShifts.{cut_some}
 use Rattle.lists.specs.LeadingDigits.{Used, one_word, leading_size, leading_digits, leading_rest}
 use Rattle.words.specs.Words.{word_bits}
 use Rattle.nearest.specs.Head.{head_of}
+
+-- words of 64 bits are digits
+pub words_fit : {ws : List ℕ} → ((i : ℕ) → Fits w64 (get_or ws i 0)) → Digits word_bits ws
+words_fit f = record { below = λ i. (f i).fits }
 
 -- ---- how many digits stand below the leading w
 

@@ -18,7 +18,7 @@ pub struct Head {
 pub fn size(x: u64) -> u64
     ensures { result ≡ Ieee.size x }
 {
-    (64 - u64::leading_zeros(x)) as u64
+    u64::from(u64::BITS - x.leading_zeros())
 }
 
 // How many of the n lowest words are in use; there are n or more. It looks no further than the highest that isn't zero.
@@ -26,14 +26,12 @@ fn used(words: &[u64], n: usize) -> usize
     requires { n ≤ length words.now }
     ensures { Used word_bits words.now n result }
 {
-    let mut k = n;
-    while 0 < k {
-        if words[k - 1] != 0 {
-            return k;
+    for k in (0..n).rev() {
+        if words[k] != 0 {
+            return k + 1;
         }
-        k -= 1;
     }
-    k
+    0
 }
 
 // The leading 64 digits of the words a and b, where a has y digits, one or more. No shift is by 64.
@@ -49,10 +47,7 @@ fn rest(cut: u64, words: &[u64], n: usize) -> bool
     requires { n ≤ length words.now }
     ensures { result ≡ nat_lt 0 (cut + number word_bits (take n words.now)) }
 {
-    if cut != 0 {
-        return true;
-    }
-    0 < used(words, n)
+    cut != 0 || 0 < used(words, n)
 }
 
 // A number of one word is its own head. Any other has its leading digits in the two upper words in use. Callers hold a register's 33 words, so that the

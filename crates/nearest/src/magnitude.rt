@@ -10,11 +10,9 @@ pub fn negate(register: &[u64], words: &mut [u64])
     ensures { number word_bits words.new ≡ 2 ^ (word_bits * length register.now) - number word_bits register.now }
 {
     let mut carry = 1;
-    let mut i = 0;
-    while i < register.len() {
-        let t = std::num::wrapping_add_u64(u64::MAX - register[i], carry);
-        carry = (t < carry) as u64;
+    for (i, word) in register.iter().enumerate() {
+        let t = (!*word).wrapping_add(carry);
+        carry = u64::from(t < carry);
         words[i] = t;
-        i += 1;
     }
 }

@@ -1,32 +1,61 @@
-// Bytes, words and numbers, put behind a text in a lent area.
+// A text in a lent area, and what is put behind it: bytes, words and numbers.
 #![tactic(auto)]
 
 ghost use Rattle.std.specs.Prelude.{◌≡◌, ◌++◌, ◌+◌, ◌≤◌, ◌<◌, length};
-ghost use Rattle.numerals.specs.Text.{Placed};
+ghost use Rattle.numerals.specs.Put.{Put};
 ghost use Rattle.numerals.specs.Numerals.{decimal_of, capital_of, capitals_of, hex_of};
 
-// Puts bytes behind a text that ends at a place, and answers where it ends now.
-pub fn put(text: &mut [u8], end: usize, bytes: &[u8]) -> usize
-    requires { end + length bytes.now ≤ length text.old }
-    ensures { Placed bytes.now end text.old result text.new }
-{
-    let mut i = 0;
-    while i < bytes.len() {
-        text[end + i] = bytes[i];
-        i += 1;
-    }
-    end + i
+// A text in a lent area: the bytes before its end.
+#[derive(Drop)]
+pub struct Text<'a> {
+    pub area: &'a mut [u8],
+    pub end: usize,
 }
 
-// A word, and a number in decimal.
-pub fn decimal(text: &mut [u8], end: usize, word: &[u8], n: u64) -> usize
-    requires { end + length word.now + length (decimal_of n) ≤ length text.old }
-    ensures { Placed (word.now ++ decimal_of n) end text.old result text.new }
-{
-    let named = put(text, end, word);
-    let mut digits = [0u8; 20];
-    let k = io::decimal(n, &mut digits);
-    put(text, named, &digits[0..k])
+impl<'a> Text<'a> {
+    // No text yet.
+    pub fn new(area: &'a mut [u8]) -> Text<'a>
+        ensures same { result.area.ghost_name ≡ area.entry.ghost_name }
+        ensures area { result.area.now ≡ area.old }
+        ensures end { result.end ≡ 0 }
+    {
+        Text { area, end: 0 }
+    }
+
+    // Puts bytes behind the text.
+    pub fn put(&mut self, bytes: &[u8]) -> &mut Text<'a>
+        requires { self.old.end + length bytes.now ≤ length self.old.area.now }
+        ensures itself { result.ghost_name ≡ self.entry.ghost_name }
+        ensures longer { Put bytes.now self.old result.now }
+    {
+        let end = self.end + bytes.len();
+        let area = &mut *self.area;
+        area[self.end..end].copy_from_slice(bytes);
+        self.end = end;
+        self
+    }
+
+    // A word, and a number in decimal.
+    pub fn decimal(&mut self, word: &[u8], n: u64) -> &mut Text<'a>
+        requires { self.old.end + length word.now + length (decimal_of n) ≤ length self.old.area.now }
+        ensures itself { result.ghost_name ≡ self.entry.ghost_name }
+        ensures longer { Put (word.now ++ decimal_of n) self.old result.now }
+    {
+        let mut digits = [0u8; 20];
+        let k = io::decimal(n, &mut digits);
+        self.put(word).put(&digits[0..k])
+    }
+
+    // A word, and a pattern as rule P3 spells it.
+    pub fn pattern(&mut self, word: &[u8], p: u64) -> &mut Text<'a>
+        requires { self.old.end + length word.now + 16 ≤ length self.old.area.now }
+        ensures itself { result.ghost_name ≡ self.entry.ghost_name }
+        ensures longer { Put (word.now ++ hex_of p) self.old result.now }
+    {
+        let mut digits = [0u8; 16];
+        capitals(p, &mut digits);
+        self.put(word).put(&digits)
+    }
 }
 
 // A digit below 16. The kit's hex digits are lower case.
@@ -35,9 +64,9 @@ fn capital(digit: u64) -> u8
     ensures { result ≡ capital_of digit }
 {
     if digit < 10 {
-        48 + digit as u8
+        b'0' + digit as u8
     } else {
-        55 + digit as u8
+        b'A' - 10 + digit as u8
     }
 }
 
@@ -46,21 +75,8 @@ fn capitals(p: u64, digits: &mut [u8])
     ensures { digits.new ≡ capitals_of (length digits.old) p }
 {
     let mut rest = p;
-    let mut i = digits.len();
-    while 0 < i {
-        i -= 1;
+    for i in (0..digits.len()).rev() {
         digits[i] = capital(rest % 16);
         rest /= 16;
     }
-}
-
-// A word, and a pattern as rule P3 spells it.
-pub fn pattern(text: &mut [u8], end: usize, word: &[u8], p: u64) -> usize
-    requires { end + length word.now + 16 ≤ length text.old }
-    ensures { Placed (word.now ++ hex_of p) end text.old result text.new }
-{
-    let named = put(text, end, word);
-    let mut digits = [0u8; 16];
-    capitals(p, &mut digits);
-    put(text, named, &digits)
 }

@@ -9,10 +9,19 @@ use native.Mathlib.Omega.{arith}
 use Rattle.std.proofs.Math.Pow.{pow_pos}
 use Rattle.std.proofs.Math.ListN.{length}
 use Rattle.std.proofs.Math.Seq.{length-take-le, take_at, drop_at, drop-drop}
+use Rattle.std.specs.Simd.{first_chunks}
 use Rattle.lists.specs.Digits.{Digits}
 use Rattle.lists.specs.DigitLaws.{digits_head, digits_tail, digits_more, digits_take, digits_drop}
 use Rattle.lists.proofs.Front.{take_next}
 use Rattle.octets.specs.Octets.{bytes_at, joined, eights}
+
+-- ---- bytes cut into chunks of eight, as the kit cuts them
+pub chunk_at : (n i : ℕ) (bytes d : List ℕ) → i < n → get_or (first_chunks 8 n bytes) i d ≡ bytes_at bytes (8 * i) 8
+chunk_at zero i bytes d h = absurd (omega arith)
+chunk_at (suc n) zero bytes d h = refl
+chunk_at (suc n) (suc i) bytes d h =
+    let e : 8 + 8 * i ≡ 8 * suc i = omega arith in
+    chunk_at n i (drop 8 bytes) d (omega arith) ∙ rw (drop-drop (8 * i) 8 bytes, e)
 
 -- ---- n numbers from bytes
 module _ (number_of : List ℕ → ℕ) where

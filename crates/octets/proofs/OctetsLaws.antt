@@ -6,6 +6,8 @@ use Rattle.std.proofs.Common.{take-add, drop-cons, drop-drop, get_or-drop, lengt
 use mathlib.Core.List.{List, [], ◌∷◌, ◌++◌, append_assoc, append-nil, reverse, reverse_aux, reverse-append, reverse-reverse}
 use Rattle.std.proofs.Math.Nat.{div-div-eq-div-mul}
 use Rattle.std.proofs.lemmas.List.{length-reverse, set_at}
+use Rattle.std.specs.Int.{w64, to_le_bytes, from_le_bytes}
+use Rattle.std.proofs.lemmas.Nat.{from_le_bytes-to_le_bytes_8}
 use Rattle.lists.specs.Digits.{number, digits, Digits}
 use Rattle.lists.specs.DigitLaws.{weight_next, number_nil, number_cons, number_append, digits_number, number_digits}
 use Rattle.lists.specs.DigitLaws.{digits_head, digits_tail, digits_more, digits_length, digits_none, digits_last, number_lt}
@@ -144,3 +146,13 @@ pub big_bytes_back : (bs : List ℕ) → Digits 8 bs → big_endian (length bs) 
 big_bytes_back bs B =
     let e : digits 8 (length bs) (big bs) ≡ reverse bs = rw (length-reverse bs) at (digits_number 8 (reverse bs) (bytes_reverse bs B)) in
     ap reverse e ∙ reverse-reverse bs
+
+-- ---- the kit's conversion of eight bytes
+pub to_kit : (v : ℕ) → to_le_bytes w64 v ≡ little_endian 8 v
+unfolding digits
+to_kit v = simp div-div-eq-div-mul
+
+pub from_kit : (bs : List ℕ) → Digits 8 bs → length bs ≡ 8 → from_le_bytes w64 bs ≡ little bs
+from_kit bs B l =
+    let e : to_le_bytes w64 (little bs) ≡ bs = to_kit (little bs) ∙ rw l at (little_bytes_back bs B) in
+    ap (from_le_bytes w64) (sym e) ∙ from_le_bytes-to_le_bytes_8 (little bs) (little_below bs B l)

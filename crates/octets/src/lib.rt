@@ -10,7 +10,7 @@ ghost use Rattle.octets.specs.Octets.{big_endian, big, bytes_at};
 pub fn wide(b: u8) -> u64
     ensures { (result ≡ b) × (result < 256) }
 {
-    b as u64
+    u64::from(b)
 }
 
 // The number that so many bytes from a place on stand for, as on a sheet (rule H1). Eight bytes at most, since nine need not fit.
@@ -19,10 +19,8 @@ pub fn big_endian(bytes: &[u8], at: usize, count: usize) -> u64
     ensures { result ≡ big (bytes_at bytes.now at count) }
 {
     let mut v: u64 = 0;
-    let mut i = 0;
-    while i < count {
-        v = v * 256 + wide(bytes[at + i]);
-        i += 1;
+    for b in &bytes[at..at + count] {
+        v = v * 256 + wide(*b);
     }
     v
 }
@@ -33,10 +31,8 @@ pub fn write_big_endian(bytes: &mut [u8], at: usize, count: usize, v: u64)
     ensures { bytes.new ≡ take at bytes.old ++ (big_endian count v ++ drop (at + count) bytes.old) }
 {
     let mut rest = v;
-    let mut done = 0;
-    while done < count {
-        bytes[at + (count - 1 - done)] = (rest % 256) as u8;
-        rest = rest / 256;
-        done += 1;
+    for i in (at..at + count).rev() {
+        bytes[i] = (rest % 256) as u8;
+        rest /= 256;
     }
 }

@@ -9,8 +9,6 @@ use Rattle.kinds.specs.Limits.{doubles}
 use Rattle.kinds.specs.Outcome.{outcome}
 use Rattle.kinds.specs.Heard.{Refusal, nearest_heard}
 use Rattle.kinds.proofs.Hearing.{exactly}
-use Rattle.kinds.specs.declared.Verdict.TheVariants as verdicts
-use Rattle.kinds.specs.declared.Nearest.TheVariants as nearests
 use Rattle.arrays.specs.Arrays.{code_of, values_of}
 use Rattle.arrays.proofs.ArraysLaws.{nearest_by}
 use Rattle.arrays.specs.Inner.{NearestRefusal}
@@ -18,7 +16,7 @@ use Rattle.pairs.specs.Limits.{double_pairs}
 use Rattle.pairs.specs.Pairs.{weighted_of, multiplied_of}
 use Rattle.pairs.proofs.JudgedLaws.{pairs_refusal}
 use Rattle.pairs.proofs.TableLaws.{weighted_when, multiplied_when}
-use Rattle.pairs.specs.declared.Paired.TheVariants.{Refused}
+use Rattle.pairs.specs.Paired.{Refused}
 use Rattle.pair_calls.specs.PairArrays.{other_length, OtherWhen, too_many, unlike, otherwise, weighted_arrays}
 
 module _ (ps qs out : List ℕ) where

@@ -13,7 +13,7 @@ use Rattle.pairs.specs.Limits.{double_pairs}
 use Rattle.pairs.specs.Pairs.{multiplied_of, weighted_of, paired_heard}
 use Rattle.pairs.proofs.JudgedLaws.{pairs_some}
 use Rattle.pairs.proofs.TableLaws.{multiplied_heard, multiplied_leaves, weighted_heard, paired_is}
-use Rattle.pairs.specs.declared.Paired.TheVariants.{Refused}
+use Rattle.pairs.specs.Paired.{Refused}
 use Rattle.pair_calls.specs.PairArrays.{products_arrays, other_length, weighted_arrays}
 use Rattle.pair_calls.proofs.PairArraysLaws.{weighted_other, weighted_called, other_nonzero}
 

@@ -10,8 +10,8 @@ use Rattle.units.proofs.Powers.{le_or_lt}
 use Rattle.lists.proofs.Apart.{apart}
 use Rattle.kinds.specs.Heard.{Refusal}
 use Rattle.kinds.proofs.Hearing.{exactly, placed, at_place_0}
-use Rattle.kinds.specs.declared.Verdict.{Verdict}
-use Rattle.kinds.specs.declared.Verdict.TheVariants.{Good, Refused}
+use Rattle.kinds.specs.Verdict.{Verdict}
+use Rattle.kinds.specs.Verdict.{Good, Refused}
 use Rattle.judge.specs.Judge.{first_bad}
 use Rattle.judge.specs.Table.{CleanBy, FirstBy}
 use Rattle.judge.proofs.FirstBadLaws.{found_by, good_by, refused_by}

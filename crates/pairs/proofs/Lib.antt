@@ -11,3 +11,4 @@ pub mod TableLaws
 pub mod TotalLaws
 pub mod WriteLaws
 pub mod ZipLaws
+pub mod PairedSame

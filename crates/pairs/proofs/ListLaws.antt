@@ -13,8 +13,8 @@ use Rattle.units.proofs.ScaledSums.{scale_plus}
 use Rattle.ieee.specs.Units.{value, nearest_float}
 use Rattle.ieee.proofs.Zeros.{minus_value}
 use Rattle.lists.specs.Each.{each_at, each_from}
-use Rattle.kinds.specs.declared.Verdict.TheVariants.{Good}
-use Rattle.kinds.specs.declared.Nearest.TheVariants as nearests
+use Rattle.kinds.specs.Verdict.{Good}
+use Rattle.kinds.specs.Nearest as nearests
 use Rattle.judge.specs.Judge.{zero_sign}
 use Rattle.judge.specs.Table.{Allowed, ListWhen, MinusZeros, allowed}
 use Rattle.judge.specs.FaultLaws.{fault_0}

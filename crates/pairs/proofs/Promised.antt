@@ -9,7 +9,7 @@ use Rattle.ieee.specs.Units.{nearest_float}
 use Rattle.lists.proofs.Reordered.{length_reordered}
 use Rattle.kinds.specs.Limits.{doubles}
 use Rattle.kinds.specs.Heard.{nearest_heard, nearest}
-use Rattle.kinds.specs.declared.Verdict.TheVariants.{Good}
+use Rattle.kinds.specs.Verdict.{Good}
 use Rattle.judge.specs.Judge.{zero_sign}
 use Rattle.judge.proofs.JudgeLaws.{list_allowed}
 use Rattle.sums.specs.Sums.{sum_of, nearest_of}

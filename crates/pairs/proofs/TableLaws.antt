@@ -10,17 +10,17 @@ use Rattle.kinds.proofs.HeardLaws.{verdict_heard_lem}
 use Rattle.kinds.proofs.Hearing.{hears, nearest_is}
 use Rattle.kinds.specs.Outcome.{outcome}
 use Rattle.kinds.proofs.OutcomeLaws.{same, determined}
-use Rattle.kinds.specs.declared.Verdict.{Verdict}
-use Rattle.kinds.specs.declared.Verdict.TheVariants as verdicts
-use Rattle.kinds.specs.declared.Nearest.{Nearest}
-use Rattle.kinds.specs.declared.Nearest.TheVariants as nearests
+use Rattle.kinds.specs.Verdict.{Verdict}
+use Rattle.kinds.specs.Verdict as verdicts
+use Rattle.kinds.specs.Nearest.{Nearest}
+use Rattle.kinds.specs.Nearest as nearests
 use Rattle.pairs.specs.Limits.{Pairing}
 use Rattle.pairs.specs.Pairs.{nearest_product, products_of, weighted_sum, pairs_judged, two_each}
 use Rattle.pairs.specs.Pairs.{multiplied_after, multiplied_of, weighted_after, weighted_of, paired_heard}
 use Rattle.pairs.specs.Table.{PairsWhen, verdict_of}
 use Rattle.pairs.proofs.JudgedLaws.{pairs_when, pairs_refusal}
-use Rattle.pairs.specs.declared.Paired.{Paired}
-use Rattle.pairs.specs.declared.Paired.TheVariants.{Multiplied, Refused}
+use Rattle.pairs.specs.Paired.{Paired}
+use Rattle.pairs.specs.Paired.{Multiplied, Refused}
 
 -- ---- which answer a verdict gives, and which verdict an answer comes from
 abbrev answer_for : Verdict → Paired

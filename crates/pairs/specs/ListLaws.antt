@@ -3,7 +3,7 @@ use Rattle.std.specs.Prelude.{◌≡◌}
 use mathlib.Core.List.{List}
 use Rattle.std.specs.Float.Ieee.{to_bits}
 use Rattle.lists.specs.Each.{Each}
-use Rattle.kinds.specs.declared.Nearest.TheVariants as nearests
+use Rattle.kinds.specs.Nearest as nearests
 use Rattle.pairs.specs.Limits.{Pairing}
 use Rattle.pairs.specs.Pairs.{Pair, product_of, error_of, pair_fault}
 use Rattle.pairs.specs.Table as pair-rows

@@ -9,15 +9,15 @@ use Rattle.units.specs.Whole.{exact_sum}
 use Rattle.ieee.specs.Units.{sign_of, value}
 use Rattle.kinds.specs.Outcome.{Outcome, outcome}
 use Rattle.kinds.specs.Heard.{Heard, refused, accepted, place_of}
-use Rattle.kinds.specs.declared.Verdict.{Verdict}
-use Rattle.kinds.specs.declared.Verdict.TheVariants as verdicts
-use Rattle.kinds.specs.declared.Nearest.{Nearest}
-use Rattle.kinds.specs.declared.Nearest.TheVariants as nearests
+use Rattle.kinds.specs.Verdict.{Verdict}
+use Rattle.kinds.specs.Verdict as verdicts
+use Rattle.kinds.specs.Nearest.{Nearest}
+use Rattle.kinds.specs.Nearest as nearests
 use Rattle.judge.specs.Judge.{first_bad}
 use Rattle.judge.specs.Table.{size_of}
 use Rattle.pairs.specs.Limits.{Pairing}
-use Rattle.pairs.specs.declared.Paired.{Paired}
-use Rattle.pairs.specs.declared.Paired.TheVariants.{Multiplied, Refused}
+use Rattle.pairs.specs.Paired.{Paired}
+use Rattle.pairs.specs.Paired.{Multiplied, Refused}
 
 -- rule M1: the patterns of two factors
 abbrev pub Pair : Type 0

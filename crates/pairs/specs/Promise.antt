@@ -6,7 +6,7 @@ use Rattle.std.specs.Float.Ieee.{low, of_bits, mul}
 use Rattle.ieee.specs.Units.{Number, magnitude, value}
 use Rattle.ieee.specs.Accuracy.{FaithfulTo, NearestTo}
 use Rattle.kinds.specs.Limits.{Width}
-use Rattle.kinds.specs.declared.Verdict.TheVariants.{Good}
+use Rattle.kinds.specs.Verdict.{Good}
 use Rattle.judge.specs.Table.{most, ListWhen}
 use Rattle.sums.specs.Sums.{sum_of}
 use Rattle.pairs.specs.Limits.{Pairing}

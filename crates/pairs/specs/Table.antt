@@ -1,13 +1,13 @@
 -- Rule O6 for pairs: what each answer is given exactly for, in rule O12's order, each where none before it holds. Definitions only.
 use Rattle.std.specs.Prelude.{◌≡◌, ◌⊎◌, Bool, not, List, ℕ, ◌≤◌, ◌<◌, T, length, get_or}
 use Rattle.std.specs.Float.Ieee.Scale.{finite}
-use Rattle.kinds.specs.declared.Verdict.{Verdict}
-use Rattle.kinds.specs.declared.Verdict.TheVariants.{Good, Refused}
+use Rattle.kinds.specs.Verdict.{Verdict}
+use Rattle.kinds.specs.Verdict.{Good, Refused}
 use Rattle.judge.specs.Table.{float_of, size_of}
 use Rattle.pairs.specs.Limits.{Pairing}
 use Rattle.pairs.specs.Pairs.{Pair, pair_fault}
-use Rattle.pairs.specs.declared.Paired.{Paired}
-use Rattle.pairs.specs.declared.Paired.TheVariants as paireds
+use Rattle.pairs.specs.Paired.{Paired}
+use Rattle.pairs.specs.Paired as paireds
 
 -- ---- one number of a pair
 -- not a NaN and not infinite

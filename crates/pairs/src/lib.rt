@@ -2,7 +2,7 @@
 #![tactic(auto)]
 
 use crate::two::multiply;
-use kinds::{Nearest, Verdict};
+use kinds::Refusal;
 use words::WORDS;
 
 mod faults;
@@ -12,7 +12,9 @@ mod weighted;
 ghost use Rattle.std.specs.Prelude.{◌≡◌, ◌*◌, eqb, length};
 ghost use mathlib.Core.List.{zip};
 ghost use Rattle.kinds.specs.Limits.{doubles};
+ghost use Rattle.kinds.specs.Answers.{as_nearest, itself};
 ghost use Rattle.kinds.specs.Outcome.{outcome};
+ghost use Rattle.pairs.specs.Answers.{as_paired};
 ghost use Rattle.pairs.specs.Limits.{double_pairs, Tied};
 ghost use Rattle.pairs.specs.Pairs.{products_of, multiplied_of, weighted_of};
 ghost use Rattle.pairs.specs.Table.{AllowedPairs, Matching};
@@ -65,51 +67,34 @@ impl Pairs {
     }
 }
 
-// of the products of pairs
-#[derive(Drop)]
-pub enum Paired {
-    Multiplied,
-    Refused(u32, u32),
-}
-
-// Rule M7: the two numbers of each pair, at the places 2i and 2i + 1.
+// Rule M7: the two numbers of each pair, at the places 2i and 2i + 1. They are written by place: of what is written through chunks_exact_mut no contract tells.
 fn write(a: &[u64], b: &[u64], out: &mut [u64])
     requires { Matching double_pairs a.now b.now × AllowedPairs double_pairs a.now b.now × (length out.old ≡ 2 * length a.now) }
     ensures { out.new ≡ products_of doubles.format (zip a.now b.now) }
 {
-    let mut i = 0;
-    while i < a.len() {
+    for i in 0..a.len() {
         let two = multiply(a[i], b[i]);
         out[2 * i] = two.product;
         out[2 * i + 1] = two.error;
-        i += 1;
     }
 }
 
 // The products of pairs, each with its exact error.
-pub fn products(a: &[u64], b: &[u64], out: &mut [u64]) -> Paired
-    ensures { outcome result out.new ≡ multiplied_of double_pairs a.now b.now out.old }
+pub fn products(a: &[u64], b: &[u64], out: &mut [u64]) -> Result<(), Refusal>
+    ensures { outcome (as_paired result) out.new ≡ multiplied_of double_pairs a.now b.now out.old }
 {
     let fits = Pairs::of(a.len()).fits(out.len());
-    match faults::judge(a, b, fits) {
-        Verdict::Refused(k, place) => Paired::Refused(k, place),
-        Verdict::Good => {
-            write(a, b, out);
-            Paired::Multiplied
-        }
-    }
+    faults::judge(a, b, fits)?;
+    write(a, b, out);
+    Ok(())
 }
 
 // Rule M9: the nearest weighted sum. No product is zero but +0, so that a zero sum is +0.
-pub fn nearest(a: &[u64], b: &[u64]) -> Nearest
-    ensures { result ≡ weighted_of double_pairs a.now b.now }
+pub fn nearest(a: &[u64], b: &[u64]) -> Result<f64, Refusal>
+    ensures { as_nearest itself result ≡ weighted_of double_pairs a.now b.now }
 {
-    match faults::judge(a, b, true) {
-        Verdict::Refused(k, place) => Nearest::Refused(k, place),
-        Verdict::Good => {
-            let mut words = [0u64; WORDS];
-            weighted::total(a, b, &mut words);
-            Nearest::Sum(nearest::nearest_double(&words, false))
-        }
-    }
+    faults::judge(a, b, true)?;
+    let mut words = [0u64; WORDS];
+    weighted::total(a, b, &mut words);
+    Ok(nearest::nearest_float(&words, false))
 }

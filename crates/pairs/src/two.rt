@@ -66,7 +66,7 @@ pub fn multiply(p: u64, q: u64) -> Two
     }
     let two = two_product(f64::from_bits(p), f64::from_bits(q));
     Two {
-        product: f64::to_bits(two.x),
-        error: f64::to_bits(two.y + 0.0),
+        product: two.x.to_bits(),
+        error: (two.y + 0.0).to_bits(),
     }
 }

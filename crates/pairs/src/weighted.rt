@@ -16,11 +16,9 @@ pub fn total(a: &[u64], b: &[u64], words: &mut [u64])
     ensures { words.new
         ≡ words_of (whole_of words.old +ℤ sum_of doubles.format (products_of doubles.format (zip a.now b.now))) }
 {
-    let mut i = 0;
-    while i < a.len() {
-        let two = multiply(a[i], b[i]);
-        addend::add(words, two.product);
-        addend::add(words, two.error);
-        i += 1;
+    for (&p, &q) in a.iter().zip(b) {
+        let two = multiply(p, q);
+        addend::add::<f64>(words, two.product);
+        addend::add::<f64>(words, two.error);
     }
 }

@@ -4,7 +4,7 @@ use Rattle.std.specs.Prelude.{◌≡◌, List, ℕ, Float, length}
 use Rattle.std.proofs.Common.{eq-eqb, ne_eqb}
 use Rattle.kinds.specs.Limits.{doubles}
 use Rattle.kinds.specs.Heard.{Refusal, parted_heard}
-use Rattle.kinds.specs.declared.Parted.TheVariants as parteds
+use Rattle.kinds.specs.Parted as parteds
 use Rattle.judge.proofs.JudgeLaws.{list_refusal}
 use Rattle.sums.specs.Sums.{parts_of}
 use Rattle.demands.proofs.Refusals.{parts_refused}

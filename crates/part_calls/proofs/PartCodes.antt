@@ -5,7 +5,7 @@ use Rattle.std.proofs.Common.{ap}
 use Rattle.kinds.specs.Limits.{doubles}
 use Rattle.kinds.specs.Heard.{parted_heard}
 use Rattle.kinds.proofs.Hearing.{parted_is}
-use Rattle.kinds.specs.declared.Parted.TheVariants as parteds
+use Rattle.kinds.specs.Parted as parteds
 use Rattle.sums.specs.Sums.{parts_of}
 use Rattle.demands.proofs.Hearing.{parts_heard}
 use Rattle.demands.proofs.Refusals as refusals

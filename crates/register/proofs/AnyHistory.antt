@@ -4,8 +4,8 @@ use Rattle.std.specs.Prelude.{◌≡◌, refl, List, [], ◌∷◌, ◌++◌, ma
 use Rattle.std.proofs.Common.{sym, ap, subst, ◌∙◌}
 use Rattle.units.specs.Whole.{exact_sum}
 use Rattle.words.specs.Words.{whole_of, words_of}
-use Rattle.kinds.specs.declared.Entry.{Entry}
-use Rattle.kinds.specs.declared.Entry.TheVariants.{Refused, Entered}
+use Rattle.kinds.specs.Entry.{Entry}
+use Rattle.kinds.specs.Entry.{Refused, Entered}
 use Rattle.addend.specs.Addend.{Held}
 use Rattle.register.specs.Entries.{Change, add, withdraw, pattern_of, change_of, changed, run, AllEntered, keep, entered_of}
 use Rattle.register.proofs.RegisterLaws.{entry_leaves}

@@ -10,7 +10,7 @@ use Rattle.units.proofs.Powers.{le_or_lt}
 use Rattle.lists.specs.Digits.{inside}
 use Rattle.kinds.specs.Limits.{doubles}
 use Rattle.kinds.specs.Outcome.{outcome}
-use Rattle.kinds.specs.declared.Entry.TheVariants.{Refused, Entered}
+use Rattle.kinds.specs.Entry.{Refused, Entered}
 use Rattle.judge.specs.Judge.{fault_of}
 use Rattle.judge.specs.FaultLaws.{fault_0, pattern_0, pattern_2, pattern_3, proper_doubles}
 use Rattle.words.specs.Words.{word_count, register_bits, whole_of, words_of}

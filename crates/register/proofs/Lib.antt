@@ -6,6 +6,7 @@ pub mod MergeLaws
 pub mod RegisterLaws
 pub mod Rooms
 pub mod RoundedLaws
+pub mod Rounding
 pub mod RunLaws
 pub mod SitesLaws
 pub mod ThreeBits

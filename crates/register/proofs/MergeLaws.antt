@@ -9,8 +9,8 @@ use Rattle.lists.specs.Digits.{inside}
 use Rattle.lists.proofs.SignedDigits.{cut_words, cut_whole, whole_cut, whole_inside}
 use Rattle.kinds.proofs.Hearing.{exactly}
 use Rattle.kinds.specs.Outcome.{outcome}
-use Rattle.kinds.specs.declared.Entry.{Entry}
-use Rattle.kinds.specs.declared.Entry.TheVariants.{Refused, Entered}
+use Rattle.kinds.specs.Entry.{Entry}
+use Rattle.kinds.specs.Entry.{Refused, Entered}
 use Rattle.words.specs.Words.{word_bits, word_count, register_bits, whole_of, words_of}
 use Rattle.addend.specs.Addend.{Held}
 use Rattle.register.specs.Register.{Changed}

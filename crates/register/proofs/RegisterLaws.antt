@@ -11,8 +11,8 @@ use Rattle.lists.proofs.SignedDigits.{cut_words, cut_whole, whole_cut, whole_ins
 use Rattle.kinds.proofs.Hearing.{exactly}
 use Rattle.kinds.specs.Limits.{doubles}
 use Rattle.kinds.specs.Outcome.{outcome}
-use Rattle.kinds.specs.declared.Entry.{Entry}
-use Rattle.kinds.specs.declared.Entry.TheVariants.{Refused, Entered}
+use Rattle.kinds.specs.Entry.{Entry}
+use Rattle.kinds.specs.Entry.{Refused, Entered}
 use Rattle.judge.specs.Judge.{fault_of}
 use Rattle.judge.specs.FaultLaws.{pattern_0, proper_doubles}
 use Rattle.words.specs.Words.{word_bits, word_count, register_bits, whole_of}

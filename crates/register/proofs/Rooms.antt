@@ -8,7 +8,7 @@ use Rattle.units.specs.Whole.{exact_sum}
 use Rattle.units.proofs.ExactSum.{sum_append}
 use Rattle.lists.proofs.SignedDigits.{cut_whole, whole_inside}
 use Rattle.kinds.specs.Outcome.{outcome}
-use Rattle.kinds.specs.declared.Entry.TheVariants.{Entered}
+use Rattle.kinds.specs.Entry.{Entered}
 use Rattle.words.specs.Words.{word_bits, word_count, whole_of, words_of}
 use Rattle.addend.specs.Addend.{Held}
 use Rattle.register.specs.Register.{added, withdrawn}

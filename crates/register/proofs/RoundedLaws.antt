@@ -10,7 +10,7 @@ use Rattle.ieee.specs.Accuracy.{NearestTo}
 use Rattle.ieee.proofs.Nearest.{nearest_nearest}
 use Rattle.kinds.specs.Heard.{nearest, nearest_heard}
 use Rattle.kinds.specs.Limits.{doubles}
-use Rattle.kinds.specs.declared.Nearest.TheVariants.{Sum, Refused}
+use Rattle.kinds.specs.Nearest.{Sum, Refused}
 use Rattle.words.specs.Words.{word_count, whole_of}
 use Rattle.register.specs.Register.{rounded}
 

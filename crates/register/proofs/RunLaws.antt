@@ -21,8 +21,8 @@ use Rattle.lists.proofs.Filter.{filter_others}
 use Rattle.lists.proofs.TwosComplement.{inside_small}
 use Rattle.lists.proofs.SignedDigits.{cut_words}
 use Rattle.kinds.specs.Limits.{doubles}
-use Rattle.kinds.specs.declared.Entry.{Entry}
-use Rattle.kinds.specs.declared.Entry.TheVariants.{Refused, Entered}
+use Rattle.kinds.specs.Entry.{Entry}
+use Rattle.kinds.specs.Entry.{Refused, Entered}
 use Rattle.judge.specs.Judge.{fault_of, fault_free}
 use Rattle.judge.specs.Table.{float_of, size_of, most, Allowed}
 use Rattle.judge.specs.FaultLaws.{fault_0, fault_number, most_doubles}

@@ -10,7 +10,7 @@ use Rattle.units.proofs.ExactSum.{sum_reordered, sum_append}
 use Rattle.lists.specs.Each.{Each}
 use Rattle.lists.proofs.SignedDigits.{cut_whole}
 use Rattle.words.specs.Words.{word_bits, word_count, whole_of, words_of}
-use Rattle.kinds.specs.declared.Entry.TheVariants.{Entered}
+use Rattle.kinds.specs.Entry.{Entered}
 use Rattle.addend.specs.Addend.{Held}
 use Rattle.register.specs.Entries.{Change, change_of, run, AllEntered, zeros}
 use Rattle.register.proofs.RunLaws.{run_from_zero, zeros_held}

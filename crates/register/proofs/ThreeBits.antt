@@ -8,9 +8,11 @@ use lib.IntN.{◌+ℤ◌}
 use Rattle.lists.specs.Digits.{inside}
 use Rattle.lists.proofs.SignedSums.{cut_sum_inside}
 use Rattle.kinds.specs.Outcome.{outcome}
-use Rattle.kinds.specs.declared.Entry.TheVariants.{Refused, Entered}
+use Rattle.kinds.specs.Entry.{Refused, Entered}
 use Rattle.words.specs.Words.{word_bits, word_count, register_bits, whole_of, words_of}
 use Rattle.addend.specs.Addend.{Held}
+use Rattle.addend.proofs.RegisterWords.{held}
+use Rattle.std.proofs.Common.{Fits, w64, get_or}
 use Rattle.register.specs.Signs.{sign_bit, crosses}
 use Rattle.register.specs.Merge.{merged, ThreeRegisters}
 use Rattle.register.proofs.MergeLaws.{merged_out, merged_in}
@@ -27,3 +29,13 @@ module _ {us vs out ss : List ℕ} (U : Held us) (W : Held vs) (T : ThreeRegiste
   pub fits : {es : List ℕ} → es ≡ words_of (whole_of us +ℤ whole_of vs) → crosses (sign_bit us) (sign_bit vs) (sign_bit ss) ≡ false
       → outcome Entered es ≡ merged us vs out
   fits h e = rw h (sym (merged_in us vs out T (range false e)))
+
+-- the same of what is left of both registers, as the code holds them
+module _ {us vs out ss : List ℕ} (U : (i : ℕ) → Fits w64 (get_or us i 0)) (V : (i : ℕ) → Fits w64 (get_or vs i 0)) (T : ThreeRegisters us vs out)
+    (s : ss ≡ words_of (whole_of us +ℤ whole_of vs)) where
+  pub merged_crossed : crosses (sign_bit us) (sign_bit vs) (sign_bit ss) ≡ true → outcome (Refused 9 0) out ≡ merged us vs out
+  merged_crossed = crossed (held T.first U) (held T.second V) T s
+
+  pub merged_fits : {es : List ℕ} → es ≡ words_of (whole_of us +ℤ whole_of vs) → crosses (sign_bit us) (sign_bit vs) (sign_bit ss) ≡ false
+      → outcome Entered es ≡ merged us vs out
+  merged_fits = fits (held T.first U) (held T.second V) T s

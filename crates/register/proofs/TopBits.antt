@@ -16,7 +16,7 @@ use Rattle.lists.specs.Digits.{inside}
 use Rattle.lists.proofs.SignedDigits.{cut_plus, cut_whole, cut_plus_inside, cut_minus_inside}
 use Rattle.kinds.specs.Limits.{doubles}
 use Rattle.kinds.specs.Outcome.{outcome}
-use Rattle.kinds.specs.declared.Entry.TheVariants.{Refused, Entered}
+use Rattle.kinds.specs.Entry.{Refused, Entered}
 use Rattle.judge.specs.Judge.{fault_of}
 use Rattle.judge.specs.Table.{size_of}
 use Rattle.judge.specs.FaultLaws.{fault_0, most_doubles}

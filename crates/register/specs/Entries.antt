@@ -3,8 +3,8 @@ use Rattle.std.specs.Prelude.{◌≡◌, true, false, List, [], ◌∷◌, ℕ, 
 use Rattle.lists.specs.Digits.{inside}
 use Rattle.lists.specs.Filter.{filter}
 use Rattle.kinds.specs.Limits.{doubles}
-use Rattle.kinds.specs.declared.Entry.{Entry}
-use Rattle.kinds.specs.declared.Entry.TheVariants.{Entered, Refused}
+use Rattle.kinds.specs.Entry.{Entry}
+use Rattle.kinds.specs.Entry.{Entered, Refused}
 use Rattle.judge.specs.Judge.{fault_of, fault_free}
 use Rattle.words.specs.Words.{word_count, register_bits, whole_of, words_of}
 use Rattle.addend.specs.Addend.{units_of}

@@ -2,8 +2,8 @@
 use Rattle.std.specs.Prelude.{◌≡◌, Bool, true, false, cond, not, ◌&&◌, List, [], ◌∷◌, ◌++◌, ℕ, eqb, ◌+ℤ◌, length}
 use Rattle.lists.specs.Digits.{inside}
 use Rattle.kinds.specs.Outcome.{outcome}
-use Rattle.kinds.specs.declared.Entry.{Entry}
-use Rattle.kinds.specs.declared.Entry.TheVariants.{Entered, Refused}
+use Rattle.kinds.specs.Entry.{Entry}
+use Rattle.kinds.specs.Entry.{Entered, Refused}
 use Rattle.words.specs.Words.{word_count, register_bits, whole_of, words_of}
 use Rattle.addend.specs.Addend.{Held}
 use Rattle.register.specs.Register.{Changed}

@@ -6,10 +6,10 @@ use Rattle.words.specs.Words.{word_count, register_bits, whole_of, words_of}
 use Rattle.ieee.specs.Units.{nearest_float}
 use Rattle.kinds.specs.Limits.{doubles}
 use Rattle.kinds.specs.Outcome.{Outcome, outcome}
-use Rattle.kinds.specs.declared.Entry.{Entry}
-use Rattle.kinds.specs.declared.Entry.TheVariants as entries
-use Rattle.kinds.specs.declared.Nearest.{Nearest}
-use Rattle.kinds.specs.declared.Nearest.TheVariants as nearests
+use Rattle.kinds.specs.Entry.{Entry}
+use Rattle.kinds.specs.Entry as entries
+use Rattle.kinds.specs.Nearest.{Nearest}
+use Rattle.kinds.specs.Nearest as nearests
 use Rattle.judge.specs.Judge.{fault_of}
 use Rattle.addend.specs.Addend.{units_of}
 

@@ -1,18 +1,21 @@
 -- A register's words as C calls, case by case; and that each refusal of a rounding and of a merge is one of the table. Assumes nothing.
-use Rattle.std.specs.Prelude.{◌≡◌, refl, List, ℕ, length}
+use Rattle.std.specs.Prelude.{◌≡◌, refl, List, ℕ, ◌≤◌, ⊤, Result, Ok, Err, IfErr, length}
 use Rattle.std.proofs.Common.{arith, eq-eqb, ne_eqb, lit≤, lit<}
 use Rattle.kinds.specs.Limits.{doubles}
 use Rattle.kinds.specs.Outcome.{outcome}
-use Rattle.kinds.specs.Heard.{Refusal, nearest_heard}
+use Rattle.kinds.specs.declared.refusal.Refusal as given
+use Rattle.kinds.specs.Answers.{as_entry}
+use Rattle.kinds.specs.Refusals.{place}
+use Rattle.kinds.specs.Heard.{Refusal, nearest_heard, entry_heard}
 use Rattle.kinds.proofs.Hearing.{at_place_0}
-use Rattle.kinds.specs.declared.Entry.{Entry}
-use Rattle.kinds.specs.declared.Nearest.TheVariants as nearests
+use Rattle.kinds.specs.Entry.{Entry}
+use Rattle.kinds.specs.Nearest as nearests
 use Rattle.register.specs.Register.{rounded}
 use Rattle.register.specs.Merge.{merged, MergeWhen, merges, wrong_length, out_of_range}
 use Rattle.register.proofs.MergeLaws.{merge_when}
 use Rattle.demands.specs.Tables.{RoundWhen, wrong_words, beyond}
 use Rattle.demands.proofs.Refusals.{round_refused}
-use Rattle.calls.specs.Inner.{EntryRefusal}
+use Rattle.calls.specs.Inner.{EntryRefusal, code}
 use Rattle.arrays.specs.Arrays.{code_of, values_of}
 use Rattle.arrays.proofs.ArraysLaws.{nearest_by}
 use Rattle.arrays.specs.Inner.{NearestRefusal}
@@ -43,3 +46,12 @@ merge_row (out_of_range T h) = at_place_0 (lit< tt)
 
 pub merge_refusal : (us vs out : List ℕ) → EntryRefusal (merged us vs out).answer
 merge_refusal us vs out = merge_row ((merge_when us vs out (merged us vs out).answer).0 refl)
+
+-- ---- a result, as its answer: what it refuses is told within the table's places, and its code is that of what is heard
+pub entry_told : (a : Result ⊤ given.Refusal) → EntryRefusal (as_entry a) → IfErr a (λ r. place r ≤ doubles.length)
+entry_told (Ok x) h = tt
+entry_told (Err r) h = h.place
+
+pub entry_coded : (a : Result ⊤ given.Refusal) → code a ≡ code_of (entry_heard (as_entry a))
+entry_coded (Ok x) = refl
+entry_coded (Err r) = refl

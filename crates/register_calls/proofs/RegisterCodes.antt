@@ -7,8 +7,8 @@ use Rattle.kinds.specs.Outcome.{outcome}
 use Rattle.kinds.proofs.OutcomeLaws.{determined}
 use Rattle.kinds.specs.Heard.{nearest_heard, entry_heard}
 use Rattle.kinds.proofs.Hearing.{entry_is}
-use Rattle.kinds.specs.declared.Entry.TheVariants as entries
-use Rattle.kinds.specs.declared.Nearest.TheVariants as nearests
+use Rattle.kinds.specs.Entry as entries
+use Rattle.kinds.specs.Nearest as nearests
 use Rattle.register.specs.Register.{added, withdrawn, rounded}
 use Rattle.register.specs.Entries as entry-rows
 use Rattle.register.specs.Entries.{EntryWhen}

@@ -2,23 +2,14 @@
 #![tactic(auto)]
 
 ghost use Rattle.std.specs.Prelude.{◌≡◌};
-ghost use Rattle.kinds.specs.Heard.{entry_heard};
 ghost use Rattle.kinds.specs.Outcome.{outcome};
-ghost use Rattle.calls.specs.Inner.{EntryRefusal};
-ghost use Rattle.arrays.specs.Arrays.{code_of};
 ghost use Rattle.register_calls.specs.RegisterArrays.{add_arrays, withdraw_arrays, merge_arrays, round_arrays};
 
-use kinds::Entry;
+use calls::{code, refusal};
+use kinds::Refusal;
 
-fn code(entry: Entry) -> u32
-    requires { EntryRefusal entry }
-    ensures { result ≡ code_of (entry_heard entry) }
-{
-    match entry {
-        Entry::Entered => 0,
-        Entry::Refused(number, place) => calls::refusal(number, place),
-    }
-}
+// Rule C10: a rounding writes one value.
+const VALUES: usize = 1;
 
 // Adds one number, as `register::add` does.
 #[unsafe(no_mangle)]
@@ -49,8 +40,8 @@ pub extern "C" fn kewohiata_words_merge(a: &[u64], b: &[u64], out: &mut [u64]) -
 pub extern "C" fn kewohiata_words_round(words: &[u64], out: &mut [u64]) -> u32
     ensures { outcome result out.new ≡ round_arrays words.now out.old }
 {
-    if out.len() != 1 {
-        return 4;
+    if out.len() != VALUES {
+        return refusal(Refusal::WrongLength);
     }
-    arrays::values::nearest(register::round(words), out)
+    code(arrays::values::nearest::<f64>(register::round(words), out))
 }

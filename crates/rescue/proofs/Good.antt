@@ -7,8 +7,8 @@ use Rattle.lists.specs.DigitLaws.{digits_drop}
 use Rattle.lists.proofs.Filter.{filter_passes, filter_all, filter_digits}
 use Rattle.kinds.specs.Limits.{Width, doubles}
 use Rattle.kinds.specs.Outcome.{outcome}
-use Rattle.kinds.specs.declared.Sheet.TheVariants.{Read}
-use Rattle.kinds.specs.declared.Verdict.TheVariants.{Good}
+use Rattle.kinds.specs.Sheet.{Read}
+use Rattle.kinds.specs.Verdict.{Good}
 use Rattle.judge.specs.Judge.{fault_free, judged}
 use Rattle.judge.specs.Table.{Allowed, allowed}
 use Rattle.judge.proofs.FirstFaultLaws.{first_good}
@@ -29,7 +29,7 @@ use Rattle.rescue.proofs.Marks.{allowed_marks}
 use Rattle.rescue.proofs.Saved.{written_kept, saved_sheet}
 use Rattle.rescue.proofs.SavedWhole.{was_given}
 use Rattle.rescue.specs.declared.Report.{Report}
-use Rattle.rescue.specs.declared.Rescued.TheVariants.{Saved}
+use Rattle.rescue.specs.Rescued.{Saved}
 
 -- ---- what is kept
 pub kept_allowed : (W : Width) (ps : List ℕ) → Allowed W (kept_of W ps)

@@ -4,5 +4,6 @@ pub mod Good
 pub mod Marks
 pub mod RescueCases
 pub mod RescueLaws
+pub mod Results
 pub mod Saved
 pub mod SavedWhole

@@ -2,11 +2,10 @@
 use Rattle.std.specs.Prelude.{◌≡◌, refl, Bool, true, false, ◌||◌, List, ◌++◌, map, ℕ, ◌+◌, ◌*◌, ◌≤◌, ◌<◌, ltb, length, drop}
 use borrow.Author.Tests.{lt-ltb, le-ltb, eq-eqb, ne_eqb}
 use Rattle.kinds.specs.Limits.{Width}
-use Rattle.kinds.specs.declared.Verdict.TheVariants as verdicts
 use Rattle.sheet.specs.Sheet.{sheet_of, version_of, count_of}
 use Rattle.sheet.specs.Table.{Begun}
 use Rattle.rescue.specs.Rescue.{taken_of, entries_of, kept_of, mark_of, report_of, rescuing, rescued_of}
-use Rattle.rescue.specs.declared.Rescued.TheVariants.{Saved, Refused}
+use Rattle.rescue.specs.Rescued.{Saved, Refused}
 
 either : (b : Bool) → (b || true) ≡ true
 either true = refl

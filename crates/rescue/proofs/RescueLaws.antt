@@ -1,6 +1,6 @@
 -- What a rescue answers, case by case; each answer exactly when its row says (rule O6), and so it is heard, with no place; a refusal leaves both areas as they
 -- were; and two results that meet the contract are equal. Assumes nothing.
-use Rattle.std.specs.Prelude.{◌≡◌, refl, ◌↔◌, List, ℕ, ◌+◌, ◌*◌, ◌≤◌, ◌<◌, length}
+use Rattle.std.specs.Prelude.{◌≡◌, refl, ◌↔◌, List, ℕ, ◌+◌, ◌*◌, ◌≤◌, length}
 use Rattle.std.proofs.Common.{sym, ap, ◌∙◌, inl, inr, arith, lit<}
 use Rattle.std.proofs.Math.Decide.{ℕ_discrete}
 use Rattle.units.proofs.Powers.{le_or_lt}
@@ -11,8 +11,8 @@ use Rattle.kinds.proofs.HeardLaws.{verdict_heard_lem}
 use Rattle.kinds.proofs.Hearing.{exactly, at_place_0, hears}
 use Rattle.kinds.specs.Limits.{Width}
 use Rattle.kinds.proofs.OutcomeLaws.{same}
-use Rattle.kinds.specs.declared.Verdict.{Verdict}
-use Rattle.kinds.specs.declared.Verdict.TheVariants as verdicts
+use Rattle.kinds.specs.Verdict.{Verdict}
+use Rattle.kinds.specs.Verdict as verdicts
 use Rattle.judge.specs.Judge.{fault_free}
 use Rattle.octets.specs.Octets.{big}
 use Rattle.octets.proofs.EightsLaws.{eights_length}
@@ -21,8 +21,8 @@ use Rattle.sheet.specs.Table.{Begun}
 use Rattle.rescue.specs.Rescue.{taken_of, entries_of, kept_of, report_of, Rescuing, rescuing, rescued_of, rescued_heard}
 use Rattle.rescue.specs.Rescue.{RescueWhen, no_header, other_version, too_many, no_room, saved}
 use Rattle.rescue.specs.declared.Report.{Report}
-use Rattle.rescue.specs.declared.Rescued.{Rescued}
-use Rattle.rescue.specs.declared.Rescued.TheVariants.{Saved, Refused}
+use Rattle.rescue.specs.Rescued.{Rescued}
+use Rattle.rescue.specs.Rescued.{Saved, Refused}
 use Rattle.rescue.specs.RescueLaws.{answer_of}
 use Rattle.rescue.proofs.RescueCases.{rescue_no_header, rescue_version, rescue_many, rescue_no_room, rescue_no_marks, rescue_saved}
 

@@ -17,7 +17,7 @@ use Rattle.rescue.specs.Rescue.{taken_of, entries_of, kept_of, dropped_of, mark_
 use Rattle.rescue.specs.RescueLaws.{answer_of}
 use Rattle.rescue.proofs.Marks.{mark_0, mark_1, mark_2, kept_marked}
 use Rattle.rescue.specs.declared.Report.{Report}
-use Rattle.rescue.specs.declared.Rescued.TheVariants.{Saved}
+use Rattle.rescue.specs.Rescued.{Saved}
 use Rattle.rescue.proofs.SavedWhole.{was_given, full}
 
 module _ (W : Width) (bytes sheet marks : List ℕ) {r : Report} {out ms : List ℕ} (e : rescued_of W bytes sheet marks ≡ rescuing (Saved r) out ms) where

@@ -9,7 +9,7 @@ use Rattle.rescue.specs.RescueLaws.{answer_of}
 use Rattle.rescue.proofs.RescueLaws.{rescue_when, given}
 use Rattle.rescue.proofs.RescueCases.{rescue_saved}
 use Rattle.rescue.specs.declared.Report.{Report}
-use Rattle.rescue.specs.declared.Rescued.TheVariants.{Saved}
+use Rattle.rescue.specs.Rescued.{Saved}
 
 module _ (W : Width) (bytes sheet marks : List ℕ) {r : Report} {out ms : List ℕ} (e : rescued_of W bytes sheet marks ≡ rescuing (Saved r) out ms) where
   abbrev entries : List ℕ

@@ -8,8 +8,8 @@ use Rattle.judge.specs.Judge.{fault_of, fault_free}
 use Rattle.sheet.specs.Sheet.{sheet_of, version_of, count_of, patterns_of}
 use Rattle.sheet.specs.Table.{Begun}
 use Rattle.rescue.specs.declared.Report.{Report}
-use Rattle.rescue.specs.declared.Rescued.{Rescued}
-use Rattle.rescue.specs.declared.Rescued.TheVariants.{Saved, Refused}
+use Rattle.rescue.specs.Rescued.{Rescued}
+use Rattle.rescue.specs.Rescued.{Saved, Refused}
 
 -- ---- rule H7: how many entries are taken, those that are there whole and at most the count; and their patterns
 abbrev pub taken_of : List ℕ → ℕ

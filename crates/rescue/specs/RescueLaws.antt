@@ -1,7 +1,6 @@
 -- What the theorems of proofs/RescueLaws.antt speak of. Definitions only.
-use Rattle.kinds.specs.declared.Verdict.TheVariants as verdicts
 use Rattle.rescue.specs.Rescue.{Rescuing}
-use Rattle.rescue.specs.declared.Rescued.{Rescued}
+use Rattle.rescue.specs.Rescued.{Rescued}
 
 abbrev pub answer_of : Rescuing → Rescued
 answer_of x = x.answer

@@ -5,6 +5,7 @@ ghost use Rattle.sheet.specs.Sheet.{body, patterns_of};
 ghost use Rattle.rescue.specs.Rescue.{kept_of, mark_of};
 
 use judge::fault;
+use kinds::Fault;
 use octets::{big_endian, write_big_endian};
 use sheet::{HEADER, PATTERN};
 
@@ -14,12 +15,10 @@ pub fn count_kept(damaged: &[u8], n: usize) -> usize
     ensures { result ≡ length (kept_of doubles (patterns_of n (drop 5 damaged.now))) }
 {
     let mut kept = 0;
-    let mut i = 0;
-    while i < n {
-        if fault(big_endian(damaged, HEADER + PATTERN * i, PATTERN)) == 0 {
+    for i in 0..n {
+        if fault::<f64>(big_endian(damaged, HEADER + PATTERN * i, PATTERN)).is_none() {
             kept += 1;
         }
-        i += 1;
     }
     kept
 }
@@ -33,14 +32,12 @@ pub fn write_kept(damaged: &[u8], n: usize, sheet: &mut [u8])
         ++ drop (5 + 8 * length (kept_of doubles (patterns_of n (drop 5 damaged.now)))) sheet.old) }
 {
     let mut kept = 0;
-    let mut i = 0;
-    while i < n {
+    for i in 0..n {
         let p = big_endian(damaged, HEADER + PATTERN * i, PATTERN);
-        if fault(p) == 0 {
+        if fault::<f64>(p).is_none() {
             write_big_endian(sheet, HEADER + PATTERN * kept, PATTERN, p);
             kept += 1;
         }
-        i += 1;
     }
 }
 
@@ -48,14 +45,11 @@ pub fn write_kept(damaged: &[u8], n: usize, sheet: &mut [u8])
 fn mark(p: u64) -> u8
     ensures { result ≡ mark_of doubles p }
 {
-    let k = fault(p);
-    if k == 0 {
-        return 0;
+    match fault::<f64>(p) {
+        None => 0,
+        Some(Fault::NotFinite) => 1,
+        Some(Fault::TooLarge) => 2,
     }
-    if k == 2 {
-        return 1;
-    }
-    2
 }
 
 // A mark for each, kept or dropped.
@@ -63,9 +57,7 @@ pub fn write_marks(damaged: &[u8], n: usize, marks: &mut [u8])
     requires { (5 + 8 * n ≤ length damaged.now) × (n ≤ length marks.old) }
     ensures { marks.new ≡ map (mark_of doubles) (patterns_of n (drop 5 damaged.now)) ++ drop n marks.old }
 {
-    let mut i = 0;
-    while i < n {
+    for i in 0..n {
         marks[i] = mark(big_endian(damaged, HEADER + PATTERN * i, PATTERN));
-        i += 1;
     }
 }

@@ -8,7 +8,7 @@ use Rattle.std.proofs.Math.ListN.{length, take, drop, drop_of_length-le}
 use Rattle.std.proofs.Math.Seq.{take-add, drop-drop, take_at}
 use Rattle.lists.proofs.BitsetLaws.{without_from}
 use Rattle.kinds.specs.Limits.{Width, blocks_of}
-use Rattle.kinds.specs.declared.State.{State}
+use Rattle.kinds.specs.State.{State}
 use Rattle.extract.specs.Extract.{remainders, gathered, largest_with}
 use Rattle.extract.specs.ExtractLaws.{gathered_none, gathered_join, remainders_none, remainders_join, remainders_length}
 use Rattle.extract.proofs.LargestWithLaws.{with_none, with_join}

@@ -21,7 +21,7 @@ use Rattle.extract.specs.Extract.{remainder_of, remainders, largest}
 use Rattle.extract.specs.ExtractLaws.{remainders_length, largest_le, largest_zero}
 use Rattle.extract.specs.LargestLaws.{Positive, Unsigned, positive_is, absolute_is}
 use Rattle.kinds.specs.Limits.{Width, exponent_of}
-use Rattle.kinds.specs.declared.State.{State}
+use Rattle.kinds.specs.State.{State}
 use Rattle.lists.specs.Each.{Each, each_map, each_weaker}
 use Rattle.rounds.specs.Round.{all_taken, all_left, scaled, all_zero, least_normal, fresh_round, closed_by}
 use Rattle.rounds.specs.ClosedLaws.{tau1_of, finishes, further_round, not_finishes, fresh_each, closed_each}

@@ -1,5 +1,6 @@
 -- Laws that one proof needs.
 pub mod ClosableLaws
+pub mod WidthLaws
 pub mod Blocks
 pub mod Closes
 pub mod CutLaws

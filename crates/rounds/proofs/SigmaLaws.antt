@@ -1,6 +1,6 @@
 -- mu, the largest magnitude of an area, as a float: that it is as small as each number, and that sigma = 2^(M + e) is a power of two of the format.
 -- Assumes nothing.
-use Rattle.std.specs.Prelude.{List, ℕ, ◌+◌, ◌^◌, ◌≤◌, ◌<◌, Float}
+use Rattle.std.specs.Prelude.{◌≡◌, List, ℕ, ◌+◌, ◌^◌, ◌≤◌, ◌<◌, Float}
 use Rattle.std.proofs.Common.{arith}
 use Rattle.std.specs.Float.{Format}
 use Rattle.lists.specs.Each.{Each, each_weaker}
@@ -26,6 +26,11 @@ pub sigma_exists : {W : Width} → Fitting W → (n mu : ℕ) → n ≤ W.length
 sigma_exists F n mu few small =
     let m : mu ≤ 2 ^ F.top = rw F.top_is at small in
     omega (arith, F.room, F.most_is n few, ceil_least m)
+
+-- of what the code has found
+pub found_exists : {W : Width} → Fitting W → {a b n mu : ℕ} → a ≡ exponent_of n → b ≡ ceil mu → n ≤ W.length → mu ≤ size_of W W.magnitude
+    → a + b < powers W.format
+found_exists F {n = n} {mu} i j few small = rw (i, j) (sigma_exists F n mu few small)
 
 pub sigma_positive : {W : Width} → Fitting W → (n mu : ℕ) → n ≤ W.length → mu ≤ size_of W W.magnitude
     → Positive W.format (sigma_of W.format n mu) (2 ^ (exponent_of n + ceil mu))

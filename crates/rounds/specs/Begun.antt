@@ -10,7 +10,7 @@ use Rattle.ieee.proofs.Sum.{whole_mag}
 use Rattle.lists.specs.Bitset.{full}
 use Rattle.lists.specs.Each.{Each, each_take, each_weaker}
 use Rattle.kinds.specs.Limits.{Width, exponent_of, blocks_of}
-use Rattle.kinds.specs.declared.State.{State}
+use Rattle.kinds.specs.State.{State}
 use Rattle.extract.specs.Extract.{plus_zero, gathered, remainder_of, remainders, largest, largest_with}
 use Rattle.extract.specs.LargestLaws.{Positive, zero_positive}
 use Rattle.extract.proofs.LargestWithLaws.{with_positive}

@@ -9,9 +9,9 @@ use Rattle.std.specs.Float.Ieee.{add, sub, le, eq}
 use Rattle.lists.proofs.Apart.{apart}
 use Rattle.extract.specs.Extract.{plus_zero, absolute, last_sum}
 use Rattle.kinds.specs.Limits.{Width, exponent_of}
-use Rattle.kinds.specs.declared.State.{State}
-use Rattle.kinds.specs.declared.Step.{Step}
-use Rattle.kinds.specs.declared.Step.TheVariants.{More, Done}
+use Rattle.kinds.specs.State.{State}
+use Rattle.kinds.specs.Step.{Step}
+use Rattle.kinds.specs.Step.{More, Done}
 use Rattle.rounds.specs.Round.{round_of, fresh_round, fresh, scaled, least_normal, finished, closed_by, closed}
 
 -- a round from mu alone, or nothing to sum

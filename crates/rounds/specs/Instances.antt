@@ -1,10 +1,11 @@
 -- The scope's width fits the walk, and so do numbers for binary32: 2,046 numbers of magnitude at most 2^100, t and tau up to 2^111, 19 rounds closed.
 -- Assumes nothing.
-use Rattle.std.specs.Prelude.{refl}
+use Rattle.std.specs.Prelude.{refl, ℕ}
 use Rattle.std.proofs.Common.{lit<, lit≤}
 use Rattle.std.specs.Float.Ieee.{of_bits}
 use Rattle.ieee.specs.Units.{magnitude}
-use Rattle.kinds.specs.Limits.{doubles, singles}
+use Rattle.kinds.specs.Limits.{Width, doubles, singles}
+use Rattle.kinds.specs.Known.{Known, is_doubles, is_singles}
 use Rattle.kinds.proofs.LimitsLaws.{exponent_doubles, exponent_singles}
 use Rattle.rounds.specs.Fitting.{Fitting}
 
@@ -46,3 +47,8 @@ singles_fit = record {
   sum_room = lit≤ tt;
   enough = lit< tt;
 }
+
+-- one law for both: at binary64 it is doubles_fit, at binary32 singles_fit
+abbrev pub fit_of : {W : Width} {d s i l m c r : ℕ} → Known W d s i l m c r → Fitting W
+fit_of is_doubles = doubles_fit
+fit_of is_singles = singles_fit

@@ -8,9 +8,9 @@ use Rattle.ieee.specs.Units.{magnitude}
 use Rattle.lists.specs.Bitset.{without, full}
 use Rattle.kinds.specs.Limits.{Width, exponent_of, blocks_of}
 use Rattle.kinds.specs.States.{state_of}
-use Rattle.kinds.specs.declared.State.{State}
-use Rattle.kinds.specs.declared.Step.{Step}
-use Rattle.kinds.specs.declared.Step.TheVariants.{More, Done}
+use Rattle.kinds.specs.State.{State}
+use Rattle.kinds.specs.Step.{Step}
+use Rattle.kinds.specs.Step.{More, Done}
 use Rattle.extract.specs.Extract.{plus_zero, remainders, gathered, last_sum, absolute, largest, largest_with}
 use Rattle.exponent.specs.Power.{power_of}
 

@@ -13,10 +13,10 @@ use Rattle.lists.proofs.Apart.{apart}
 use Rattle.lists.specs.Bitset.{has, without, full}
 use Rattle.kinds.specs.Limits.{Width, blocks_of}
 use Rattle.kinds.specs.Outcome.{outcome}
-use Rattle.kinds.specs.declared.State.{State}
-use Rattle.kinds.specs.declared.Step.{Step}
-use Rattle.kinds.specs.declared.Step.TheVariants.{More, Done, Refused}
-use Rattle.kinds.specs.declared.Verdict.TheVariants.{Good}
+use Rattle.kinds.specs.State.{State}
+use Rattle.kinds.specs.Step.{Step}
+use Rattle.kinds.specs.Step.{More, Done, Refused}
+use Rattle.kinds.specs.Verdict.{Good}
 use Rattle.judge.specs.Judge.{floats}
 use Rattle.judge.specs.Table.{ListWhen}
 use Rattle.extract.specs.Extract.{plus_zero}

@@ -6,10 +6,10 @@ use mathlib.Core.List.{List, [], ◌∷◌, foldl, foldl-append, Perm}
 use Prim.Native.Nat.{ℕ, zero, suc, ◌+◌}
 use Rattle.kinds.specs.Limits.{Width, blocks_of}
 use Rattle.kinds.specs.Outcome.{outcome}
-use Rattle.kinds.specs.declared.State.{State}
-use Rattle.kinds.specs.declared.Step.{Step}
-use Rattle.kinds.specs.declared.Step.TheVariants.{More, Done, Refused}
-use Rattle.kinds.specs.declared.Verdict.TheVariants.{Good}
+use Rattle.kinds.specs.State.{State}
+use Rattle.kinds.specs.Step.{Step}
+use Rattle.kinds.specs.Step.{More, Done, Refused}
+use Rattle.kinds.specs.Verdict.{Good}
 use Rattle.judge.specs.Table.{ListWhen}
 use Rattle.rounds.specs.Fitting.{Fitting}
 use Rattle.walk.specs.Walk.{Walked, opened, onward, rising, stepped, faithful_of}

@@ -13,9 +13,9 @@ use Rattle.units.proofs.Powers.{pow_split}
 use Rattle.ieee.specs.Units.{Number, magnitude}
 use Rattle.lists.specs.Each.{Each, each_map, each_weaker, each_take, each_drop}
 use Rattle.kinds.specs.Limits.{Width, exponent_of}
-use Rattle.kinds.specs.declared.State.{State}
-use Rattle.kinds.specs.declared.Step.TheVariants.{More}
-use Rattle.kinds.specs.declared.Verdict.TheVariants.{Good}
+use Rattle.kinds.specs.State.{State}
+use Rattle.kinds.specs.Step.{More}
+use Rattle.kinds.specs.Verdict.{Good}
 use Rattle.extract.specs.Extract.{plus_zero, high_part, gathered, last_sum}
 use Rattle.extract.specs.LargestLaws.{Positive, zero_positive}
 use Rattle.judge.specs.Table.{size_of}

@@ -10,7 +10,7 @@ use Rattle.units.proofs.Closing.{close_conserves}
 use Rattle.ieee.specs.Units.{whole}
 use Rattle.lists.specs.Each.{Each}
 use Rattle.kinds.specs.Limits.{Width, exponent_of}
-use Rattle.kinds.specs.declared.State.{State}
+use Rattle.kinds.specs.State.{State}
 use Rattle.extract.specs.Extract.{remainder_of}
 use Rattle.rounds.specs.Round.{all_taken, all_left}
 use Rattle.rounds.specs.ClosedLaws.{tau1_of}

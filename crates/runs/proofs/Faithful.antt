@@ -9,8 +9,8 @@ use Rattle.ieee.proofs.FaithfulFloat.{faithful_float, nearest_faithful}
 use Rattle.ieee.proofs.TwoFaithful.{faithful_close}
 use Rattle.lists.proofs.Apart.{apart}
 use Rattle.kinds.specs.Limits.{Width, blocks_of}
-use Rattle.kinds.specs.declared.Step.TheVariants.{Done}
-use Rattle.kinds.specs.declared.Verdict.TheVariants.{Good}
+use Rattle.kinds.specs.Step.{Done}
+use Rattle.kinds.specs.Verdict.{Good}
 use Rattle.judge.specs.Judge.{floats, zero_sign}
 use Rattle.judge.specs.Table.{ListWhen, MinusZeros}
 use Rattle.judge.proofs.ZeroLaws.{zero_plus}

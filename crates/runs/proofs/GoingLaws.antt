@@ -16,11 +16,11 @@ use Rattle.lists.proofs.BitsetLaws.{has_below}
 use Rattle.lists.specs.Each.{Each, each_weaker, each_take, each_drop}
 use Rattle.kinds.specs.Limits.{Width, blocks_of}
 use Rattle.kinds.specs.Outcome.{outcome}
-use Rattle.kinds.specs.declared.State.{State}
-use Rattle.kinds.specs.declared.Step.{Step}
-use Rattle.kinds.specs.declared.Step.TheVariants.{More, Done, Refused}
-use Rattle.kinds.specs.declared.Verdict.TheVariants.{Good}
-use Rattle.kinds.specs.declared.Verdict.TheVariants as verdicts
+use Rattle.kinds.specs.State.{State}
+use Rattle.kinds.specs.Step.{Step}
+use Rattle.kinds.specs.Step.{More, Done, Refused}
+use Rattle.kinds.specs.Verdict.{Good}
+use Rattle.kinds.specs.Verdict as verdicts
 use Rattle.sums.specs.Sums.{sum_of}
 use Rattle.extract.specs.Extract.{plus_zero, gathered, largest}
 use Rattle.extract.specs.LargestLaws.{Positive}

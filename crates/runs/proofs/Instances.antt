@@ -10,9 +10,9 @@ use Rattle.ieee.specs.Zeros.{minus_zero}
 use Rattle.kinds.specs.Limits.{doubles, singles, blocks_of}
 use Rattle.kinds.specs.Outcome.{outcome}
 use Rattle.kinds.specs.Heard.{step_heard, nearest_heard, done, nearest}
-use Rattle.kinds.specs.declared.State.{State}
-use Rattle.kinds.specs.declared.Step.TheVariants.{More, Done}
-use Rattle.kinds.specs.declared.Verdict.TheVariants.{Good}
+use Rattle.kinds.specs.State.{State}
+use Rattle.kinds.specs.Step.{More, Done}
+use Rattle.kinds.specs.Verdict.{Good}
 use Rattle.judge.specs.Judge.{floats, zero_sign}
 use Rattle.judge.specs.Table.{ListWhen, MinusZeros, ZeroWhen}
 use Rattle.judge.proofs.JudgeLaws.{list_allowed}

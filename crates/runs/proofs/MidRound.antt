@@ -16,7 +16,7 @@ use Rattle.lists.specs.Bitset.{has, without, full}
 use Rattle.lists.proofs.BitsetLaws.{has_full, has_below, without_less}
 use Rattle.lists.specs.Each.{Each, each_take, each_drop, each_weaker}
 use Rattle.kinds.specs.Limits.{Width, exponent_of, blocks_of}
-use Rattle.kinds.specs.declared.State.{State}
+use Rattle.kinds.specs.State.{State}
 use Rattle.extract.specs.Extract.{gathered, remainders, largest, largest_with}
 use Rattle.extract.specs.ExtractLaws.{remainders_none, largest_none}
 use Rattle.extract.specs.LargestLaws.{Positive}

@@ -15,9 +15,9 @@ use Rattle.lists.specs.Bitset.{has, without}
 use Rattle.lists.proofs.BitsetLaws.{has_below}
 use Rattle.kinds.specs.Limits.{Width, exponent_of, blocks_of}
 use Rattle.kinds.specs.Outcome.{outcome}
-use Rattle.kinds.specs.declared.State.{State}
-use Rattle.kinds.specs.declared.Step.TheVariants.{More}
-use Rattle.kinds.specs.declared.Verdict.TheVariants.{Good, Refused}
+use Rattle.kinds.specs.State.{State}
+use Rattle.kinds.specs.Step.{More}
+use Rattle.kinds.specs.Verdict.{Good, Refused}
 use Rattle.extract.specs.Extract.{gathered, remainders, largest_with}
 use Rattle.extract.proofs.LargestWithLaws.{positive_same}
 use Rattle.sound.specs.Sound.{gated}

@@ -17,9 +17,9 @@ use Rattle.ieee.proofs.Zeros.{minus_magnitude}
 use Rattle.lists.specs.Each.{Each}
 use Rattle.kinds.specs.Limits.{Width, exponent_of}
 use Rattle.kinds.specs.Outcome.{outcome}
-use Rattle.kinds.specs.declared.Step.{Step}
-use Rattle.kinds.specs.declared.Step.TheVariants.{More, Done}
-use Rattle.kinds.specs.declared.Verdict.TheVariants.{Good}
+use Rattle.kinds.specs.Step.{Step}
+use Rattle.kinds.specs.Step.{More, Done}
+use Rattle.kinds.specs.Verdict.{Good}
 use Rattle.judge.specs.Judge.{floats}
 use Rattle.judge.specs.Table.{ListWhen, MinusZeros}
 use Rattle.judge.proofs.JudgeLaws.{list_when, list_passed, list_allowed}

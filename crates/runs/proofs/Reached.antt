@@ -11,11 +11,11 @@ use Rattle.lists.specs.Bitset.{has, without}
 use Rattle.lists.proofs.BitsetLaws.{has_below}
 use Rattle.kinds.specs.Limits.{Width, exponent_of, blocks_of}
 use Rattle.kinds.specs.Outcome.{outcome}
-use Rattle.kinds.specs.declared.State.{State}
-use Rattle.kinds.specs.declared.Step.{Step}
-use Rattle.kinds.specs.declared.Step.TheVariants.{More, Done, Refused}
-use Rattle.kinds.specs.declared.Verdict.TheVariants.{Good}
-use Rattle.kinds.specs.declared.Verdict.TheVariants as verdicts
+use Rattle.kinds.specs.State.{State}
+use Rattle.kinds.specs.Step.{Step}
+use Rattle.kinds.specs.Step.{More, Done, Refused}
+use Rattle.kinds.specs.Verdict.{Good}
+use Rattle.kinds.specs.Verdict as verdicts
 use Rattle.judge.specs.Judge.{floats}
 use Rattle.judge.specs.Table.{ListWhen}
 use Rattle.sums.specs.Sums.{sum_of}

@@ -11,10 +11,10 @@ use Rattle.ieee.proofs.TwoFaithful.{two_faithful}
 use Rattle.lists.proofs.Apart.{apart}
 use Rattle.kinds.specs.Limits.{Width}
 use Rattle.kinds.specs.Outcome.{outcome}
-use Rattle.kinds.specs.declared.Step.{Step}
-use Rattle.kinds.specs.declared.Step.TheVariants.{Done, Refused}
-use Rattle.kinds.specs.declared.Verdict.{Verdict}
-use Rattle.kinds.specs.declared.Verdict.TheVariants as verdicts
+use Rattle.kinds.specs.Step.{Step}
+use Rattle.kinds.specs.Step.{Done, Refused}
+use Rattle.kinds.specs.Verdict.{Verdict}
+use Rattle.kinds.specs.Verdict as verdicts
 use Rattle.judge.specs.Judge.{judged, zero_sign}
 use Rattle.judge.specs.Table.{ListWhen}
 use Rattle.judge.proofs.JudgeLaws.{list_when}

@@ -10,9 +10,9 @@ use Rattle.ieee.specs.Units.{whole}
 use Rattle.lists.proofs.Apart.{apart}
 use Rattle.kinds.specs.Limits.{Width, blocks_of}
 use Rattle.kinds.specs.Outcome.{outcome}
-use Rattle.kinds.specs.declared.State.{State}
-use Rattle.kinds.specs.declared.Step.{Step}
-use Rattle.kinds.specs.declared.Step.TheVariants.{More, Done, Refused}
+use Rattle.kinds.specs.State.{State}
+use Rattle.kinds.specs.Step.{Step}
+use Rattle.kinds.specs.Step.{More, Done, Refused}
 use Rattle.extract.specs.Extract.{plus_zero, largest}
 use Rattle.extract.specs.LargestLaws.{zero_positive}
 use Rattle.rounds.specs.Round.{all_taken, all_left, all_zero, closed}

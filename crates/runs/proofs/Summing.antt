@@ -19,7 +19,7 @@ use Rattle.ieee.proofs.Sum.{whole_mag}
 use Rattle.ieee.proofs.Compare.{eq_units}
 use Rattle.lists.specs.Each.{Each, each_weaker}
 use Rattle.kinds.specs.Limits.{Width, exponent_of}
-use Rattle.kinds.specs.declared.State.{State}
+use Rattle.kinds.specs.State.{State}
 use Rattle.extract.specs.Extract.{plus_zero, absolute, largest, last_sum}
 use Rattle.extract.specs.ExtractLaws.{largest_bounds}
 use Rattle.extract.specs.LargestLaws.{zero_positive, absolute_is}

@@ -13,8 +13,8 @@ use Rattle.ieee.proofs.Zeros.{zero_value, minus_nearest, minus_sign, minus_magni
 use Rattle.kinds.specs.Limits.{Width}
 use Rattle.kinds.specs.Outcome.{outcome}
 use Rattle.kinds.specs.Heard.{step_heard, done}
-use Rattle.kinds.specs.declared.Step.TheVariants.{Done}
-use Rattle.kinds.specs.declared.Verdict.TheVariants.{Good}
+use Rattle.kinds.specs.Step.{Done}
+use Rattle.kinds.specs.Verdict.{Good}
 use Rattle.judge.specs.Judge.{floats, zero_sign}
 use Rattle.judge.specs.Table.{ListWhen, MinusZeros, ZeroWhen}
 use Rattle.judge.proofs.ZeroLaws.{zero_sign_lem, zero_when}

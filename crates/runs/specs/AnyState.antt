@@ -4,9 +4,9 @@ use Rattle.std.specs.Float.Ieee.{fits}
 use Rattle.ieee.specs.Units.{Number, magnitude, negative}
 use Rattle.lists.specs.Each.{Each}
 use Rattle.kinds.specs.Limits.{Width}
-use Rattle.kinds.specs.declared.State.{State}
-use Rattle.kinds.specs.declared.Step.{Step}
-use Rattle.kinds.specs.declared.Step.TheVariants.{More, Done, Refused}
+use Rattle.kinds.specs.State.{State}
+use Rattle.kinds.specs.Step.{Step}
+use Rattle.kinds.specs.Step.{More, Done, Refused}
 use Rattle.sound.specs.Numbers.{SigmaBetween, UpToEps}
 use Rattle.walk.specs.Walk.{Walked}
 

@@ -8,9 +8,9 @@ use Rattle.ieee.specs.Accuracy.{FaithfulTo}
 use Rattle.lists.specs.Bitset.{has, without}
 use Rattle.lists.specs.Each.{Each}
 use Rattle.kinds.specs.Limits.{Width, exponent_of, blocks_of}
-use Rattle.kinds.specs.declared.State.{State}
-use Rattle.kinds.specs.declared.Step.TheVariants.{More}
-use Rattle.kinds.specs.declared.Verdict.TheVariants.{Good, Refused}
+use Rattle.kinds.specs.State.{State}
+use Rattle.kinds.specs.Step.{More}
+use Rattle.kinds.specs.Verdict.{Good, Refused}
 use Rattle.sums.specs.Sums.{sum_of}
 use Rattle.extract.specs.Extract.{plus_zero, gathered, largest}
 use Rattle.extract.specs.LargestLaws.{Positive}

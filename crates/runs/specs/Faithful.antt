@@ -3,7 +3,7 @@ use Rattle.std.specs.Prelude.{◌≡◌, List, ℕ, suc, ◌≤◌, Float}
 use Rattle.ieee.specs.Units.{magnitude, negative}
 use Rattle.ieee.specs.Accuracy.{FaithfulTo, CloseTo}
 use Rattle.kinds.specs.Limits.{Width}
-use Rattle.kinds.specs.declared.Step.TheVariants.{Done}
+use Rattle.kinds.specs.Step.{Done}
 use Rattle.judge.specs.Judge.{zero_sign}
 use Rattle.sums.specs.Sums.{sum_of}
 use Rattle.walk.specs.Walk.{Walked}

@@ -2,7 +2,7 @@
 use Rattle.std.specs.Prelude.{true, ℕ, eqb, length, Float}
 use mathlib.Core.List.{List}
 use Rattle.kinds.specs.Limits.{Width}
-use Rattle.kinds.specs.declared.Verdict.TheVariants.{Good}
+use Rattle.kinds.specs.Verdict.{Good}
 use Rattle.judge.specs.Table.{ListWhen}
 
 -- an accepted list of either width

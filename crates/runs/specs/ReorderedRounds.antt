@@ -4,8 +4,8 @@ use mathlib.Core.List.Perm
 use mathlib.Core.List.{List, Perm}
 use Prim.Native.Nat.{ℕ}
 use Rattle.kinds.specs.Outcome.{outcome}
-use Rattle.kinds.specs.declared.State.{State}
-use Rattle.kinds.specs.declared.Step.TheVariants.{More, Done}
+use Rattle.kinds.specs.State.{State}
+use Rattle.kinds.specs.Step.{More, Done}
 use Rattle.walk.specs.Walk.{Walked}
 
 -- ---- a walk

@@ -2,7 +2,7 @@
 use Rattle.std.specs.Prelude.{◌≡◌, List, ℕ, Float}
 use Rattle.kinds.specs.Limits.{Width}
 use Rattle.kinds.specs.Outcome.{outcome}
-use Rattle.kinds.specs.declared.Step.TheVariants.{Done}
+use Rattle.kinds.specs.Step.{Done}
 use Rattle.walk.specs.Walk.{faithful_of}
 use Rattle.runs.specs.Runs.{run_of}
 

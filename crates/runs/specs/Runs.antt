@@ -5,8 +5,8 @@ use mathlib.Core.List.{List, [], ◌∷◌, ◌++◌, foldl}
 use Rattle.lists.specs.Bitset.{has}
 use Rattle.kinds.specs.Limits.{Width}
 use Rattle.kinds.specs.Outcome.{outcome}
-use Rattle.kinds.specs.declared.Step.{Step}
-use Rattle.kinds.specs.declared.Step.TheVariants.{More, Done, Refused}
+use Rattle.kinds.specs.Step.{Step}
+use Rattle.kinds.specs.Step.{More, Done, Refused}
 use Rattle.walk.specs.Walk.{Walked, opened, stepped, onward}
 use Rattle.walk.specs.Before.{stepped_before, forgotten}
 

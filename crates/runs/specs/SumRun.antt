@@ -5,9 +5,9 @@ use Rattle.units.specs.Whole.{Whole}
 use Rattle.units.specs.Faithful.{Faithful}
 use Rattle.ieee.specs.Units.{Number, magnitude, negative, whole}
 use Rattle.kinds.specs.Limits.{Width}
-use Rattle.kinds.specs.declared.State.{State}
-use Rattle.kinds.specs.declared.Step.{Step}
-use Rattle.kinds.specs.declared.Step.TheVariants.{More, Done}
+use Rattle.kinds.specs.State.{State}
+use Rattle.kinds.specs.Step.{Step}
+use Rattle.kinds.specs.Step.{More, Done}
 use Rattle.rounds.specs.Fitting.{Fitting}
 use Rattle.walk.specs.Walk.{Walked}
 use Rattle.runs.specs.Summing.{Summing}

@@ -5,7 +5,7 @@ use Rattle.units.specs.Whole.{Whole}
 use Rattle.units.specs.Walk as units
 use Rattle.ieee.specs.Units.{whole}
 use Rattle.kinds.specs.Limits.{Width, exponent_of}
-use Rattle.kinds.specs.declared.State.{State}
+use Rattle.kinds.specs.State.{State}
 use Rattle.rounds.specs.InUnits.{wholes}
 use Rattle.rounds.specs.Fitting.{Fitting}
 use Rattle.rounds.specs.Begun.{Begun}

@@ -3,7 +3,7 @@ use Rattle.std.specs.Prelude.{Bool, cond, List, [], ◌∷◌, ℕ, suc, ◌/◌
 use Rattle.std.specs.Float.{Format}
 use Rattle.lists.specs.Bitset.{has}
 use Rattle.kinds.specs.Limits.{Width}
-use Rattle.kinds.specs.declared.State.{State}
+use Rattle.kinds.specs.State.{State}
 use Rattle.extract.specs.Extract.{remainder_of}
 
 -- whether the place i is in a pending block

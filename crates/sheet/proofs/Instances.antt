@@ -6,7 +6,7 @@ use Rattle.lists.specs.Digits.{Digits, number, digits}
 use Rattle.octets.specs.Octets.{joined, eights}
 use Rattle.kinds.specs.Limits.{doubles}
 use Rattle.kinds.specs.Outcome.{outcome}
-use Rattle.kinds.specs.declared.Sheet.TheVariants.{Read, Refused}
+use Rattle.kinds.specs.Sheet.{Read, Refused}
 use Rattle.sheet.specs.Sheet.{sheet_of, read_of}
 use Rattle.sheet.proofs.SheetLaws.{sheet_read}
 use Rattle.sheet.specs.Instances.{example_sheet, three}

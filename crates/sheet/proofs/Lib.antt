@@ -2,6 +2,7 @@
 pub mod HeaderLaws
 pub mod Instances
 pub mod LayoutLaws
+pub mod Results
 pub mod SheetLaws
 pub mod TableLaws
 pub mod ThereAndBack

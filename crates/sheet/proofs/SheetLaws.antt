@@ -14,7 +14,7 @@ use Rattle.octets.proofs.OctetsLaws.{big_length, big_back, big_bytes_back}
 use Rattle.octets.proofs.EightsLaws.{eights_length, joined_length, eights_joined, joined_eights}
 use Rattle.kinds.specs.Limits.{Width}
 use Rattle.kinds.specs.Outcome.{outcome}
-use Rattle.kinds.specs.declared.Sheet.TheVariants.{Read, Refused}
+use Rattle.kinds.specs.Sheet.{Read, Refused}
 use Rattle.sheet.specs.Sheet.{Reading, body, sheet_of, version_of, count_of, patterns_of, read_of}
 use Rattle.sheet.specs.SheetLaws.{Readable}
 

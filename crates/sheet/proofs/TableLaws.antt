@@ -10,8 +10,8 @@ use Rattle.kinds.proofs.Hearing.{exactly, at_place_0, sheet_is, hears}
 use Rattle.kinds.specs.Limits.{Width}
 use Rattle.kinds.specs.Outcome.{outcome}
 use Rattle.kinds.proofs.OutcomeLaws.{determined}
-use Rattle.kinds.specs.declared.Sheet.{Sheet}
-use Rattle.kinds.specs.declared.Sheet.TheVariants.{Read, Refused}
+use Rattle.kinds.specs.Sheet.{Sheet}
+use Rattle.kinds.specs.Sheet.{Read, Refused}
 use Rattle.sheet.specs.Sheet.{Reading, version_of, count_of, read_of}
 use Rattle.sheet.specs.Table.{Begun, SheetWhen, no_header, other_version, too_many, too_short, too_long, no_room, all_read}
 use Rattle.sheet.proofs.SheetLaws.{read_no_header, read_version, read_many, read_short, read_long, read_no_room, read_all}

@@ -5,7 +5,7 @@ use Rattle.std.proofs.Common.{sym, ap, ◌∙◌, arith, lit<, take-append-drop,
 use Rattle.lists.specs.Digits.{Digits}
 use Rattle.kinds.specs.Limits.{Width, doubles}
 use Rattle.kinds.specs.Outcome.{outcome}
-use Rattle.kinds.specs.declared.Sheet.TheVariants.{Read}
+use Rattle.kinds.specs.Sheet.{Read}
 use Rattle.sheet.specs.Sheet.{Reading, sheet_of, read_of}
 use Rattle.sheet.proofs.SheetLaws.{read_is_sheet, sheet_length, sheet_read}
 use Rattle.sheet.specs.Table.{SheetWhen, all_read}
@@ -13,7 +13,7 @@ use Rattle.sheet.proofs.TableLaws.{sheet_when}
 use Rattle.sheet.specs.Write.{Writing, written_of, WriteWhen, all_written}
 use Rattle.sheet.proofs.WriteLaws.{write_when}
 use Rattle.sheet.proofs.WriteCases.{write_all}
-use Rattle.sheet.specs.declared.Written.TheVariants.{Wrote}
+use Rattle.sheet.specs.Written.{Wrote}
 
 -- ---- a call that wrote size bytes, and left the area as `after`
 module _ (W : Width) (ps area : List ℕ) {size : ℕ} {after : List ℕ} (e : written_of W ps area ≡ outcome (Wrote size) after) where

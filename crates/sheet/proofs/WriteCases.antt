@@ -4,10 +4,9 @@ use borrow.Author.Tests.{lt-ltb, le-ltb}
 use Rattle.std.proofs.Math.ListN.{length}
 use Rattle.kinds.specs.Limits.{Width}
 use Rattle.kinds.specs.Outcome.{outcome}
-use Rattle.kinds.specs.declared.Verdict.TheVariants as verdicts
 use Rattle.sheet.specs.Sheet.{sheet_of}
 use Rattle.sheet.specs.Write.{written_of}
-use Rattle.sheet.specs.declared.Written.TheVariants.{Wrote, Refused}
+use Rattle.sheet.specs.Written.{Wrote, Refused}
 
 module _ (W : Width) (ps area : List ℕ) where
   pub write_many : W.length < length ps → written_of W ps area ≡ outcome (Refused 1 0) area

@@ -7,7 +7,7 @@ use Rattle.kinds.specs.Outcome.{outcome}
 use Rattle.sheet.specs.Sheet.{sheet_of}
 use Rattle.sheet.specs.Write.{written_of}
 use Rattle.sheet.specs.Instances.{example_sheet, three}
-use Rattle.sheet.specs.declared.Written.TheVariants.{Wrote, Refused}
+use Rattle.sheet.specs.Written.{Wrote, Refused}
 
 pub example_written : written_of doubles three (replicate 30 7) ≡ outcome (Wrote 29) (example_sheet ++ (7 ∷ []))
 unfolding written_of sheet_of joined digits

@@ -1,6 +1,6 @@
 -- What the writer answers, case by case; each answer exactly when its row says (rule O6), and so it is heard, with no place; a refusal leaves the area as it
 -- was; and two results that meet the writer's contract are equal. Assumes nothing.
-use Rattle.std.specs.Prelude.{◌≡◌, refl, ◌↔◌, List, ℕ, ◌+◌, ◌*◌, ◌<◌}
+use Rattle.std.specs.Prelude.{◌≡◌, refl, ◌↔◌, List, ℕ, ◌+◌, ◌*◌}
 use Rattle.std.proofs.Common.{sym, ap, ◌∙◌, inl, inr, lit<}
 use Rattle.std.proofs.Math.ListN.{length}
 use Rattle.units.proofs.Powers.{le_or_lt}
@@ -11,11 +11,11 @@ use Rattle.kinds.proofs.Hearing.{exactly, at_place_0, hears}
 use Rattle.kinds.specs.Limits.{Width}
 use Rattle.kinds.specs.Outcome.{outcome}
 use Rattle.kinds.proofs.OutcomeLaws.{determined}
-use Rattle.kinds.specs.declared.Verdict.{Verdict}
-use Rattle.kinds.specs.declared.Verdict.TheVariants as verdicts
+use Rattle.kinds.specs.Verdict.{Verdict}
+use Rattle.kinds.specs.Verdict as verdicts
 use Rattle.sheet.specs.Write.{Writing, written_of, written_heard, WriteWhen, too_many, no_room, all_written}
-use Rattle.sheet.specs.declared.Written.{Written}
-use Rattle.sheet.specs.declared.Written.TheVariants.{Wrote, Refused}
+use Rattle.sheet.specs.Written.{Written}
+use Rattle.sheet.specs.Written.{Wrote, Refused}
 use Rattle.sheet.proofs.WriteCases.{write_many, write_no_room, write_all}
 
 abbrev answer_of : Writing → Written

@@ -1,5 +1,6 @@
 -- The contribution sheet.
 pub mod Sheet
+pub mod Written
 pub mod Write
 pub mod Table
 pub mod SheetLaws

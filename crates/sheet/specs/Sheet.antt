@@ -3,8 +3,8 @@ use Rattle.std.specs.Prelude.{cond, not, List, ◌∷◌, ◌++◌, ℕ, ◌+◌
 use Rattle.octets.specs.Octets.{big_endian, big, bytes_at, joined, eights}
 use Rattle.kinds.specs.Limits.{Width}
 use Rattle.kinds.specs.Outcome.{Outcome, outcome}
-use Rattle.kinds.specs.declared.Sheet.{Sheet}
-use Rattle.kinds.specs.declared.Sheet.TheVariants.{Read, Refused}
+use Rattle.kinds.specs.Sheet.{Sheet}
+use Rattle.kinds.specs.Sheet.{Read, Refused}
 
 -- ---- rule H1
 abbrev pub body : List ℕ → List ℕ

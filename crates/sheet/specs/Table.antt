@@ -1,8 +1,8 @@
 -- Rule O6 for a sheet: what each answer is given exactly for, in rule O5's order, each where none before it holds. None tells a place. Definitions only.
 use Rattle.std.specs.Prelude.{◌≡◌, List, ℕ, ◌+◌, ◌*◌, ◌≤◌, ◌<◌, length}
 use Rattle.kinds.specs.Limits.{Width}
-use Rattle.kinds.specs.declared.Sheet.{Sheet}
-use Rattle.kinds.specs.declared.Sheet.TheVariants.{Read, Refused}
+use Rattle.kinds.specs.Sheet.{Sheet}
+use Rattle.kinds.specs.Sheet.{Read, Refused}
 use Rattle.sheet.specs.Sheet.{version_of, count_of}
 
 -- a sheet with its header, of version 1

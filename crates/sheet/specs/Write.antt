@@ -4,8 +4,8 @@ use Rattle.kinds.specs.Limits.{Width}
 use Rattle.kinds.specs.Heard.{Heard, refused, count, place_of}
 use Rattle.kinds.specs.Outcome.{Outcome, outcome}
 use Rattle.sheet.specs.Sheet.{sheet_of}
-use Rattle.sheet.specs.declared.Written.{Written}
-use Rattle.sheet.specs.declared.Written.TheVariants.{Wrote, Refused}
+use Rattle.sheet.specs.Written.{Written}
+use Rattle.sheet.specs.Written.{Wrote, Refused}
 
 -- the answer, and the area afterwards
 abbrev pub Writing : Type 0

@@ -21,9 +21,7 @@ pub fn patterns(list: &[u64], sheet: &mut [u8])
     ensures { sheet.new
         ≡ take 5 sheet.old ++ (body list.now ++ drop (5 + 8 * length list.now) sheet.old) }
 {
-    let mut i = 0;
-    while i < list.len() {
-        write_big_endian(sheet, HEADER + PATTERN * i, PATTERN, list[i]);
-        i += 1;
+    for (i, p) in list.iter().enumerate() {
+        write_big_endian(sheet, HEADER + PATTERN * i, PATTERN, *p);
     }
 }

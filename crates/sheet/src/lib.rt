@@ -1,16 +1,18 @@
 // The contribution sheet: its reader, rule H2, and its writer, rule H4.
 #![tactic(auto)]
 
-use kinds::{Doubles, Sheet};
+use kinds::{Doubles, Refusal};
 use octets::big_endian;
 
 pub mod layout;
 
 ghost use Rattle.std.specs.Prelude.{◌≡◌, ◌++◌, ◌+◌, ◌*◌, ◌≤◌, length, drop};
 ghost use Rattle.kinds.specs.Limits.{doubles};
+ghost use Rattle.kinds.specs.Answers.{as_sheet};
 ghost use Rattle.kinds.specs.Outcome.{outcome};
 ghost use Rattle.sheet.specs.Sheet.{version_of, count_of, patterns_of, read_of};
 ghost use Rattle.sheet.specs.Write.{written_of};
+ghost use Rattle.sheet.specs.Written.{as_written};
 
 // rule H1: the first byte
 pub const VERSION: u8 = 1;
@@ -20,13 +22,6 @@ pub const HEADER: usize = 5;
 
 // the bytes of a pattern
 pub const PATTERN: usize = 8;
-
-// of the writer: how many bytes it wrote
-#[derive(Drop)]
-pub enum Written {
-    Wrote(usize),
-    Refused(u32, u32),
-}
 
 // What stands before the patterns.
 #[derive(Drop)]
@@ -50,54 +45,52 @@ fn copy(sheet: &[u8], area: &mut [u64], n: usize)
     requires { (5 + 8 * n ≤ length sheet.now) × (n ≤ length area.old) }
     ensures { area.new ≡ patterns_of n (drop 5 sheet.now) ++ drop n area.old }
 {
-    let mut i = 0;
-    while i < n {
+    for i in 0..n {
         area[i] = big_endian(sheet, HEADER + PATTERN * i, PATTERN);
-        i += 1;
     }
 }
 
 // Rule O5. A count above the limit is refused before it is multiplied.
-pub fn read(sheet: &[u8], area: &mut [u64]) -> Sheet
-    ensures { outcome result area.new ≡ read_of doubles sheet.now area.old }
+pub fn read(sheet: &[u8], area: &mut [u64]) -> Result<usize, Refusal>
+    ensures { outcome (as_sheet result) area.new ≡ read_of doubles sheet.now area.old }
 {
     if sheet.len() < HEADER {
-        return Sheet::Refused(11, 0);
+        return Err(Refusal::SheetTooShort);
     }
     let h = read_header(sheet);
     if h.version != VERSION {
-        return Sheet::Refused(12, 0);
+        return Err(Refusal::OtherVersion);
     }
     let n = h.count;
     if Doubles::LENGTH < n {
-        return Sheet::Refused(1, 0);
+        return Err(Refusal::TooMany);
     }
     let size = HEADER + PATTERN * n;
     if sheet.len() < size {
-        return Sheet::Refused(11, 0);
+        return Err(Refusal::SheetTooShort);
     }
     if size < sheet.len() {
-        return Sheet::Refused(13, 0);
+        return Err(Refusal::SheetTooLong);
     }
     if area.len() < n {
-        return Sheet::Refused(4, 0);
+        return Err(Refusal::WrongLength);
     }
     copy(sheet, area, n);
-    Sheet::Read(n)
+    Ok(n)
 }
 
 // Rule O8. For rule H6 patterns stay whole numbers on the way: of a double made of one a NaN's payload could not be told again.
-pub fn write(list: &[u64], sheet: &mut [u8]) -> Written
-    ensures { outcome result sheet.new ≡ written_of doubles list.now sheet.old }
+pub fn write(list: &[u64], sheet: &mut [u8]) -> Result<usize, Refusal>
+    ensures { outcome (as_written result) sheet.new ≡ written_of doubles list.now sheet.old }
 {
     if Doubles::LENGTH < list.len() {
-        return Written::Refused(1, 0);
+        return Err(Refusal::TooMany);
     }
     let bytes = HEADER + PATTERN * list.len();
     if sheet.len() < bytes {
-        return Written::Refused(4, 0);
+        return Err(Refusal::WrongLength);
     }
     layout::header(sheet, list.len());
     layout::patterns(list, sheet);
-    Written::Wrote(bytes)
+    Ok(bytes)
 }

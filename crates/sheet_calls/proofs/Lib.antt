@@ -2,4 +2,5 @@
 pub mod RescueCodes
 pub mod SheetArraysLaws
 pub mod SheetCodes
+pub mod Unlooked
 pub mod WriteCodes

@@ -12,8 +12,8 @@ use Rattle.sheet.specs.Sheet.{version_of, count_of}
 use Rattle.rescue.specs.Rescue as rows
 use Rattle.rescue.specs.Rescue.{Rescuing, rescuing, rescued_of, rescued_heard, RescueWhen}
 use Rattle.rescue.proofs.RescueLaws.{rescue_when, rescue_heard, rescue_leaves, rescue_refusal, rescued_is}
-use Rattle.rescue.specs.declared.Rescued.{Rescued}
-use Rattle.rescue.specs.declared.Rescued.TheVariants.{Refused}
+use Rattle.rescue.specs.Rescued.{Rescued}
+use Rattle.rescue.specs.Rescued.{Refused}
 use Rattle.arrays.specs.Arrays.{code_of, values_of}
 use Rattle.arrays.specs.Codes.{Coded}
 use Rattle.arrays.proofs.CodesLaws.{coded, refused_code, values_left}

@@ -5,8 +5,8 @@ use Rattle.std.proofs.Common.{sym, ap, inl, inr, arith, eq-eqb, ne_eqb}
 use Rattle.units.proofs.Powers.{le_or_lt}
 use Rattle.kinds.specs.Limits.{doubles}
 use Rattle.kinds.specs.Heard.{Refusal, sheet_heard}
-use Rattle.kinds.specs.declared.Sheet.{Sheet}
-use Rattle.kinds.specs.declared.Sheet.TheVariants as sheets
+use Rattle.kinds.specs.Sheet.{Sheet}
+use Rattle.kinds.specs.Sheet as sheets
 use Rattle.sheet.specs.Sheet.{count_of, read_of}
 use Rattle.sheet.specs.Table.{Begun, SheetWhen, no_header, other_version, too_many, too_short, too_long, no_room, all_read}
 use Rattle.sheet.proofs.TableLaws.{sheet_when}

@@ -5,8 +5,8 @@ use Rattle.std.proofs.Common.{sym, ap, arith}
 use Rattle.kinds.specs.Limits.{doubles}
 use Rattle.kinds.specs.Heard.{sheet_heard}
 use Rattle.kinds.proofs.Hearing.{exactly, sheet_is}
-use Rattle.kinds.specs.declared.Sheet.{Sheet}
-use Rattle.kinds.specs.declared.Sheet.TheVariants as sheets
+use Rattle.kinds.specs.Sheet.{Sheet}
+use Rattle.kinds.specs.Sheet as sheets
 use Rattle.sheet.specs.Sheet.{read_of}
 use Rattle.sheet.specs.Table as sheet-rows
 use Rattle.sheet.specs.Table.{SheetWhen}

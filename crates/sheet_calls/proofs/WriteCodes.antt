@@ -4,7 +4,7 @@ use Rattle.std.specs.Prelude.{◌≡◌, refl, List, ℕ, eqb, length}
 use Rattle.std.proofs.Common.{ap, arith, eq-eqb, ne_eqb}
 use Rattle.kinds.specs.Limits.{doubles}
 use Rattle.kinds.specs.Heard.{Refusal}
-use Rattle.sheet.specs.declared.Written.TheVariants.{Refused}
+use Rattle.sheet.specs.Written.{Refused}
 use Rattle.sheet.specs.Write.{written_of, written_heard, WriteWhen, too_many, no_room}
 use Rattle.sheet.proofs.WriteLaws.{write_when, write_heard, write_leaves, write_refusal, written_is}
 use Rattle.arrays.specs.Arrays.{code_of, values_of, returned, too_many_or_4}

@@ -2,7 +2,7 @@
 use Rattle.std.specs.Prelude.{◌≡◌, cond, List, ℕ, eqb, length}
 use Rattle.kinds.specs.Limits.{doubles}
 use Rattle.kinds.specs.Heard.{sheet_heard}
-use Rattle.kinds.specs.declared.Sheet.TheVariants.{Read, Refused}
+use Rattle.kinds.specs.Sheet.{Read, Refused}
 use Rattle.sheet.specs.Sheet.{read_of}
 use Rattle.sheet.specs.Write.{written_of, written_heard}
 use Rattle.arrays.specs.Arrays.{code_of, values_of, Returned, returned, too_many_or_4}

@@ -8,8 +8,8 @@ use Rattle.ieee.specs.Units.{magnitude}
 use Rattle.lists.specs.Each.{Each}
 use Rattle.exponent.specs.Power.{powers, power_of}
 use Rattle.kinds.specs.Limits.{Width, exponent_of}
-use Rattle.kinds.specs.declared.State.{State}
-use Rattle.kinds.specs.declared.Verdict.TheVariants.{Good}
+use Rattle.kinds.specs.State.{State}
+use Rattle.kinds.specs.Verdict.{Good}
 use Rattle.judge.specs.Table.{size_of}
 use Rattle.sound.specs.Sound.{at_most, sound_sigma, sound_pending, bad_place, gated}
 use Rattle.sound.specs.Numbers.{FiniteWithin, Numbers}

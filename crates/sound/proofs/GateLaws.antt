@@ -13,8 +13,8 @@ use Rattle.lists.specs.Bitset.{has}
 use Rattle.exponent.specs.Power.{powers, power_of}
 use Rattle.exponent.proofs.PowerLaws.{power_number, power_negative, power_magnitude}
 use Rattle.kinds.specs.Limits.{Width, exponent_of, blocks_of}
-use Rattle.kinds.specs.declared.State.{State}
-use Rattle.kinds.specs.declared.Verdict.TheVariants.{Good, Refused}
+use Rattle.kinds.specs.State.{State}
+use Rattle.kinds.specs.Verdict.{Good, Refused}
 use Rattle.judge.specs.Table.{size_of}
 use Rattle.sound.specs.Sound.{sound_numbers, sound_pending, bad_place, sound, gated}
 use Rattle.sound.specs.Places.{first_above}

@@ -1,4 +1,5 @@
 -- The crate's theorems and lemmas.
+pub mod WidthLaws
 pub mod AdmittedLaws
 pub mod GateLaws
 pub mod LimitLaws

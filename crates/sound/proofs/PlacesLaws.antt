@@ -1,10 +1,14 @@
 -- The first number above a limit: what a loop over the places passes and ends with, and that there is none where each passes the test; and that for the limit
 -- 2^-M sigma it is the first place of a state that is not sound. Assumes nothing.
-use Rattle.std.specs.Prelude.{◌≡◌, Bool, true, false, ◌&&◌, ℕ, zero, suc, ◌+◌, ◌-◌, ◌*◌, ◌^◌, ◌≤◌, ◌<◌, leb, eqb, length, get_or, drop, Float}
+use Rattle.std.specs.Prelude.{◌≡◌, Bool, true, false, not, ◌&&◌, map, position, unwrap_or, Some, None, ltb, ℕ, zero, suc, ◌+◌, ◌-◌, ◌*◌, ◌^◌, ◌≤◌, ◌<◌, leb}
+use Rattle.std.specs.Prelude.{eqb, length, get_or, drop, Float}
 use Rattle.std.proofs.Math.Path.{refl}
-use Rattle.std.proofs.Common.{sym, ap, ◌∙◌, mul-zero, mul-suc, mul-le-mul_left, add-one, arith, ne_eqb, leb→le, le→leb, drop_of_length-le, pow_pos, drop-cons}
+use Rattle.std.proofs.Common.{sym, ap, ◌∙◌, mul-zero, mul-suc, mul-le-mul_left, add-one, arith, ne_eqb, leb→le, le→leb, ltb-false, drop_of_length-le, pow_pos}
+use Rattle.std.proofs.Common.{drop-cons}
 use Rattle.std.proofs.Math.Bool.{cond}
 use mathlib.Core.List.{List, [], ◌∷◌}
+use Rattle.std.specs.List.{position_or_len}
+use Rattle.std.proofs.lemmas.List.{length-map}
 use Rattle.std.proofs.Math.Nat.{le_of_mul-le-mul_left}
 use Rattle.std.proofs.Math.Pow.{pow-lt}
 use Rattle.std.specs.Float.Ieee.Scale.{finite}
@@ -13,7 +17,7 @@ use Rattle.ieee.specs.Units.{magnitude}
 use Rattle.ieee.proofs.Fractions.{same_test, eqb_same}
 use Rattle.lists.specs.Every.{every}
 use Rattle.kinds.specs.Limits.{Width, exponent_of}
-use Rattle.kinds.specs.declared.State.{State}
+use Rattle.kinds.specs.State.{State}
 use Rattle.sound.specs.Sound.{at_most, sound_place, bad_place}
 use Rattle.sound.specs.Places.{first_above}
 use Rattle.sound.specs.PlacesLaws.{NoneBefore}
@@ -59,6 +63,39 @@ unfolding every first_above
 none_above W most [] = refl
 none_above W most (x ∷ xs) =
     ap (λ (b : Bool). at_most W most x && b) (none_above W most xs) ∙ sym (counts (at_most W most x) (first_above W most xs) (length xs))
+
+-- ---- a search for the first place, in a list that is read by v
+module _ {A : Type 0} (v : A → Float) (W : Width) (most : ℕ) where
+  first_place : (xs : List A) → position_or_len (λ x. not (at_most W most (v x))) xs ≡ first_above W most (map v xs)
+  unfolding first_above
+  first_place [] = refl
+  first_place (x ∷ xs) = go (at_most W most (v x)) (first_place xs)
+    where
+      go : (c : Bool) {n m : ℕ} → n ≡ m → cond (not (not c)) (1 + n) 0 ≡ cond c (m + 1) 0
+      go true e = omega (arith, e)
+      go false e = refl
+
+  inside : (xs : List Float) → first_above W most xs ≤ length xs
+  unfolding first_above
+  inside [] = omega arith
+  inside (x ∷ xs) = go (at_most W most x) (inside xs)
+    where
+      go : (c : Bool) → first_above W most xs ≤ length xs → cond c (first_above W most xs + 1) 0 ≤ suc (length xs)
+      go true h = omega arith
+      go false h = omega arith
+
+  told : (n m : ℕ) → n ≤ m → unwrap_or (cond (ltb n m) (Some n) None) m ≡ n
+  told n m h = go (ltb n m) refl
+    where
+      go : (b : Bool) → ltb n m ≡ b → unwrap_or (cond b (Some n) None) m ≡ n
+      go true e = refl
+      go false e = let l : m ≤ n = ltb-false n m e in omega arith
+
+  pub position_above : (xs : List A) → unwrap_or (position (λ x. not (at_most W most (v x))) xs) (length xs) ≡ first_above W most (map v xs)
+  position_above xs =
+      let k = first_above W most (map v xs) in
+      let l : k ≤ length xs = rw (length-map xs v) at (inside (map v xs)) in
+      rw (first_place xs) (told k (length xs) l)
 
 -- ---- 2^-j sigma, of a sigma of 2^k units
 pub scaled : (j k a : ℕ) → j ≤ k → leb a (2 ^ (k - j)) ≡ leb (2 ^ j * a) (2 ^ k)

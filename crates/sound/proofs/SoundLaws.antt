@@ -13,7 +13,7 @@ use Rattle.ieee.specs.Units.{negative, magnitude}
 use Rattle.ieee.proofs.Fractions.{same_test}
 use Rattle.lists.specs.Bitset.{full}
 use Rattle.kinds.specs.Limits.{Width, blocks_of}
-use Rattle.kinds.specs.declared.State.{State}
+use Rattle.kinds.specs.State.{State}
 use Rattle.judge.specs.Table.{size_of}
 use Rattle.sound.specs.Sound.{sound_sigma, at_most, sound_largest, sound_numbers, sound_pending, bad_place, sound}
 use Rattle.sound.specs.Numbers.{FiniteWithin, UpToEps, Numbers}

@@ -8,7 +8,6 @@ use Rattle.std.specs.Float.{nan, inf, fin, Format}
 use Rattle.std.specs.Float.Ieee.{le, lt, eq, neg, fits}
 use Rattle.std.specs.Float.Ieee.Fits.{and_i, and_l, and_r}
 use Rattle.std.specs.Float.Ieee.Scale.{finite}
-use Rattle.units.specs.Whole as W
 use Rattle.units.specs.Whole.{nat}
 use Rattle.ieee.specs.Units.{Number, negative, magnitude, signed_whole, whole}
 use Rattle.ieee.proofs.Fractions.{same_test}

@@ -4,7 +4,7 @@ use Rattle.lists.specs.Bitset.{has}
 use Rattle.lists.specs.Each.{Each}
 use Rattle.exponent.specs.Power.{power_of}
 use Rattle.kinds.specs.Limits.{Width, exponent_of, blocks_of}
-use Rattle.kinds.specs.declared.State.{State}
+use Rattle.kinds.specs.State.{State}
 use Rattle.sound.specs.Numbers.{FiniteWithin, Numbers}
 
 pub record Admitted (W : Width) (top : ℕ) (s : State) (b : ℕ) (xs : List Float) : Type 0 where

@@ -7,9 +7,9 @@ use Rattle.ieee.specs.Units.{negative, magnitude}
 use Rattle.lists.specs.Bitset.{has}
 use Rattle.judge.specs.Table.{size_of}
 use Rattle.kinds.specs.Limits.{Width, exponent_of, blocks_of}
-use Rattle.kinds.specs.declared.State.{State}
-use Rattle.kinds.specs.declared.Verdict.{Verdict}
-use Rattle.kinds.specs.declared.Verdict.TheVariants.{Good, Refused}
+use Rattle.kinds.specs.State.{State}
+use Rattle.kinds.specs.Verdict.{Verdict}
+use Rattle.kinds.specs.Verdict.{Good, Refused}
 
 -- rule WS6: in units from 2^M to 2^M times the limit
 unfoldable pub sound_sigma : Width → ℕ → Float → Bool

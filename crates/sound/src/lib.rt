@@ -3,40 +3,44 @@
 
 use crate::numbers::{numbers, pending};
 use crate::places::{bad_place, limit};
-use kinds::{Doubles, State, Verdict};
+use kinds::{Floating, Refusal, State};
 
 pub mod numbers;
 pub mod places;
 
 ghost use Rattle.std.specs.Prelude.{◌≡◌};
-ghost use Rattle.kinds.specs.Limits.{doubles};
+ghost use Rattle.kinds.specs.Answers.{as_verdict, as_state};
 ghost use Rattle.sound.specs.Sound.{gated};
 
 // Rule O2. The whole work area is looked at, blocks already taken too; the block number is compared with B before any shift.
-pub fn gate(s: State, work: &[f64], block: usize, ensemble: u32) -> Verdict
-    ensures { result ≡ gated doubles s ensemble block work.now }
+pub fn gate<F: Floating>(
+    s: State<F>,
+    work: &[F],
+    block: usize,
+    ensemble: u32,
+) -> Result<(), Refusal>
+    ensures { as_verdict result ≡ gated F.width (as_state F.value s) ensemble block (F.values work.now) }
 {
     if work.len() != s.n {
-        return Verdict::Refused(4, 0);
+        return Err(Refusal::WrongLength);
     }
     if ensemble != s.ensemble {
-        return Verdict::Refused(21, 0);
+        return Err(Refusal::OtherEnsemble);
     }
     if !numbers(s) {
-        return Verdict::Refused(8, 0);
+        return Err(Refusal::UnsoundNumbers);
     }
     if !pending(s) {
-        return Verdict::Refused(18, 0);
+        return Err(Refusal::UnsoundSet);
     }
-    let place = bad_place(work, limit(s));
-    if place < work.len() {
-        return Verdict::Refused(19, place as u32);
+    if let Some(place) = bad_place(work, limit(s)) {
+        return Err(Refusal::UnsoundWork(place as u32));
     }
-    if Doubles::of(s.n).blocks() <= block {
-        return Verdict::Refused(6, 0);
+    if kinds::blocks(s.n) <= block {
+        return Err(Refusal::NoSuchBlock);
     }
     if !bitset::has(s.pending, block) {
-        return Verdict::Refused(7, 0);
+        return Err(Refusal::BlockNotPending);
     }
-    Verdict::Good
+    Ok(())
 }

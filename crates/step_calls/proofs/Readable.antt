@@ -1,6 +1,6 @@
 -- Numbers that can be read: what they are, and that a sound state's are such where its ensemble is one of 32 bits, since its rounds are few and its patterns
 -- are finite floats'. Assumes nothing.
-use Rattle.std.specs.Prelude.{◌≡◌, Bool, true, not, List, ℕ, ◌*◌, ◌-◌, ◌^◌, ◌%◌, ◌≤◌, T, leb, get_or}
+use Rattle.std.specs.Prelude.{◌≡◌, Bool, true, not, List, ℕ, ◌*◌, ◌-◌, ◌^◌, ◌/◌, ◌%◌, ◌≤◌, ◌<◌, T, leb, get_or}
 use Rattle.std.proofs.Common.{sym, subst, ◌∙◌, inl, inr, le_trans, arith, leb-true, le-leb, lt-ltb, le-ltb}
 use Rattle.std.proofs.lemmas.Bool.{lt-leb}
 use Rattle.std.specs.Float.{Format}
@@ -65,3 +65,10 @@ fields f ns h =
     let few : get_or ns 6 0 ≤ 2 ^ 32 - 1 = leb-true (get_or ns 6 0) (2 ^ 32 - 1) u.0 in
     let small : get_or ns 7 0 ≤ 2 ^ 32 - 1 = leb-true (get_or ns 7 0) (2 ^ 32 - 1) u.1 in
     record { rounds = omega arith; ensemble = omega arith; sigma = r.1; t = q.1; tau = p.1; largest = l.1 }
+
+-- ---- how code looks at a number, with the figures of its width: by halves, since twice the sign may not fit a word
+pub number_looked : (f : Format) {s r i : ℕ} (p : ℕ) → s ≡ top f → r ≡ top f → i ≡ ones f * hid f → (s ≤ p / 2 → ⊥) → p % r ≤ i → number f p ≡ true
+number_looked f {s} {r} {i} p e d m n l =
+    let h : p / 2 < top f = omega (arith, e, n) in
+    let u : p % top f ≤ ones f * hid f = subst (λ (j : ℕ). p % top f ≤ j) m (subst (λ (t : ℕ). p % t ≤ i) d l) in
+    rw (le-leb p (2 * top f - 1) (omega (arith, h)), le-leb (p % top f) (ones f * hid f) u)

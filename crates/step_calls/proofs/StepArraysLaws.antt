@@ -1,16 +1,17 @@
 -- The walk by blocks as C calls, case by case: another length of the ten numbers, and what the library's own call answers otherwise; and that each of its
 -- refusals is one of the table. Assumes nothing.
-use Rattle.std.specs.Prelude.{◌≡◌, refl, true, false, List, ℕ, ◌^◌, ◌<◌, Float, length, get_or}
-use Rattle.std.proofs.Common.{sym, ap, ◌∙◌, inr, arith, eq-eqb, ne_eqb, lit≤}
+use Rattle.std.specs.Prelude.{◌≡◌, refl, true, false, List, ℕ, ◌^◌, ◌≤◌, ◌<◌, Float, length, get_or}
+use Rattle.std.proofs.Common.{sym, ap, ◌∙◌, inr, arith, eq-eqb, ne_eqb, lit≤, le_trans}
 use Rattle.lists.proofs.Apart.{apart}
+use Rattle.kinds.specs.Known.{Known, is_doubles, is_singles}
 use Rattle.kinds.specs.Limits.{Width, doubles, singles}
 use Rattle.kinds.specs.Outcome.{Outcome, outcome}
 use Rattle.kinds.specs.Heard.{Refusal, step_heard}
 use Rattle.kinds.proofs.Hearing.{at_place_0, placed}
-use Rattle.kinds.specs.declared.State.{State}
-use Rattle.kinds.specs.declared.Verdict.TheVariants as verdicts
-use Rattle.kinds.specs.declared.Step.{Step}
-use Rattle.kinds.specs.declared.Step.TheVariants as steps
+use Rattle.kinds.specs.State.{State}
+use Rattle.kinds.specs.Verdict as verdicts
+use Rattle.kinds.specs.Step.{Step}
+use Rattle.kinds.specs.Step as steps
 use Rattle.judge.proofs.JudgeLaws.{list_refusal}
 use Rattle.rounds.specs.Fitting.{Fitting}
 use Rattle.walk.specs.Walk.{Walked, opened, stepped}
@@ -34,6 +35,10 @@ doubles_called = record { places = lit≤ tt; counted = lit≤ tt }
 
 pub singles_called : Callable singles
 singles_called = record { places = lit≤ tt; counted = lit≤ tt }
+
+pub called : {W : Width} {d s i l m c r : ℕ} → Known W d s i l m c r → Callable W
+called is_doubles = doubles_called
+called is_singles = singles_called
 
 -- ---- another length of the ten numbers, and the ten
 module _ (W : Width) (k : ℕ) (ps : List ℕ) (work : List Float) (numbers : List ℕ) where
@@ -95,3 +100,12 @@ step_row (taken_before_lem l m s b t) = at_place_0 (omega arith)
 pub step_refusal : {W : Width} → Callable W → Fitting W → (s : State) (e b : ℕ) (work : List Float) → StepRefusal (stepped W s e b work).answer
 step_refusal {W} C F s e b work =
     step_by C (stepped W s e b work).answer (λ k i h. step_row ((step_refused W s e b work F.top F.top_is k i).0 h))
+
+-- ---- and at a place of a list, or of a state's work
+pub open_place : (W : Width) → W.length ≤ doubles.length → (e : ℕ) (ps : List ℕ) (work : List Float) (k i : ℕ)
+    → (opened W e ps work).answer ≡ steps.Refused k i → i ≤ doubles.length
+open_place W l e ps work k i a = le_trans (list_refusal ((open_refused W ps work e k i).0 a)).place l
+
+pub step_place : (W : Width) → W.length ≤ doubles.length → Fitting W → (s : State) (e b : ℕ) (work : List Float) (k i : ℕ)
+    → (stepped W s e b work).answer ≡ steps.Refused k i → i ≤ doubles.length
+step_place W l F s e b work k i a = le_trans (step_row ((step_refused W s e b work F.top F.top_is k i).0 a)).place l

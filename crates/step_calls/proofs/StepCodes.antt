@@ -10,9 +10,9 @@ use Rattle.kinds.specs.States.{state_of}
 use Rattle.kinds.specs.Heard.{Heard, step_heard}
 use Rattle.kinds.specs.HeardLaws.{StepFits}
 use Rattle.kinds.proofs.Hearing.{step_is}
-use Rattle.kinds.specs.declared.State.{State}
-use Rattle.kinds.specs.declared.Step.TheVariants as steps
-use Rattle.kinds.specs.declared.Verdict.TheVariants as verdicts
+use Rattle.kinds.specs.State.{State}
+use Rattle.kinds.specs.Step as steps
+use Rattle.kinds.specs.Verdict as verdicts
 use Rattle.rounds.specs.Fitting.{Fitting}
 use Rattle.walk.specs.Walk.{opened, stepped}
 use Rattle.demands.specs.Tables.{StepWhen, wrong_length, other_ensemble, unsound_numbers, unsound_set, unsound_place, no_block, taken_before_lem}

@@ -4,8 +4,8 @@ use Rattle.std.specs.Float.{Format}
 use Rattle.std.specs.Float.Ieee.{ones, hid, top}
 use Rattle.kinds.specs.Heard.{Refusal}
 use Rattle.kinds.specs.Limits.{Width, doubles}
-use Rattle.kinds.specs.declared.Step.{Step}
-use Rattle.kinds.specs.declared.Step.TheVariants as steps
+use Rattle.kinds.specs.Step.{Step}
+use Rattle.kinds.specs.Step as steps
 
 -- a refusal, if it is one, is of the table
 abbrev pub StepRefusal : Step → Type 0

@@ -5,7 +5,7 @@ use Rattle.std.specs.Float.Ieee.{top, of_bits}
 use Rattle.kinds.specs.Limits.{Width, doubles, singles}
 use Rattle.kinds.specs.States.{state_of}
 use Rattle.kinds.specs.Heard.{Heard, refused, more, done, nearest, parts, accepted, count, rescued, step_heard}
-use Rattle.kinds.specs.declared.State.{State}
+use Rattle.kinds.specs.State.{State}
 use Rattle.walk.specs.Walk.{Walked, opened, stepped}
 use Rattle.arrays.specs.Arrays.{code_of, Returned, returned, too_many_of}
 

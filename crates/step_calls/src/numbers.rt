@@ -1,102 +1,66 @@
-// The ten numbers that a walk stands in.
-ghost use Rattle.std.specs.Prelude.{◌≡◌, true, [], length};
-ghost use Rattle.kinds.specs.Limits.{doubles};
+// The ten numbers that a walk stands in, at either width.
+ghost use Rattle.std.specs.Prelude.{◌≡◌, true, false, [], MatchOption, length};
+ghost use Rattle.kinds.specs.Answers.{as_given, as_state};
 ghost use Rattle.kinds.specs.Heard.{step_heard};
-ghost use Rattle.kinds.specs.Outcome.{outcome};
-ghost use Rattle.kinds.specs.declared.Step.TheVariants.{More};
-ghost use Rattle.arrays.specs.Arrays.{code_of};
 ghost use Rattle.step_calls.specs.StepArrays.{walk_numbers, walk_values, float_at, state_in};
-ghost use Rattle.step_calls.specs.Inner.{StepRefusal, number, readable};
+ghost use Rattle.step_calls.specs.Inner.{number, readable};
 
-use arrays::doubles::pattern;
-use arrays::values::write;
-use kinds::{INFINITY, SIGN, State, Step};
+use arrays::patterns::Patterned;
+use kinds::{Floating, State, Step};
 
 // The numbers of a walk.
 pub const NUMBERS: usize = 10;
 
-// The most that a state's field of 32 bits holds: its rounds, and its ensemble.
-const MOST: u64 = 0xFFFF_FFFF;
-
-// The state, and the largest remainder that is told with it.
-fn state_numbers(s: State, told: f64) -> [u64; NUMBERS]
-    ensures { result ≡ walk_values (step_heard doubles (More s told)) [] }
+// A state and the largest remainder that is told with it, or a sum and its rounds.
+pub fn told<F: Patterned>(step: Step<F>) -> [u64; NUMBERS]
+    ensures { result ≡ walk_values (step_heard F.width (as_given F.value step)) [] }
 {
-    let sigma = pattern(s.sigma);
-    let t = pattern(s.t);
-    let tau = pattern(s.tau);
-    let largest = pattern(s.largest);
-    let shown = pattern(told);
-    let n = s.n as u64;
-    let rounds = s.rounds as u64;
-    let ensemble = s.ensemble as u64;
-    [
-        1, sigma, t, tau, n, s.pending, rounds, ensemble, largest, shown,
-    ]
-}
-
-// A state or a sum goes to the ten numbers; a refusal leaves them.
-pub fn told(answer: Step, numbers: &mut [u64]) -> u32
-    requires { (length numbers.old ≡ walk_numbers) × StepRefusal answer }
-    ensures { outcome result numbers.new ≡ outcome (code_of (step_heard doubles answer)) (walk_values (step_heard doubles answer) numbers.old) }
-{
-    match answer {
-        Step::More(s, largest) => {
-            let ten = state_numbers(s, largest);
-            write(&ten, numbers);
-            0
-        }
-        Step::Done(x, rounds) => {
-            let sum = pattern(x);
-            let rounds = rounds as u64;
-            let ten = [2, sum, rounds, 0, 0, 0, 0, 0, 0, 0];
-            write(&ten, numbers);
-            0
-        }
-        Step::Refused(number, place) => calls::refusal(number, place),
+    match step {
+        Step::More(s, told) => [
+            1,
+            s.sigma.pattern(),
+            s.t.pattern(),
+            s.tau.pattern(),
+            s.n as u64,
+            s.pending,
+            u64::from(s.rounds),
+            u64::from(s.ensemble),
+            s.largest.pattern(),
+            told.pattern(),
+        ],
+        Step::Done(sum, rounds) => [2, sum.pattern(), u64::from(rounds), 0, 0, 0, 0, 0, 0, 0],
     }
 }
 
-// Whether a number is a pattern, and no NaN's: of that the language makes no double.
-fn number(p: u64) -> bool
-    ensures { result ≡ number doubles.format p }
+// The float of a pattern, but of no NaN's: of that the language makes no float.
+fn float<F: Floating>(p: u64) -> Option<F>
+    ensures { MatchOption result (number F.width.format p ≡ false) (λ x. (number F.width.format p ≡ true) × (F.value x ≡ float_at F.width.format p)) }
 {
-    p % SIGN <= INFINITY
+    if F::SIGN <= p / 2 {
+        return None;
+    }
+    if F::INFINITY < p % F::SIGN {
+        return None;
+    }
+    Some(F::from_bits(F::from_word(p)))
 }
 
-// The double of such a pattern.
-fn float(p: u64) -> f64
-    requires { number doubles.format p ≡ true }
-    ensures { result ≡ float_at doubles.format p }
-{
-    f64::from_bits(p)
-}
-
-// Whether the numbers that a step reads fit a state's fields. No sound state has others.
-pub fn readable(numbers: &[u64]) -> bool
+// The state that the numbers are, where they fit its fields. No sound state has others.
+pub fn state<F: Floating>(numbers: &[u64]) -> Option<State<F>>
     requires { length numbers.now ≡ walk_numbers }
-    ensures { result ≡ readable doubles.format numbers.now }
+    ensures { MatchOption result (readable F.width.format numbers.now ≡ false) (λ s. (readable F.width.format numbers.now ≡ true) × (as_state F.value s ≡ state_in F.width numbers.now)) }
 {
-    (numbers[6] <= MOST)
-        & (numbers[7] <= MOST)
-        & number(numbers[1])
-        & number(numbers[2])
-        & number(numbers[3])
-        & number(numbers[8])
-}
-
-pub fn state(numbers: &[u64]) -> State
-    requires { (length numbers.now ≡ walk_numbers) × (readable doubles.format numbers.now ≡ true) }
-    ensures { result ≡ state_in doubles numbers.now }
-{
-    State::of(
-        numbers[4] as usize,
-        float(numbers[1]),
-        float(numbers[2]),
-        float(numbers[3]),
-        numbers[5],
-        numbers[6] as u32,
-        numbers[7] as u32,
-        float(numbers[8]),
-    )
+    let &[_, sigma, t, tau, n, pending, rounds, ensemble, largest, _] = numbers else {
+        unreachable!()
+    };
+    Some(State {
+        sigma: float(sigma)?,
+        t: float(t)?,
+        tau: float(tau)?,
+        n: n as usize,
+        pending,
+        rounds: u32::try_from(rounds).ok()?,
+        ensemble: u32::try_from(ensemble).ok()?,
+        largest: float(largest)?,
+    })
 }

@@ -7,7 +7,7 @@ use Rattle.kinds.specs.Outcome.{outcome}
 use Rattle.kinds.proofs.OutcomeLaws.{determined}
 use Rattle.kinds.specs.Heard.{step_heard, nearest_heard}
 use Rattle.kinds.proofs.Hearing.{step_is}
-use Rattle.kinds.specs.declared.Step.TheVariants as steps
+use Rattle.kinds.specs.Step as steps
 use Rattle.walk.specs.Walk.{faithful_of}
 use Rattle.sums.specs.Sums.{nearest_of}
 use Rattle.rounds.specs.Fitting.{Fitting}

@@ -7,7 +7,7 @@ use Rattle.ieee.proofs.Zeros.{minus_bits}
 use Rattle.kinds.specs.Limits.{Width, doubles, singles}
 use Rattle.kinds.specs.Outcome.{outcome}
 use Rattle.kinds.specs.Heard.{step_heard}
-use Rattle.kinds.specs.declared.Verdict.TheVariants.{Good}
+use Rattle.kinds.specs.Verdict.{Good}
 use Rattle.judge.specs.Judge.{floats}
 use Rattle.judge.specs.Table.{ListWhen, MinusZeros, ZeroWhen}
 use Rattle.rounds.specs.Fitting.{Fitting}

@@ -10,10 +10,10 @@ use Rattle.lists.proofs.TwosComplement.{signed_low, signed_high}
 use Rattle.words.specs.Words.{word_bits, register_bits, whole_of}
 use Rattle.kinds.specs.Limits.{Width}
 use Rattle.kinds.specs.Outcome.{outcome}
-use Rattle.kinds.specs.declared.Verdict.{Verdict}
-use Rattle.kinds.specs.declared.Verdict.TheVariants as verdicts
-use Rattle.kinds.specs.declared.Nearest.TheVariants as nearests
-use Rattle.kinds.specs.declared.Parted.TheVariants as parteds
+use Rattle.kinds.specs.Verdict.{Verdict}
+use Rattle.kinds.specs.Verdict as verdicts
+use Rattle.kinds.specs.Nearest as nearests
+use Rattle.kinds.specs.Parted as parteds
 use Rattle.judge.specs.Judge.{zero_sign}
 use Rattle.sums.specs.Sums.{sum_of, nearest_after, parts, add_up, parts_after}
 use Rattle.sums.specs.PartsLaws.{remaining, parts_left}

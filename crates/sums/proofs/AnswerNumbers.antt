@@ -7,9 +7,9 @@ use Rattle.ieee.proofs.Finite.{finite_no_nan}
 use Rattle.lists.proofs.Apart.{apart}
 use Rattle.kinds.specs.Limits.{Width}
 use Rattle.kinds.specs.Heard.{Refusal}
-use Rattle.kinds.specs.declared.Verdict.{Verdict}
-use Rattle.kinds.specs.declared.Verdict.TheVariants as verdicts
-use Rattle.kinds.specs.declared.Nearest.TheVariants.{Sum, Refused}
+use Rattle.kinds.specs.Verdict.{Verdict}
+use Rattle.kinds.specs.Verdict as verdicts
+use Rattle.kinds.specs.Nearest.{Sum, Refused}
 use Rattle.judge.specs.Judge.{judged, zero_sign}
 use Rattle.judge.proofs.JudgeLaws.{list_when, list_refusal}
 use Rattle.sums.specs.Sums.{sum_of, nearest_of, Summing}

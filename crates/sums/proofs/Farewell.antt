@@ -6,8 +6,8 @@ use Rattle.std.proofs.lemmas.List.{map-append, length-map}
 use Rattle.units.specs.Whole.{exact_sum}
 use Rattle.ieee.specs.Units.{limit, nearest_float}
 use Rattle.kinds.specs.Limits.{doubles}
-use Rattle.kinds.specs.declared.Nearest.TheVariants.{Sum}
-use Rattle.kinds.specs.declared.Verdict.TheVariants.{Good}
+use Rattle.kinds.specs.Nearest.{Sum}
+use Rattle.kinds.specs.Verdict.{Good}
 use Rattle.judge.specs.Table.{Allowed, ListWhen, MinusZeros, allowed}
 use Rattle.judge.proofs.AllowedLaws.{allowed_none, allowed_first, allowed_rest, allowed_more, allowed_join, allowed_left, allowed_right}
 use Rattle.judge.proofs.JudgeLaws.{list_when, list_passed, list_allowed}

@@ -8,9 +8,9 @@ use Rattle.ieee.specs.Units.{limit, nearest_float}
 use Rattle.lists.specs.Each.{Each}
 use Rattle.kinds.specs.Limits.{doubles}
 use Rattle.kinds.specs.Outcome.{outcome}
-use Rattle.kinds.specs.declared.Entry.TheVariants.{Entered}
-use Rattle.kinds.specs.declared.Nearest.TheVariants.{Sum}
-use Rattle.kinds.specs.declared.Verdict.TheVariants.{Good}
+use Rattle.kinds.specs.Entry.{Entered}
+use Rattle.kinds.specs.Nearest.{Sum}
+use Rattle.kinds.specs.Verdict.{Good}
 use Rattle.judge.specs.Table.{Allowed, ListWhen, MinusZeros}
 use Rattle.judge.proofs.AllowedLaws.{allowed_left, allowed_right}
 use Rattle.judge.proofs.JudgeLaws.{list_when, list_passed, list_allowed}

@@ -11,12 +11,12 @@ use Rattle.ieee.proofs.Nearest.{nearest_nearest}
 use Rattle.kinds.specs.Limits.{Width}
 use Rattle.kinds.specs.Outcome.{Outcome, outcome}
 use Rattle.kinds.specs.Heard.{nearest_heard, nearest}
-use Rattle.kinds.specs.declared.Verdict.{Verdict}
-use Rattle.kinds.specs.declared.Verdict.TheVariants as verdicts
-use Rattle.kinds.specs.declared.Nearest.{Nearest}
-use Rattle.kinds.specs.declared.Parted.{Parted}
-use Rattle.kinds.specs.declared.Nearest.TheVariants as nearests
-use Rattle.kinds.specs.declared.Parted.TheVariants as parteds
+use Rattle.kinds.specs.Verdict.{Verdict}
+use Rattle.kinds.specs.Verdict as verdicts
+use Rattle.kinds.specs.Nearest.{Nearest}
+use Rattle.kinds.specs.Parted.{Parted}
+use Rattle.kinds.specs.Nearest as nearests
+use Rattle.kinds.specs.Parted as parteds
 use Rattle.judge.specs.Judge.{judged, zero_sign}
 use Rattle.judge.specs.Table.{ListWhen}
 use Rattle.judge.proofs.JudgeLaws.{list_when, list_passed, list_allowed}

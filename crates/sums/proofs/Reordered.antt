@@ -11,8 +11,8 @@ use Rattle.units.proofs.ExactSum.{sum_reordered}
 use Rattle.ieee.specs.Units.{value}
 use Rattle.lists.proofs.Reordered.{length_reordered, every_reordered}
 use Rattle.kinds.specs.Limits.{Width, doubles}
-use Rattle.kinds.specs.declared.Verdict.{Verdict}
-use Rattle.kinds.specs.declared.Verdict.TheVariants.{Good, Refused}
+use Rattle.kinds.specs.Verdict.{Verdict}
+use Rattle.kinds.specs.Verdict.{Good, Refused}
 use Rattle.judge.specs.Judge.{fault_free, judged, zero_sign}
 use Rattle.judge.specs.Table.{Allowed, Passed, ListWhen, too_many, wrong_area, wrong_parts, bad_number, allowed}
 use Rattle.judge.proofs.FaultlessLaws.{faultless_good}

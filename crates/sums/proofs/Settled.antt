@@ -4,7 +4,7 @@ use Rattle.std.specs.Prelude.{◌≡◌, List, map, true, ℕ, ◌≤◌, length
 use Rattle.std.proofs.Common.{ap, ◌∙◌, le_trans, lit≤}
 use Rattle.std.proofs.lemmas.List.{length-map}
 use Rattle.kinds.specs.Limits.{doubles}
-use Rattle.kinds.specs.declared.Verdict.TheVariants.{Good}
+use Rattle.kinds.specs.Verdict.{Good}
 use Rattle.judge.specs.Table.{ListWhen, MinusZeros}
 use Rattle.judge.proofs.JudgeLaws.{list_passed}
 use Rattle.words.specs.Words.{word_count}

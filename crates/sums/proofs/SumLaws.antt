@@ -1,10 +1,13 @@
 -- The exact sum of a list in a register's words, number by number; and that the sum of an allowed list is whole in them and below the format's limit.
 -- Assumes nothing.
-use Rattle.std.specs.Prelude.{◌≡◌, List, [], ◌∷◌, map, ℕ, ◌+◌, ◌-◌, ◌*◌, ◌^◌, ◌≤◌, ◌<◌, T, ℤ, pos, negsuc, ◌+ℤ◌, nat_abs, length, take, get_or, replicate}
-use Rattle.std.proofs.Common.{sym, ap, ◌∙◌, le_trans, lt_of_le_of_lt, lt_of_lt_of_le, mul-le-mul_right, lit<, lit≤, lt→ltb}
+use Rattle.std.specs.Prelude.{◌≡◌, Bool, ◌&&◌, List, [], ◌∷◌, map, ℕ, ◌+◌, ◌-◌, ◌*◌, ◌^◌, ◌≤◌, ◌<◌, T, ℤ, pos, negsuc, ◌+ℤ◌, nat_abs, eqb}
+use Rattle.std.specs.Prelude.{length, take, get_or, replicate}
+use Rattle.std.proofs.Common.{sym, ap, ◌∙◌, le_trans, lt_of_le_of_lt, lt_of_lt_of_le, mul-le-mul_right, arith, lit<, lit≤, lt→ltb}
+use Rattle.std.proofs.lemmas.Bool.Decides.{nat_tests}
 use Rattle.std.proofs.lemmas.List.{map-append, length-map}
 use Rattle.std.proofs.Math.Nat.{le_of_suc-le}
 use Rattle.std.proofs.Math.IntN.{+ℤ_assoc, +ℤ_idl, +ℤ_idr}
+use Rattle.std.specs.List.{list_all}
 use Rattle.std.specs.Float.{Format, binary32, binary64}
 use Rattle.std.specs.Float.Ieee.{of_bits}
 use Rattle.std.specs.Float.Ieee.Bits.{is_true}
@@ -12,8 +15,10 @@ use Rattle.units.proofs.ExactSum.{sum_append, sum_bound}
 use Rattle.ieee.specs.Units.{value, limit}
 use Rattle.ieee.proofs.Sum.{value_mag}
 use Rattle.lists.specs.Digits.{number, signed, inside}
+use Rattle.lists.specs.DigitLaws.{number_nil, number_cons}
 use Rattle.lists.proofs.Front.{take_next, map_at}
 use Rattle.lists.proofs.SignedDigits.{cut_whole, whole_cut, cut_plus}
+use Rattle.kinds.specs.Known.{Known, is_doubles, is_singles}
 use Rattle.kinds.specs.Limits.{Width, doubles, singles}
 use Rattle.judge.specs.Table.{Allowed, most}
 use Rattle.judge.specs.FaultLaws.{fault_0, most_doubles, most_singles}
@@ -64,6 +69,10 @@ sums_doubles = record { room = rw most_doubles (lit< tt) }
 pub sums_singles : Summing singles
 sums_singles = record { room = rw most_singles (lit< tt) }
 
+pub sums_known : {W : Width} {d s i l m c r : ℕ} → Known W d s i l m c r → Summing W
+sums_known is_doubles = sums_doubles
+sums_known is_singles = sums_singles
+
 pub sum_below_limit : {W : Width} {ps : List ℕ} → Summing W → length ps ≤ W.length → Allowed W ps → nat_abs (sum_of W.format ps) < limit W.format
 sum_below_limit {W} {ps} R few C = lt_of_le_of_lt (le_trans (sum_at_most W ps C) (mul-le-mul_right (most W) few)) R.room
 
@@ -95,3 +104,14 @@ from_nothing S e = ap (λ (l : List ℕ). words_of (whole_of l +ℤ S)) e ∙ ap
 
 pub nothing_long : {ws : List ℕ} → ws ≡ replicate word_count 0 → length ws ≡ word_count
 nothing_long e = ap length e
+
+-- words are the number 0 where each is 0
+zero_more : (d n B : ℕ) → 0 < B → eqb (d + n * B) 0 ≡ (eqb d 0 && eqb n 0)
+zero_more d n B h = grind (arith, nat_tests)
+
+pub zero_words : (ws : List ℕ) → eqb (number word_bits ws) 0 ≡ list_all (λ w. eqb w 0) ws
+zero_words [] = ap (λ (n : ℕ). eqb n 0) (number_nil word_bits)
+zero_words (w ∷ ws) =
+    ap (λ (n : ℕ). eqb n 0) (number_cons word_bits w ws)
+    ∙ zero_more w (number word_bits ws) (2 ^ word_bits) (lit< tt)
+    ∙ ap (λ (b : Bool). eqb w 0 && b) (zero_words ws)

@@ -6,7 +6,7 @@ use mathlib.Core.List.Perm
 use mathlib.Core.List.{List, map, Perm}
 use Rattle.std.proofs.lemmas.List.{length-map}
 use Rattle.kinds.specs.Limits.{doubles}
-use Rattle.kinds.specs.declared.Verdict.TheVariants.{Good}
+use Rattle.kinds.specs.Verdict.{Good}
 use Rattle.judge.specs.Table.{Allowed, ListWhen}
 use Rattle.judge.proofs.JudgeLaws.{list_passed, list_allowed}
 use Rattle.register.specs.Entries.{add, run, zeros}

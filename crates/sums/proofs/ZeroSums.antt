@@ -18,9 +18,9 @@ use Rattle.lists.specs.Each.{Each}
 use Rattle.kinds.specs.Limits.{Width}
 use Rattle.kinds.specs.Outcome.{Outcome, outcome}
 use Rattle.kinds.specs.Heard.{nearest_heard, nearest}
-use Rattle.kinds.specs.declared.Verdict.TheVariants.{Good}
-use Rattle.kinds.specs.declared.Parted.{Parted}
-use Rattle.kinds.specs.declared.Parted.TheVariants.{Parts}
+use Rattle.kinds.specs.Verdict.{Good}
+use Rattle.kinds.specs.Parted.{Parted}
+use Rattle.kinds.specs.Parted.{Parts}
 use Rattle.judge.specs.Judge.{floats, minus_pattern, zero_sign}
 use Rattle.judge.specs.Table.{ListWhen, MinusZeros, ZeroWhen, minus}
 use Rattle.judge.proofs.JudgeLaws.{list_passed, list_allowed}

@@ -3,9 +3,6 @@ use Rattle.std.specs.Prelude.{List, [], ◌∷◌, ℤ, ◌-ℤ◌, Float}
 use Rattle.std.specs.Float.{Format}
 use Rattle.ieee.specs.Units.{value}
 use Rattle.ieee.specs.Accuracy.{NearestTo}
-use Rattle.kinds.specs.declared.Verdict.TheVariants as verdicts
-use Rattle.kinds.specs.declared.Nearest.TheVariants as nearests
-use Rattle.kinds.specs.declared.Parted.TheVariants as parteds
 
 -- rule S4
 abbrev pub EachNearest : Format → ℤ → List Float → Type 0

@@ -1,8 +1,8 @@
 -- What a list and the same numbers in another order have in common. Definitions only.
 use Rattle.std.specs.Prelude.{◌≡◌, List, map, ℕ, Float}
 use Rattle.kinds.specs.Limits.{Width, doubles}
-use Rattle.kinds.specs.declared.Verdict.{Verdict}
-use Rattle.kinds.specs.declared.Verdict.TheVariants.{Refused}
+use Rattle.kinds.specs.Verdict.{Verdict}
+use Rattle.kinds.specs.Verdict.{Refused}
 use Rattle.judge.specs.Table.{First}
 use Rattle.register.specs.Entries.{add, run, zeros}
 use Rattle.sums.specs.Sums.{nearest_of, parts_of}

@@ -6,12 +6,12 @@ use Rattle.units.specs.Whole.{exact_sum}
 use Rattle.ieee.specs.Units.{value, nearest_float, limit}
 use Rattle.kinds.specs.Limits.{Width}
 use Rattle.kinds.specs.Outcome.{Outcome, outcome}
-use Rattle.kinds.specs.declared.Verdict.{Verdict}
-use Rattle.kinds.specs.declared.Verdict.TheVariants as verdicts
-use Rattle.kinds.specs.declared.Nearest.{Nearest}
-use Rattle.kinds.specs.declared.Nearest.TheVariants as nearests
-use Rattle.kinds.specs.declared.Parted.{Parted}
-use Rattle.kinds.specs.declared.Parted.TheVariants as parteds
+use Rattle.kinds.specs.Verdict.{Verdict}
+use Rattle.kinds.specs.Verdict as verdicts
+use Rattle.kinds.specs.Nearest.{Nearest}
+use Rattle.kinds.specs.Nearest as nearests
+use Rattle.kinds.specs.Parted.{Parted}
+use Rattle.kinds.specs.Parted as parteds
 use Rattle.judge.specs.Judge.{judged, zero_sign}
 use Rattle.judge.specs.Table.{most}
 

@@ -7,6 +7,28 @@ ghost use Rattle.lists.specs.Digits.{number};
 ghost use Rattle.sums.specs.Sums.{sum_of};
 
 use crate::{few, long, short};
+use kinds::Floating;
+
+// A width whose lists have a total.
+pub trait Totals: Floating {
+    // The words of a list's sum, in words that are zero. Of an allowed list only: a NaN or an infinity has no units.
+    fn total(list: &[Self::Pattern], words: &mut [u64])
+        requires { (words.old ≡ replicate word_count 0) × Allowed Self.width (Self.patterns list.now) × (length list.now ≤ Self.width.length) }
+        ensures { words.new ≡ words_of (sum_of Self.width.format (Self.patterns list.now)) };
+}
+
+impl Totals for f64 {
+    fn total(list: &[u64], words: &mut [u64]) {
+        total(list, words);
+    }
+}
+
+// Singles are added by a branch on each sign: no bar of speed is set for them.
+impl Totals for f32 {
+    fn total(list: &[u32], words: &mut [u64]) {
+        few::total::<f32>(list, words);
+    }
+}
 
 // Below so many numbers one register is faster than one for each sign.
 const FEW: usize = 32;
@@ -21,7 +43,7 @@ pub fn total(list: &[u64], words: &mut [u64])
     ensures { words.new ≡ words_of (sum_of doubles.format list.now) }
 {
     if list.len() < FEW {
-        few::total(list, words);
+        few::total::<f64>(list, words);
     } else if list.len() < LONG {
         short::total(list, words);
     } else {
@@ -33,12 +55,5 @@ pub fn total(list: &[u64], words: &mut [u64])
 pub fn is_zero(words: &[u64]) -> bool
     ensures { result ≡ eqb (number word_bits words.now) 0 }
 {
-    let mut i = 0;
-    while i < words.len() {
-        if words[i] != 0 {
-            return false;
-        }
-        i += 1;
-    }
-    true
+    words.iter().all(|w| *w == 0)
 }

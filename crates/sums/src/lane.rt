@@ -6,12 +6,13 @@ ghost use Rattle.kinds.specs.Limits.{doubles};
 ghost use Rattle.sums.specs.SignLanes.{lane_bits, AtLane};
 
 use kinds::{LEAST_NORMAL, SIGN};
+use lanes::Lanes;
 
-// The bits of a lane's digit.
-pub const BITS: u32 = 32;
+// The lanes of one sign.
+pub const SIDE: usize = 64;
 
 // The base of the digits that lanes hold.
-pub const BASE: u64 = 1 << BITS;
+pub const BASE: u64 = 1 << Lanes::BITS;
 
 #[derive(Drop)]
 pub struct Place {
@@ -30,7 +31,7 @@ fn cut(m: u64, q: u64) -> Place
     Place {
         lane: (q >> 57) as usize,
         low: (m << s) % BASE,
-        above: m >> (BITS - s),
+        above: m >> (Lanes::BITS - s),
     }
 }
 

@@ -8,22 +8,21 @@ ghost use Rattle.words.specs.Words.{word_count, words_of};
 ghost use Rattle.sums.specs.Sums.{sum_of};
 ghost use Rattle.sums.specs.SignLanes.{Lanes, Empty, Room, Put, Gathered};
 
-use crate::{lane, settle};
+use crate::lane::{SIDE, lane};
+use crate::settle::settle;
 
 // The lanes of both signs.
-const LANES: usize = 128;
+const LANES: usize = 2 * SIDE;
 
 // Adds a number to its lane. Lanes that 4,093 numbers may have left take one more.
 fn put(low: &mut [u64], above: &mut [u64], p: u64)
     requires { Lanes low.old above.old × Room 4093 low.old above.old × T (finite (of_bits doubles.format p)) }
     ensures { Put p low.old above.old low.new above.new }
 {
-    let at = lane::lane(p);
+    let at = lane(p);
     let k = at.lane;
-    let digit = low[k] + at.low;
-    low[k] = digit;
-    let rest = above[k] + at.above;
-    above[k] = rest;
+    low[k] += at.low;
+    above[k] += at.above;
 }
 
 // Adds every number of an allowed list to empty lanes.
@@ -31,10 +30,8 @@ fn gather(list: &[u64], low: &mut [u64], above: &mut [u64])
     requires { Lanes low.old above.old × Empty low.old above.old × Allowed doubles list.now × (length list.now ≤ doubles.length) }
     ensures { Gathered list.now low.new above.new }
 {
-    let mut i = 0;
-    while i < list.len() {
-        put(low, above, list[i]);
-        i += 1;
+    for &p in list {
+        put(low, above, p);
     }
 }
 
@@ -46,5 +43,5 @@ pub fn total(list: &[u64], words: &mut [u64])
     let mut low = [0u64; LANES];
     let mut above = [0u64; LANES];
     gather(list, &mut low, &mut above);
-    settle::settle(&low, &above, words);
+    settle(&low, &above, words);
 }

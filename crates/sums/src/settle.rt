@@ -5,14 +5,11 @@ ghost use Rattle.words.specs.Words.{word_bits, word_count, register_bits, words_
 ghost use Rattle.units.specs.Whole.{int};
 ghost use Rattle.sums.specs.SignLanes.{side_lanes, most_carry, Lanes, Room, lane_sides, Paired};
 
-use crate::lane::BASE;
+use crate::lane::{BASE, SIDE};
 use words::word::{Sum, sub_word};
 
-// The place of the first lane of the negative numbers.
-const MINUS: usize = 64;
-
 // The place of the top word, above all lanes.
-const TOP: usize = 32;
+const TOP: usize = SIDE / 2;
 
 // The word of the lanes k and k + 1 and what is carried into them, and what they carry on: all far from the end of 64 bits, where the lanes have room.
 fn pair(low: &[u64], above: &[u64], k: usize, carry: u64) -> Sum
@@ -36,16 +33,14 @@ fn subtract(low: &[u64], above: &[u64], words: &mut [u64]) -> u64
     let mut plus = 0;
     let mut minus = 0;
     let mut borrow = 0;
-    let mut i = 0;
-    while i < TOP {
+    for i in 0..TOP {
         let up = pair(low, above, 2 * i, plus);
-        let down = pair(low, above, MINUS + 2 * i, minus);
+        let down = pair(low, above, SIDE + 2 * i, minus);
         let left = sub_word(up.word, down.word, borrow);
         words[i] = left.word;
         plus = up.carry;
         minus = down.carry;
         borrow = left.carry;
-        i += 1;
     }
     let left = sub_word(plus, minus, borrow);
     words[TOP] = left.word;

@@ -16,10 +16,8 @@ fn gather(list: &[u64], both: &mut [u64])
     requires { (length both.old ≡ word_count + word_count) × (number word_bits both.old ≡ 0) × Allowed doubles list.now × (length list.now ≤ doubles.length) }
     ensures { (number word_bits both.new ≡ side_by_side (list_sides doubles list.now)) × Digits word_bits both.new }
 {
-    let mut i = 0;
-    while i < list.len() {
-        sides::add(both, list[i]);
-        i += 1;
+    for &p in list {
+        sides::add(both, p);
     }
 }
 

@@ -14,12 +14,10 @@ pub fn split(words: &mut [u64], area: &mut [f64], zero: bool)
     ensures left { whole_of words.new ≡ remaining doubles.format (length area.old) zero (whole_of words.old) }
 {
     let mut sign = zero;
-    let mut i = 0;
-    while i < area.len() {
-        let part = nearest::nearest_double(words, sign);
-        area[i] = part;
-        addend::withdraw(words, f64::to_bits(part));
+    for place in area.iter_mut() {
+        let part: f64 = nearest::nearest_float(words, sign);
+        *place = part;
+        addend::withdraw(words, part.to_bits());
         sign = false;
-        i += 1;
     }
 }

@@ -5,10 +5,10 @@ use Rattle.std.proofs.Common.{ap, ◌∙◌, lit<}
 use Rattle.lists.proofs.Front.{take_next}
 use Rattle.kinds.specs.Limits.{doubles}
 use Rattle.kinds.specs.Outcome.{outcome}
-use Rattle.kinds.specs.declared.Verdict.TheVariants as verdicts
+use Rattle.kinds.specs.Verdict as verdicts
 use Rattle.judge.specs.Judge.{judged}
 use Rattle.addend.specs.Addend.{units_of}
-use Rattle.lanes.specs.declared.Laid.TheVariants as laids
+use Rattle.lanes.specs.Laid as laids
 use Rattle.lanes.specs.Lanes.{lane_count, digits_of, plus_lanes, lane_added, Laying}
 use Rattle.lanes.specs.Table.{Roomy}
 use Rattle.lanes.proofs.RoomLaws.{plus_count, room_kept}

@@ -14,22 +14,18 @@ pub fn following(r: u64) -> u64 {
 // Numbers of both signs and of magnitudes up to `most`, one for each turn after r.
 pub fn fill(list: &mut [u64], most: u64, r: u64) {
     let mut turn = r;
-    let mut i = 0;
-    while i < list.len() {
+    for x in list {
         turn = following(turn);
-        list[i] = (turn << 63) | (turn >> 1) % (most % SIGN + 1);
-        i += 1;
+        *x = (turn << 63) | (turn >> 1) % (most % SIGN + 1);
     }
 }
 
 // Makes the last numbers the first ones backwards with the other sign. Two or three in the middle stay.
 pub fn cancel(list: &mut [u64]) {
-    let half = list.len() / 2;
-    let mut i = 0;
-    while i + 1 < half {
-        let j = list.len() - 1 - i;
-        list[j] = list[i] ^ SIGN;
-        i += 1;
+    let few = (list.len() / 2).saturating_sub(1);
+    let (front, rest) = list.split_at_mut(few);
+    for (x, y) in front.iter().zip(rest.iter_mut().rev()) {
+        *y = *x ^ SIGN;
     }
 }
 
@@ -48,10 +44,8 @@ fn rung(i: u64) -> u64 {
 }
 
 fn rungs(list: &mut [u64]) {
-    let mut i = 0;
-    while i < list.len() {
-        list[i] = rung(i as u64);
-        i += 1;
+    for (i, x) in list.iter_mut().enumerate() {
+        *x = rung(i as u64);
     }
 }
 

@@ -9,17 +9,13 @@ mod ways;
 
 // A list of n numbers of every magnitude, and then with all but the middle cancelling.
 fn length(list: &mut [u64], work: &mut [f64], n: usize) {
-    if n <= list.len() {
-        if n <= work.len() {
-            drawn::fill(
-                &mut list[0..n],
-                Doubles::MAGNITUDE,
-                drawn::START ^ (n as u64),
-            );
-            ways::all(&list[0..n], &mut work[0..n]);
-            drawn::cancel(&mut list[0..n]);
-            ways::all(&list[0..n], &mut work[0..n]);
-        }
+    if n <= list.len() && n <= work.len() {
+        let list = &mut list[..n];
+        let work = &mut work[..n];
+        drawn::fill(list, Doubles::MAGNITUDE, drawn::START ^ (n as u64));
+        ways::all(list, work);
+        drawn::cancel(list);
+        ways::all(list, work);
     }
 }
 
@@ -30,14 +26,11 @@ fn ladder(list: &mut [u64], work: &mut [f64]) {
 }
 
 fn all(list: &mut [u64], work: &mut [f64]) {
-    length(list, work, 64);
-    length(list, work, 65);
-    length(list, work, Doubles::LENGTH);
-    length(list, work, Doubles::LENGTH + 1);
-    if 2047 <= list.len() {
-        if 2047 <= work.len() {
-            ladder(&mut list[0..2047], &mut work[0..2047]);
-        }
+    for n in [64, 65, Doubles::LENGTH, Doubles::LENGTH + 1] {
+        length(list, work, n);
+    }
+    if 2047 <= list.len() && 2047 <= work.len() {
+        ladder(&mut list[..2047], &mut work[..2047]);
     }
 }
 

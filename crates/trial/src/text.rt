@@ -1,4 +1,5 @@
 // Words, numbers, doubles and refusals, written to standard output.
+use kinds::Refusal;
 
 // What the system calls standard output.
 const OUTPUT: i32 = 1;
@@ -21,13 +22,14 @@ pub fn pattern(name: &[u8], p: u64) {
 
 // A double's pattern. The bits of a NaN can't be read: each is shown as this one.
 pub fn bits(x: f64) -> u64 {
-    if x != x {
+    if x.is_nan() {
         return 0x7FF8_0000_0000_0000;
     }
-    f64::to_bits(x)
+    x.to_bits()
 }
 
-pub fn refused(number: u32, place: u32) {
-    named(b" refused ", number as u64);
-    named(b" place ", place as u64);
+// The number of a refusal's rule, and the place that it tells, 0 where it tells none.
+pub fn refused(refusal: Refusal) {
+    named(b" refused ", u64::from(refusal.number()));
+    named(b" place ", u64::from(refusal.place().unwrap_or(0)));
 }

@@ -1,13 +1,9 @@
 // The ways to sum a list: nearest, and the faithful walk in one call and block by block in three orders.
 use crate::{drawn, text};
-use kinds::{Nearest, Step};
+use kinds::{Refusal, Step};
 
-// The orders of a round's blocks: the lowest pending one first, the highest first, or by turns of the generator.
-const RISING: u64 = 0;
-
-const FALLING: u64 = 1;
-
-const SEEDED: u64 = 2;
+// What a walk answers.
+type Answer = Result<Step<f64>, Refusal>;
 
 // The ensemble that the walks by blocks are opened for.
 const ENSEMBLE: u32 = 0xDEAD_BEEF;
@@ -16,11 +12,11 @@ const ENSEMBLE: u32 = 0xDEAD_BEEF;
 const STEPS: u64 = 3264;
 
 fn lowest(pending: u64) -> usize {
-    (u64::trailing_zeros(pending) % 128) as usize
+    pending.trailing_zeros() as usize
 }
 
 fn highest(pending: u64) -> usize {
-    std::num::wrapping_sub_u32(63, u64::leading_zeros(pending)) as usize
+    63u32.wrapping_sub(pending.leading_zeros()) as usize
 }
 
 // The first pending block at or above the turn's place; where none is, the lowest.
@@ -30,67 +26,59 @@ fn seeded(pending: u64, turn: u64) -> usize {
     lowest(if above == 0 { pending } else { above })
 }
 
-fn choice(order: u64, pending: u64, turn: u64) -> usize {
-    match order {
-        RISING => lowest(pending),
-        FALLING => highest(pending),
-        _ => seeded(pending, turn),
-    }
-}
-
-// The walk block by block to its end.
-fn run(list: &[u64], work: &mut [f64], order: u64) -> Step {
-    let mut at = walk::open(list, work, ENSEMBLE);
+// The walk block by block to its end, each time the block that is chosen of the pending ones and the turn; and how many steps it took.
+fn run<F: Fn(u64, u64) -> usize>(list: &[u64], work: &mut [f64], choose: F) -> (Answer, u64)
+    requires { F.IsAlwaysCallable choose }
+{
+    let mut at = walk::open::<f64>(list, work, ENSEMBLE);
     let mut turn = drawn::START;
-    let mut steps = 0;
-    while steps < STEPS {
-        let Step::More(s, _) = at else {
-            break;
+    for steps in 0..STEPS {
+        let Ok(Step::More(s, _)) = at else {
+            return (at, steps);
         };
         turn = drawn::following(turn);
-        at = walk::step(s, work, choice(order, s.pending, turn), ENSEMBLE);
-        steps += 1;
+        at = walk::step(s, work, choose(s.pending, turn), ENSEMBLE);
     }
-    text::named(b" steps ", steps);
-    at
+    (at, STEPS)
 }
 
 // A number that changes with every bit of the work area.
 fn mix(work: &[f64]) -> u64 {
     let mut m = drawn::START;
-    let mut i = 0;
-    while i < work.len() {
-        m = drawn::following(m ^ text::bits(work[i]));
-        i += 1;
+    for x in work {
+        m = drawn::following(m ^ text::bits(*x));
     }
     m
 }
 
 // An answer, and what it leaves in the work area: after a refusal what was there.
-fn told(answer: Step, work: &[f64]) {
+fn told(answer: Answer, work: &[f64]) {
     match answer {
-        Step::More(_, _) => text::put(b" more"),
-        Step::Done(x, rounds) => {
+        Ok(Step::More(_, _)) => text::put(b" more"),
+        Ok(Step::Done(x, rounds)) => {
             text::pattern(b" ", text::bits(x));
-            text::named(b" rounds ", rounds as u64);
+            text::named(b" rounds ", u64::from(rounds));
         }
-        Step::Refused(number, place) => text::refused(number, place),
+        Err(refusal) => text::refused(refusal),
     }
     text::pattern(b" work ", mix(work));
     text::put(b"\n");
 }
 
 fn nearest(list: &[u64]) {
-    match sums::nearest(list) {
-        Nearest::Sum(x) => text::pattern(b" ", text::bits(x)),
-        Nearest::Refused(number, place) => text::refused(number, place),
+    match sums::nearest::<f64>(list) {
+        Ok(x) => text::pattern(b" ", text::bits(x)),
+        Err(refusal) => text::refused(refusal),
     }
     text::put(b"\n");
 }
 
-fn by_blocks(name: &[u8], list: &[u64], work: &mut [f64], order: u64) {
+fn by_blocks<F: Fn(u64, u64) -> usize>(name: &[u8], list: &[u64], work: &mut [f64], choose: F)
+    requires { F.IsAlwaysCallable choose }
+{
     text::put(name);
-    let answer = run(list, work, order);
+    let (answer, steps) = run(list, work, choose);
+    text::named(b" steps ", steps);
     told(answer, work);
 }
 
@@ -100,9 +88,9 @@ pub fn all(list: &[u64], work: &mut [f64]) {
     text::put(b" nearest");
     nearest(list);
     text::put(b"undivided");
-    let answer = walk::faithful(list, work);
-    told(answer, work);
-    by_blocks(b"rising", list, work, RISING);
-    by_blocks(b"falling", list, work, FALLING);
-    by_blocks(b"seeded", list, work, SEEDED);
+    let answer = walk::faithful::<f64>(list, work);
+    told(answer.map(|end| Step::Done(end.sum, end.rounds)), work);
+    by_blocks(b"rising", list, work, |pending, _| lowest(pending));
+    by_blocks(b"falling", list, work, |pending, _| highest(pending));
+    by_blocks(b"seeded", list, work, seeded);
 }

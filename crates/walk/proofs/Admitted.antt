@@ -9,8 +9,8 @@ use Rattle.std.specs.Float.Ieee.Scale.{finite}
 use Rattle.ieee.specs.Units.{magnitude}
 use Rattle.lists.specs.Each.{Each, each_join, each_take, each_drop, each_weaker, each_both}
 use Rattle.kinds.specs.Limits.{Width, exponent_of}
-use Rattle.kinds.specs.declared.State.{State}
-use Rattle.kinds.specs.declared.Verdict.TheVariants.{Good}
+use Rattle.kinds.specs.State.{State}
+use Rattle.kinds.specs.Verdict.{Good}
 use Rattle.exponent.specs.Power.{powers}
 use Rattle.exponent.proofs.PowerLaws.{power_number, power_negative, power_magnitude}
 use Rattle.extract.specs.Extract.{remainder_of, remainders, largest}

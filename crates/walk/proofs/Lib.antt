@@ -5,5 +5,6 @@ pub mod Ensembles
 pub mod NoRefusal
 pub mod OpeningLaws
 pub mod StepLaws
+pub mod SumsLaws
 pub mod Told
 pub mod UndividedLaws

@@ -1,10 +1,9 @@
 -- The answers of an accepted call are no refusals: a fresh start, a close and a taken block. Assumes nothing.
 use Rattle.std.specs.Prelude.{refl, Bool, true, false, cond, List, ℕ, ◌+◌, eqb, Float}
 use Rattle.kinds.specs.Limits.{Width}
-use Rattle.kinds.specs.declared.State.{State}
-use Rattle.kinds.specs.declared.Step.{Step}
-use Rattle.kinds.specs.declared.Step.TheVariants.{More, Done}
-use Rattle.kinds.specs.declared.Verdict.TheVariants as verdicts
+use Rattle.kinds.specs.State.{State}
+use Rattle.kinds.specs.Step.{Step}
+use Rattle.kinds.specs.Step.{More, Done}
 use Rattle.extract.specs.Extract.{plus_zero}
 use Rattle.rounds.specs.Round.{turned, taken_state, fresh, closed_by}
 use Rattle.rounds.specs.ClosedLaws.{fresh_each, closed_each}

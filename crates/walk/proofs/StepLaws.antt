@@ -3,11 +3,11 @@ use Rattle.std.specs.Prelude.{◌≡◌, cond, List, ℕ, eqb, Float}
 use Rattle.std.proofs.Common.{sym, eq-eqb, ne_eqb}
 use Rattle.kinds.specs.Limits.{Width}
 use Rattle.kinds.specs.Outcome.{outcome}
-use Rattle.kinds.specs.declared.State.{State}
-use Rattle.kinds.specs.declared.Step.{Step}
-use Rattle.kinds.specs.declared.Step.TheVariants.{More, Refused}
-use Rattle.kinds.specs.declared.Verdict.{Verdict}
-use Rattle.kinds.specs.declared.Verdict.TheVariants as verdicts
+use Rattle.kinds.specs.State.{State}
+use Rattle.kinds.specs.Step.{Step}
+use Rattle.kinds.specs.Step.{More, Refused}
+use Rattle.kinds.specs.Verdict.{Verdict}
+use Rattle.kinds.specs.Verdict as verdicts
 use Rattle.rounds.specs.Round.{turned, taken_state, closed}
 use Rattle.walk.specs.Walk.{taken, stepped_after}
 

@@ -3,10 +3,10 @@ use Rattle.std.specs.Prelude.{refl, Bool, false, cond, List, ℕ, ◌+◌, eqb, 
 use Rattle.std.proofs.Math.Bool.{true}
 use Rattle.ieee.specs.Units.{magnitude, nearest_float}
 use Rattle.kinds.specs.Limits.{Width}
-use Rattle.kinds.specs.declared.State.{State}
-use Rattle.kinds.specs.declared.Step.TheVariants.{More, Refused}
-use Rattle.kinds.specs.declared.Verdict.{Verdict}
-use Rattle.kinds.specs.declared.Verdict.TheVariants as verdicts
+use Rattle.kinds.specs.State.{State}
+use Rattle.kinds.specs.Step.{More}
+use Rattle.kinds.specs.Verdict.{Verdict}
+use Rattle.kinds.specs.Verdict as verdicts
 use Rattle.judge.specs.Judge.{judged, floats, zero_sign}
 use Rattle.extract.specs.Extract.{plus_zero, largest}
 use Rattle.rounds.specs.Round.{turned, taken_state, fresh, closed_by, closed}

@@ -10,11 +10,11 @@ use Rattle.ieee.specs.Units.{nearest_float}
 use Rattle.lists.proofs.Apart.{apart}
 use Rattle.kinds.specs.Limits.{Width, blocks_of}
 use Rattle.kinds.specs.Outcome.{outcome}
-use Rattle.kinds.specs.declared.State.{State}
-use Rattle.kinds.specs.declared.Step.{Step}
-use Rattle.kinds.specs.declared.Step.TheVariants.{More, Done, Refused}
-use Rattle.kinds.specs.declared.Verdict.{Verdict}
-use Rattle.kinds.specs.declared.Verdict.TheVariants as verdicts
+use Rattle.kinds.specs.State.{State}
+use Rattle.kinds.specs.Step.{Step}
+use Rattle.kinds.specs.Step.{More, Done, Refused}
+use Rattle.kinds.specs.Verdict.{Verdict}
+use Rattle.kinds.specs.Verdict as verdicts
 use Rattle.judge.specs.Judge.{judged, floats, zero_sign}
 use Rattle.judge.proofs.JudgeLaws.{list_when, list_passed, list_allowed}
 use Rattle.extract.specs.Extract.{plus_zero, largest}

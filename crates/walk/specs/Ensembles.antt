@@ -3,11 +3,9 @@ use Rattle.std.specs.Prelude.{◌≡◌}
 use Prim.Native.Nat.{ℕ}
 use Rattle.kinds.specs.States.{state_of}
 use Rattle.kinds.specs.Outcome.{outcome}
-use Rattle.kinds.specs.declared.State.{State}
-use Rattle.kinds.specs.declared.Step.{Step}
-use Rattle.kinds.specs.declared.Step.TheVariants.{More, Done, Refused}
-use Rattle.kinds.specs.declared.Verdict.TheVariants as verdicts
-use Rattle.extract.specs.Extract.{largest}
+use Rattle.kinds.specs.State.{State}
+use Rattle.kinds.specs.Step.{Step}
+use Rattle.kinds.specs.Step.{More, Done, Refused}
 use Rattle.walk.specs.Walk.{Walked}
 
 -- the same state, answer and walk under the number k

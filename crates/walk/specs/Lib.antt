@@ -1,4 +1,5 @@
 -- The faithful walk.
+pub mod Sums
 pub mod Walk
 pub mod Stepping
 pub mod OpeningLaws

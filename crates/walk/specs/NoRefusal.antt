@@ -1,9 +1,9 @@
 -- What the theorems of proofs/NoRefusal.antt speak of. Definitions only.
 use Rattle.std.specs.Prelude.{◌≡◌}
-use Rattle.kinds.specs.declared.Step.{Step}
-use Rattle.kinds.specs.declared.Step.TheVariants.{More, Done, Refused}
-use Rattle.kinds.specs.declared.Verdict.{Verdict}
-use Rattle.kinds.specs.declared.Verdict.TheVariants as verdicts
+use Rattle.kinds.specs.Step.{Step}
+use Rattle.kinds.specs.Step.{More, Done, Refused}
+use Rattle.kinds.specs.Verdict.{Verdict}
+use Rattle.kinds.specs.Verdict as verdicts
 
 -- the verdict that an answer comes from
 abbrev pub verdict_of : Step → Verdict

@@ -10,10 +10,10 @@ use Rattle.std.proofs.Math.Pow.{pow-lt, pow_pos}
 use Rattle.lists.proofs.BitsetLaws.{has_from}
 use Rattle.kinds.specs.Limits.{Width, blocks_of}
 use Rattle.kinds.specs.Outcome.{outcome}
-use Rattle.kinds.specs.declared.State.{State}
-use Rattle.kinds.specs.declared.Step.TheVariants.{More}
-use Rattle.kinds.specs.declared.Verdict.{Verdict}
-use Rattle.kinds.specs.declared.Verdict.TheVariants.{Good}
+use Rattle.kinds.specs.State.{State}
+use Rattle.kinds.specs.Step.{More}
+use Rattle.kinds.specs.Verdict.{Verdict}
+use Rattle.kinds.specs.Verdict.{Good}
 use Rattle.sound.specs.Sound.{gated}
 use Rattle.rounds.specs.Round.{all_taken, all_left, closed}
 use Rattle.rounds.specs.Fitting.{Fitting}

@@ -9,9 +9,9 @@ use Rattle.lists.proofs.Apart.{apart}
 use Rattle.lists.specs.Each.{each_weaker}
 use Rattle.kinds.specs.Limits.{Width, exponent_of, blocks_of}
 use Rattle.kinds.specs.Outcome.{outcome}
-use Rattle.kinds.specs.declared.State.{State}
-use Rattle.kinds.specs.declared.Step.{Step}
-use Rattle.kinds.specs.declared.Step.TheVariants.{More, Done, Refused}
+use Rattle.kinds.specs.State.{State}
+use Rattle.kinds.specs.Step.{Step}
+use Rattle.kinds.specs.Step.{More, Done, Refused}
 use Rattle.extract.specs.Extract.{largest}
 use Rattle.extract.specs.ExtractLaws.{largest_le}
 use Rattle.extract.specs.LargestLaws.{Positive}

@@ -11,8 +11,8 @@ use Rattle.ieee.specs.Units.{magnitude}
 use Rattle.lists.specs.Bitset.{has}
 use Rattle.lists.specs.Each.{Each, each_join, each_take, each_drop}
 use Rattle.kinds.specs.Limits.{Width, exponent_of, blocks_of}
-use Rattle.kinds.specs.declared.State.{State}
-use Rattle.kinds.specs.declared.Verdict.TheVariants.{Good}
+use Rattle.kinds.specs.State.{State}
+use Rattle.kinds.specs.Verdict.{Good}
 use Rattle.extract.specs.Extract.{remainders, gathered, largest, largest_with}
 use Rattle.extract.specs.ExtractLaws.{remainders_length}
 use Rattle.extract.specs.LargestLaws.{Positive}

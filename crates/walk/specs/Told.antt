@@ -1,9 +1,7 @@
 -- What the theorems of proofs/Told.antt speak of. Definitions only.
 use Rattle.std.specs.Prelude.{◌≡◌, Float}
-use Rattle.kinds.specs.declared.Step.{Step}
-use Rattle.kinds.specs.declared.Step.TheVariants.{More, Done, Refused}
-use Rattle.kinds.specs.declared.Verdict.TheVariants as verdicts
-use Rattle.extract.specs.Extract.{largest}
+use Rattle.kinds.specs.Step.{Step}
+use Rattle.kinds.specs.Step.{More, Done, Refused}
 
 -- an answer with a state tells m, and the state keeps l
 abbrev pub Tells : Float → Float → Step → Type 0

@@ -1,23 +1,38 @@
 // A block that the gate let pass.
-ghost use Rattle.std.specs.Prelude.{◌≡◌};
-ghost use Rattle.kinds.specs.Limits.{doubles};
+ghost use Rattle.std.specs.Prelude.{◌≡◌, T};
+ghost use Rattle.std.specs.Float.Ieee.{fits};
+ghost use Rattle.lists.specs.Each.{Each};
+ghost use Rattle.kinds.specs.Answers.{as_state, as_given};
 ghost use Rattle.kinds.specs.Outcome.{outcome};
-ghost use Rattle.kinds.specs.declared.Verdict.TheVariants.{Good};
+ghost use Rattle.kinds.specs.Verdict.{Good};
 ghost use Rattle.sound.specs.Sound.{gated};
 ghost use Rattle.walk.specs.Walk.{taken};
 
-use kinds::{State, Step};
+use kinds::{Floating, State, Step};
 use rounds::close::close;
 use rounds::round;
 
-// Takes the block; after the last pending one the round closes, and not before (rules WC1 and E3).
-pub fn accepted(s: State, work: &mut [f64], block: usize) -> Step
-    requires { gated doubles s s.ensemble block work.old ≡ Good }
-    ensures { outcome result work.new ≡ taken doubles s block work.old }
+// That the width holds each number of an area: for proofs alone. A turn does nothing, so that the machine code has no loop.
+fn held<F: Floating>(work: &[F])
+    ensures { Each (λ x. T (fits F.width.format x)) (F.values work.now) }
 {
+    for x in work {
+        x.held();
+    }
+}
+
+// Takes the block; after the last pending one the round closes, and not before (rules WC1 and E3).
+pub fn accepted<F: Floating>(s: State<F>, work: &mut [F], block: usize) -> Step<F>
+    requires { gated F.width (as_state F.value s) s.ensemble block (F.values work.old) ≡ Good }
+    ensures { outcome (as_given F.value result) (F.values work.new)
+        ≡ taken F.width (as_state F.value s) block (F.values work.old) }
+{
+    s.sigma.held();
+    s.largest.held();
+    held(work);
     let next = round::take(s, work, block);
-    let pending = next.pending;
-    if pending == 0 {
+    let last = next.pending == 0;
+    if last {
         return close(next, work);
     }
     Step::More(next, next.largest)

@@ -1,49 +1,54 @@
-// The faithful walk: the opening of a list, block steps, and the undivided call.
+// The faithful walk at either width: the opening of a list, block steps, and the undivided call.
 #![tactic(auto)]
 
-use kinds::{State, Step, Verdict};
+pub use crate::sum::Sum;
+use kinds::{Floating, Refusal, State, Step};
 
 mod accepted;
 mod opening;
 mod run;
+mod sum;
 mod undivided;
 
 ghost use Rattle.std.specs.Prelude.{◌≡◌};
-ghost use Rattle.kinds.specs.Limits.{doubles};
+ghost use Rattle.kinds.specs.Answers.{as_state, as_step};
 ghost use Rattle.kinds.specs.Outcome.{outcome};
+ghost use Rattle.walk.specs.Sums.{as_faithful};
 ghost use Rattle.walk.specs.Walk.{opened, stepped, faithful_of};
 
 // Rule WO1; rule O1 has its refusals.
-pub fn open(list: &[u64], work: &mut [f64], ensemble: u32) -> Step
-    ensures { outcome result work.new ≡ opened doubles ensemble list.now work.old }
+pub fn open<F: Floating>(
+    list: &[F::Pattern],
+    work: &mut [F],
+    ensemble: u32,
+) -> Result<Step<F>, Refusal>
+    ensures { outcome (as_step F.value result) (F.values work.new)
+        ≡ opened F.width ensemble (F.patterns list.now) (F.values work.old) }
 {
     let fits = work.len() == list.len();
-    let measured = judge::measure(list, fits, true);
-    let verdict = measured.verdict;
-    match verdict {
-        Verdict::Refused(k, place) => Step::Refused(k, place),
-        Verdict::Good => opening::start(list, work, ensemble, measured.greatest),
-    }
+    let greatest = judge::measure::<F>(list, fits, true)?;
+    Ok(opening::start(list, work, ensemble, greatest))
 }
 
 // Rules O2 and WS9: the gate, and then the block.
-pub fn step(s: State, work: &mut [f64], block: usize, ensemble: u32) -> Step
-    ensures { outcome result work.new ≡ stepped doubles s ensemble block work.old }
+pub fn step<F: Floating>(
+    s: State<F>,
+    work: &mut [F],
+    block: usize,
+    ensemble: u32,
+) -> Result<Step<F>, Refusal>
+    ensures { outcome (as_step F.value result) (F.values work.new)
+        ≡ stepped F.width (as_state F.value s) ensemble block (F.values work.old) }
 {
-    match sound::gate(s, work, block, ensemble) {
-        Verdict::Refused(k, place) => Step::Refused(k, place),
-        Verdict::Good => accepted::accepted(s, work, block),
-    }
+    sound::gate(s, work, block, ensemble)?;
+    Ok(accepted::accepted(s, work, block))
 }
 
 // Rule WR1; rule O1 has its refusals, and a refused list is written nowhere.
-pub fn faithful(list: &[u64], work: &mut [f64]) -> Step
-    ensures { outcome result work.new ≡ faithful_of doubles list.now work.old }
+pub fn faithful<F: Floating>(list: &[F::Pattern], work: &mut [F]) -> Result<Sum<F>, Refusal>
+    ensures { outcome (as_faithful F.value result) (F.values work.new)
+        ≡ faithful_of F.width (F.patterns list.now) (F.values work.old) }
 {
-    let measured = judge::measure(list, work.len() == list.len(), true);
-    let verdict = measured.verdict;
-    match verdict {
-        Verdict::Refused(number, place) => Step::Refused(number, place),
-        Verdict::Good => undivided::undivided(list, work, measured.greatest),
-    }
+    let greatest = judge::measure::<F>(list, work.len() == list.len(), true)?;
+    Ok(undivided::undivided(list, work, greatest))
 }

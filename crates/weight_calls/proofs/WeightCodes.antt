@@ -5,7 +5,7 @@ use Rattle.std.proofs.Common.{arith}
 use Rattle.kinds.specs.Limits.{doubles}
 use Rattle.kinds.specs.Outcome.{outcome}
 use Rattle.kinds.proofs.OutcomeLaws.{determined}
-use Rattle.weights.specs.declared.Handed.TheVariants.{Refused}
+use Rattle.weights.specs.Handed.{Refused}
 use Rattle.weights.specs.Weights.{handed_of, handed_heard}
 use Rattle.weights.specs.Table.{HandedWhen, too_many, wrong_length, bad_number, bad_weight_lem, other_total, no_place, nobody}
 use Rattle.weights.proofs.TableLaws.{handed_heard_lem, handed_leaves, handed_is}

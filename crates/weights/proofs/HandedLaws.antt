@@ -5,7 +5,7 @@ use borrow.Author.Tests.{lt-ltb, le-ltb, le-leb, lt-leb, eq-eqb, ne_eqb}
 use Rattle.std.proofs.lemmas.List.{length-map}
 use Rattle.lists.proofs.Front.{map_at}
 use Rattle.kinds.specs.Limits.{Width}
-use Rattle.kinds.specs.declared.Verdict.TheVariants as verdicts
+use Rattle.kinds.specs.Verdict as verdicts
 use Rattle.weights.specs.Weights.{grains, weight_of, total, staying, bad_weight, weights_of, weighed}
 use Rattle.weights.specs.Table.{Weighed, Other}
 use Rattle.weights.proofs.LoopLaws.{found, bad_at, staying_length}

@@ -10,7 +10,7 @@ use Rattle.weights.proofs.WeightLaws.{one_is, one_units, pattern_unique}
 use Rattle.weights.proofs.FieldLaws.{fine_doubles}
 use Rattle.weights.proofs.TableLaws.{handed_when}
 use Rattle.weights.proofs.Promised.{handed_promised}
-use Rattle.weights.specs.declared.Handed.{Handed}
+use Rattle.weights.specs.Handed.{Handed}
 
 pub grain_64 : grain binary64 ≡ 2 ^ 1044
 grain_64 = refl

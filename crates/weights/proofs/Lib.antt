@@ -9,3 +9,4 @@ pub mod Promised
 pub mod ShareLaws
 pub mod TableLaws
 pub mod WeightLaws
+pub mod HandedSame

@@ -1,6 +1,6 @@
 -- What the loops over a list's places pass and end with: a search for a place that holds no weight, a sum, and the new weights written one by one. Assumes
 -- nothing.
-use Rattle.std.specs.Prelude.{◌≡◌, refl, ◌⊎◌, Bool, true, false, List, ◌∷◌, take, drop, get_or, set}
+use Rattle.std.specs.Prelude.{◌≡◌, refl, ◌⊎◌, Bool, true, false, not, cond, ltb, Option, Some, None, List, ◌∷◌, take, drop, get_or, set}
 use Rattle.std.proofs.Math.Path.{sym}
 use Rattle.std.proofs.Common.{◌∙◌, inl, inr, append_assoc, append-nil, eq-or-lt_of_le, le_of_suc-le-suc, length-set, drop_of_length-le, drop-cons}
 use Prim.Native.Nat.{ℕ, zero, suc, ◌+◌, ◌-◌, ◌≤◌, ◌<◌}
@@ -9,6 +9,11 @@ use native.Mathlib.Omega.{arith}
 use Rattle.std.proofs.Math.ListN.{length}
 use Rattle.std.proofs.lemmas.List.{length-map}
 use Rattle.std.proofs.Math.Seq.{take_all, take-suc-set}
+use Rattle.std.specs.List.{position_or_len}
+use Rattle.std.proofs.lemmas.List.Recursion.{is_position_or_len}
+use Rattle.std.proofs.lemmas.Bool.Decides.{nat_tests}
+use borrow.Author.Tests.{lt-ltb}
+use Rattle.units.proofs.Powers.{le_or_lt}
 use Rattle.kinds.specs.Limits.{Width}
 use Rattle.weights.specs.Weights.{grains, weight_good, weight_of, pattern_for, total, share, staying, gets, spread, bad_weight, weights_of}
 use Rattle.weights.specs.Table.{Weighed}
@@ -68,6 +73,24 @@ module _ (W : Width) (ps : List ℕ) where
 
   pub found : Weighed W ps (length ps) ⊎ Bad
   found = finds (length ps) (omega arith)
+
+-- ---- the place of the first that is none, as a search finds it
+pub bad_position : (W : Width) (ps : List ℕ) → bad_weight W ps ≡ position_or_len (λ (p : ℕ). not (weight_good W p)) ps
+unfolding bad_weight
+bad_position W = is_position_or_len (bad_weight W) (λ (p : ℕ). not (weight_good W p)) refl (λ p ps. step (weight_good W p) (bad_weight W ps))
+  where
+    step : (b : Bool) (n : ℕ) → cond b (n + 1) 0 ≡ cond (not b) 0 (1 + n)
+    step true n = omega arith
+    step false n = refl
+
+pub place_some : {b n i : ℕ} → Some i ≡ cond (ltb b n) (Some b) None → (b ≡ i) × (b < n)
+place_some {b} {n} {i} e = grind (arith, nat_tests)
+
+pub place_none : {b n : ℕ} {r : Option ℕ} → r ≡ cond (ltb b n) (Some b) None → ((i : ℕ) → r ≡ Some i → ⊥) → n ≤ b
+place_none {b} {n} {r} e h = elim (le_or_lt n b) [
+  | inl k ↦ k
+  | inr k ↦ absurd (h b (e ∙ rw (lt-ltb b n k)))
+]
 
 -- ---- as many stay as there are, the leaver's place with them
 pub staying_length : (W : Width) (ps : List ℕ) (at : ℕ) → length (staying at (weights_of W ps)) ≡ length ps

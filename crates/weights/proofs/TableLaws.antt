@@ -12,8 +12,8 @@ use Rattle.kinds.proofs.HeardLaws.{verdict_heard_lem}
 use Rattle.kinds.proofs.Hearing.{exactly, placed, at_place_0, hears}
 use Rattle.kinds.specs.Outcome.{outcome}
 use Rattle.kinds.proofs.OutcomeLaws.{determined}
-use Rattle.kinds.specs.declared.Verdict.{Verdict}
-use Rattle.kinds.specs.declared.Verdict.TheVariants as verdicts
+use Rattle.kinds.specs.Verdict.{Verdict}
+use Rattle.kinds.specs.Verdict as verdicts
 use Rattle.judge.specs.Judge.{first_fault, judged}
 use Rattle.judge.specs.Table.{Allowed}
 use Rattle.judge.proofs.FirstFaultLaws as faults
@@ -26,8 +26,8 @@ use Rattle.weights.specs.WeightLaws.{Fine}
 use Rattle.weights.proofs.WeightLaws.{weighed_allowed}
 use Rattle.weights.proofs.LoopLaws.{found, bad_at, bad_nowhere}
 use Rattle.weights.proofs.HandedLaws.{weighed_14, weighed_15, weighed_16, weighed_17, weighed_good, other_positive, positive_other}
-use Rattle.weights.specs.declared.Handed.{Handed}
-use Rattle.weights.specs.declared.Handed.TheVariants.{Shared, Refused}
+use Rattle.weights.specs.Handed.{Handed}
+use Rattle.weights.specs.Handed.{Shared, Refused}
 
 -- what is answered for a verdict, and heard
 abbrev answer_for : Verdict → Handed

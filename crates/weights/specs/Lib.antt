@@ -1,4 +1,6 @@
 -- Handing on the weight of a clock that leaves. Definitions first, then laws.
+pub mod Handed
+pub mod Answers
 pub mod Weights
 pub mod Table
 pub mod Promise

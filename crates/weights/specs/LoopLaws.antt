@@ -1,6 +1,6 @@
 -- What the theorems of proofs/LoopLaws.antt speak of. Definitions only.
 use Rattle.std.specs.Prelude.{◌≡◌, List, ◌++◌, map, take, drop}
-use Prim.Native.Nat.{ℕ, ◌+◌, ◌≤◌}
+use Prim.Native.Nat.{ℕ, ◌≤◌}
 use Rattle.kinds.specs.Limits.{Width}
 use Rattle.weights.specs.Weights.{grains, pattern_for, total, spread}
 

@@ -3,8 +3,8 @@ use Rattle.std.specs.Prelude.{◌≡◌, true, false, List, ℕ, ◌≤◌, ◌<
 use Rattle.kinds.specs.Limits.{Width}
 use Rattle.judge.specs.Table.{Allowed, First}
 use Rattle.weights.specs.Weights.{grains, weight_good, weight_of, weights_of, total}
-use Rattle.weights.specs.declared.Handed.{Handed}
-use Rattle.weights.specs.declared.Handed.TheVariants.{Shared, Refused}
+use Rattle.weights.specs.Handed.{Handed}
+use Rattle.weights.specs.Handed.{Shared, Refused}
 
 -- the places below n hold weights
 pub record Weighed (W : Width) (ps : List ℕ) (n : ℕ) : Type 0 where

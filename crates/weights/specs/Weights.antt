@@ -8,11 +8,11 @@ use Rattle.ieee.specs.Units.{negative, magnitude, nearest_float}
 use Rattle.kinds.specs.Limits.{Width}
 use Rattle.kinds.specs.Heard.{Heard, refused, accepted, place_of}
 use Rattle.kinds.specs.Outcome.{Outcome, outcome}
-use Rattle.kinds.specs.declared.Verdict.{Verdict}
-use Rattle.kinds.specs.declared.Verdict.TheVariants as verdicts
+use Rattle.kinds.specs.Verdict.{Verdict}
+use Rattle.kinds.specs.Verdict as verdicts
 use Rattle.judge.specs.Judge.{judged}
-use Rattle.weights.specs.declared.Handed.{Handed}
-use Rattle.weights.specs.declared.Handed.TheVariants.{Shared, Refused}
+use Rattle.weights.specs.Handed.{Handed}
+use Rattle.weights.specs.Handed.{Shared, Refused}
 
 -- ---- rule V1: 1 in grains, a grain of 2^-30 in units, and 1 in units
 abbrev pub grains : ℕ

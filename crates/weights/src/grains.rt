@@ -14,6 +14,9 @@ const ONE: u64 = 0x3FF0_0000_0000_0000;
 
 const GRAIN: u64 = 0x3E10_0000_0000_0000;
 
+// the bits of a word above a significand
+const ABOVE: u32 = u64::BITS - 1 - DIGITS;
+
 // The grains of a pattern up to that of 1. Below a grain's there is none; from there on the field tells how many digits of the significand are below a grain.
 pub fn grains_of(p: u64) -> u64
     requires { p ≤ emax doubles.format * hid doubles.format }
@@ -33,7 +36,7 @@ pub fn pattern(k: u64) -> u64
     if k == 0 {
         return 0;
     }
-    let up = (u64::leading_zeros(k) - 11) as u64;
+    let up = u64::from(k.leading_zeros() - ABOVE);
     ((1044 - up) << DIGITS) + (k << up)
 }
 

@@ -3,36 +3,25 @@
 
 use crate::grains::{GRAINS, grains_of, is_weight};
 use crate::share::{shares, write};
-use kinds::Verdict;
+use kinds::Refusal;
 
 mod grains;
 mod share;
 
-ghost use Rattle.std.specs.Prelude.{◌≡◌, true, ◌≤◌, length};
+ghost use Rattle.std.specs.Prelude.{◌≡◌, true, ◌≤◌, length, if◌then◌else◌, ltb, Some, None};
 ghost use Rattle.kinds.specs.Limits.{doubles};
+ghost use Rattle.kinds.specs.Answers.{as_verdict};
 ghost use Rattle.kinds.specs.Outcome.{outcome};
 ghost use Rattle.judge.specs.Judge.{judged};
 ghost use Rattle.weights.specs.Weights.{total, weights_of, bad_weight, weighed, and_then, handed_of};
+ghost use Rattle.weights.specs.Answers.{as_handed};
 ghost use Rattle.weights.specs.Table.{Weighed};
 
-#[derive(Drop)]
-pub enum Handed {
-    Shared,
-    Refused(u32, u32),
-}
-
-// The place of the first pattern that is no weight, or the length where each is one.
-fn bad_weight(list: &[u64]) -> usize
-    ensures { result ≡ bad_weight doubles list.now }
+// The place of the first pattern that is no weight.
+fn bad_weight(list: &[u64]) -> Option<usize>
+    ensures { result ≡ (if ltb (bad_weight doubles list.now) (length list.now) then Some (bad_weight doubles list.now) else None) }
 {
-    let mut i = 0;
-    while i < list.len() {
-        if !is_weight(list[i]) {
-            return i;
-        }
-        i += 1;
-    }
-    i
+    list.iter().position(|p| !is_weight(*p))
 }
 
 // Rule V2: the sum in grains, of not more weights than a list has.
@@ -41,56 +30,49 @@ fn total(list: &[u64]) -> u64
     ensures { result ≡ total (weights_of doubles list.now) }
 {
     let mut sum = 0;
-    let mut i = 0;
-    while i < list.len() {
-        sum += grains_of(list[i]);
-        i += 1;
+    for &p in list {
+        sum += grains_of(p);
     }
     sum
 }
 
 // Rule O7 from 14 on. Where the total is 1, all others are zero exactly where the leaver has all of it.
-fn weighed(list: &[u64], leaver: usize) -> Verdict
+fn weighed(list: &[u64], leaver: usize) -> Result<(), Refusal>
     requires { length list.now ≤ doubles.length }
-    ensures { result ≡ weighed doubles list.now leaver }
+    ensures { as_verdict result ≡ weighed doubles list.now leaver }
 {
-    let place = bad_weight(list);
-    if place < list.len() {
-        return Verdict::Refused(14, place as u32);
+    if let Some(place) = bad_weight(list) {
+        return Err(Refusal::NotAWeight(place as u32));
     }
-    if total(list) != GRAINS {
-        return Verdict::Refused(15, 0);
+    let whole = total(list) == GRAINS;
+    if !whole {
+        return Err(Refusal::WrongTotal);
     }
     if list.len() <= leaver {
-        return Verdict::Refused(16, 0);
+        return Err(Refusal::NoSuchClock);
     }
-    if grains_of(list[leaver]) == GRAINS {
-        return Verdict::Refused(17, 0);
+    let all = grains_of(list[leaver]) == GRAINS;
+    if all {
+        return Err(Refusal::NoOtherWeight);
     }
-    Verdict::Good
+    Ok(())
 }
 
 // Rule O7, where area says whether the lent area has the list's length.
-fn judged(list: &[u64], leaver: usize, area: bool) -> Verdict
-    ensures { result ≡ and_then (judged doubles area true list.now) (weighed doubles list.now leaver) }
+fn judged(list: &[u64], leaver: usize, area: bool) -> Result<(), Refusal>
+    ensures { as_verdict result ≡ and_then (judged doubles area true list.now) (weighed doubles list.now leaver) }
 {
-    match judge::judge(list, area, true) {
-        Verdict::Refused(k, place) => Verdict::Refused(k, place),
-        Verdict::Good => weighed(list, leaver),
-    }
+    judge::judge::<f64>(list, area, true)?;
+    weighed(list, leaver)
 }
 
 // Rule V6: the weight of the clock at the leaver's place goes to the others, and the new list to the area.
-pub fn hand_on(list: &[u64], leaver: usize, out: &mut [u64]) -> Handed
-    ensures { outcome result out.new ≡ handed_of doubles list.now leaver out.old }
+pub fn hand_on(list: &[u64], leaver: usize, out: &mut [u64]) -> Result<(), Refusal>
+    ensures { outcome (as_handed result) out.new ≡ handed_of doubles list.now leaver out.old }
 {
     let fits = out.len() == list.len();
-    match judged(list, leaver, fits) {
-        Verdict::Refused(k, place) => Handed::Refused(k, place),
-        Verdict::Good => {
-            let w = grains_of(list[leaver]);
-            write(list, leaver, w, w - shares(list, leaver, w), out);
-            Handed::Shared
-        }
-    }
+    judged(list, leaver, fits)?;
+    let w = grains_of(list[leaver]);
+    write(list, leaver, w, w - shares(list, leaver, w), out);
+    Ok(())
 }

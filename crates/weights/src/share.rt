@@ -29,7 +29,7 @@ fn share(w: u64, k: u64) -> u64
 fn gets(left: u64, k: u64) -> u64
     ensures { result ≡ gets left k }
 {
-    ((0 < left) & (0 < k)) as u64
+    u64::from((0 < left) & (0 < k))
 }
 
 // The shares of all: not more than the leaver had, which the callers know.
@@ -38,10 +38,8 @@ pub fn shares(list: &[u64], leaver: usize, w: u64) -> u64
     ensures { result ≡ total (map (share w) (staying leaver (weights_of doubles list.now))) }
 {
     let mut sum = 0;
-    let mut i = 0;
-    while i < list.len() {
+    for i in 0..list.len() {
         sum += share(w, weight_at(list, leaver, i));
-        i += 1;
     }
     sum
 }
@@ -53,12 +51,10 @@ pub fn write(list: &[u64], leaver: usize, w: u64, left: u64, out: &mut [u64])
     ensures { out.new ≡ map (pattern_for doubles) (spread w left (staying leaver (weights_of doubles list.now))) }
 {
     let mut rest = left;
-    let mut i = 0;
-    while i < list.len() {
+    for i in 0..list.len() {
         let k = weight_at(list, leaver, i);
         let g = gets(rest, k);
         out[i] = pattern(k + share(w, k) + g);
         rest -= g;
-        i += 1;
     }
 }

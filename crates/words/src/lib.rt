@@ -3,6 +3,7 @@
 
 pub mod columns;
 pub mod ripple;
+mod way;
 pub mod word;
 
 // Rule L11.

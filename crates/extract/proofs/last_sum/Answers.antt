@@ -1,26 +1,23 @@
--- `extract::last_sum` meets its contract: the sum is that of the places passed. Assumes nothing.
-use mathlib.Core.Path.{refl, ◌∙◌}
-use Prim.Native.Nat.{◌-◌, ◌<◌}
-use native.Mathlib.Omega.{arith}
-use lib.Ieee.{nan}
-use lib.ListN.{length}
-use lib.Seq.{take_all}
-use Rattle.lists.proofs.Front.{take_next}
+-- `extract::last_sum` meets its contract: after each call of the closure the sum is that of the numbers passed. Assumes nothing.
+use Rattle.std.specs.Prelude.{◌≡◌, ◌∷◌, []}
+use Rattle.std.proofs.Common.{sym, ◌∙◌, rules}
+use Rattle.std.specs.Float.Ieee.{add}
+use Rattle.std.proofs.lemmas.Fn.{fold_over, fronts, slice_gives}
 use Rattle.extract.specs.Extract.{last_sum}
 use Rattle.extract.specs.ExtractLaws.{sum_next}
+use Rattle.extract.proofs.AreaLaws.{read_join}
 use Rattle.extract.proofs.last_sum.Goals as goal
 
-pub loop-place-init : goal.loop-place-init
-unfolding last_sum
-loop-place-init c = refl
-
-pub loop-place-preserved : goal.loop-place-preserved
-loop-place-preserved c =
-    let w = c.args.work.now in
-    let h : c.loop-place.place < length w = omega arith in
-    rw (c.loop-place.invariant, take_next nan w c.loop-place.place, sum_next)
-
 pub returns : goal.returns
-returns c =
-    let w = c.args.work.now in
-    c.loop-place.invariant ∙ rw (take_all c.loop-place.place w (omega arith))
+unfolding last_sum
+returns g c =
+    let f = g.F.Floating.width.format in
+    let v = g.F.Floating.value in
+    let read = g.F.Floating.values in
+    let each = g.met.F.Floating.each_value in
+    let all : c.iter.result.rest.now ≡ c.args.work.now = c.iter.ensures.rest in
+    fold_over fronts (λ x. x.now) _ (λ ys t. v t ≡ last_sum f (read ys)) _
+    (λ ys a x b f' j k.
+    let s : v b ≡ add f (v a) (v x.now) = search rules in
+    (s ∙ rw (j, read_join v read each ys (x.now ∷ []), each (x.now ∷ []), sum_next), search rules))
+    c.iter.result c.args.work.now _ c.fold.result (rw (sym all) (slice_gives c.iter.result)) (rw (each []) (search rules)) c.fold.ensures.ran

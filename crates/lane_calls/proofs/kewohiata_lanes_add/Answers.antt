@@ -1,17 +1,18 @@
 -- `lane_calls::kewohiata_lanes_add` meets its contract: what is refused is one of the table's. Assumes nothing.
-use mathlib.Core.Path.{sym, ap, subst}
+use Rattle.std.proofs.Common.{sym, ap, subst, ◌∙◌, ℕ}
+use Rattle.kinds.specs.Outcome.{outcome}
 use Rattle.lanes.specs.Lanes.{Laying}
 use Rattle.lane_calls.specs.LaneArrays.{LaidRefusal}
 use Rattle.lane_calls.proofs.LaneArraysLaws.{laid_other, laid_answered, lay_laid}
 use Rattle.lane_calls.proofs.kewohiata_lanes_add.Goals as goal
 
-pub returns-then-out-ne1 : goal.returns-then-out-ne1
-returns-then-out-ne1 c = sym (laid_other _ _ _ c.if-out-ne1.true)
+pub returns-then-out-ne-VALUES : goal.returns-then-out-ne-VALUES
+returns-then-out-ne-VALUES c = rw c.refusal.ensures (sym (laid_other _ _ _ c.if-out-ne-VALUES.true))
 
 pub answer-requires : goal.answer-requires
-answer-requires c = (c.if-out-ne1.false, subst LaidRefusal (sym (ap (λ (l : Laying). l.answer) c.add.ensures)) (lay_laid _ _ _ _))
+answer-requires c = (c.if-out-ne-VALUES.false, subst LaidRefusal (sym (ap (λ (l : Laying). l.answer) c.add.ensures)) (lay_laid _ _ _ _))
 
 pub returns : goal.returns
 returns c =
-    let one = c.if-out-ne1.false in
-    laid_answered _ c.args.lanes.now c.args.out.now one c.add.ensures c.answer.ensures
+    laid_answered _ c.args.lanes.now c.args.out.now c.if-out-ne-VALUES.false c.add.ensures
+    (ap (λ (n : ℕ). outcome n c.answer.new.out) c.code.ensures ∙ c.answer.ensures.written)

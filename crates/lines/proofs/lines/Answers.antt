@@ -1,43 +1,48 @@
 -- `lines::lines` meets its contract: a refused sheet has its line, and the numbers that were read have theirs. Assumes nothing.
-use mathlib.Core.Path.{◌≡◌}
-use Prim.Native.Nat.{◌-◌}
-use native.Mathlib.Omega.{arith}
-use lib.ListN.{length-take}
-use Rattle.lines.proofs.LinesLaws.{sheet_refused, read_refusal, sheet_accepted, read_few, read_room}
-use borrow.Author.Rules.{rules}
+use Rattle.std.proofs.Common.{◌≡◌, ap, ◌-◌, arith, rules}
+use Rattle.std.proofs.Math.ListN.{length-take}
+use Rattle.kinds.specs.Answers.{as_sheet}
+use Rattle.numerals.proofs.TextLaws.{put_first}
+use Rattle.lines.specs.Lines.{printed, lines_of}
+use Rattle.lines.proofs.LinesLaws.{sheet_refused, sheet_accepted, read_few, read_room}
 use Rattle.lines.proofs.lines.Goals as goal
-
-pub refused-requires : goal.refused-requires
-refused-requires c =
-    let a = c.args in
-    (read_refusal a.sheet.now a.numbers.now a.work.now a.text.now c.read.ensures _ _ c.in-Refused.is, search rules)
+use Rattle.lines.proofs.lines.Goals.{in-Ok, in-Err}
 
 pub slice_bounds-summed-end : goal.slice_bounds-summed-end
 slice_bounds-summed-end c =
     let a = c.args in
-    let room = read_room a.sheet.now a.numbers.now a.work.now a.text.now c.read.ensures c.in-Read.n c.in-Read.is in
+    let room = read_room a.sheet.now a.numbers.now a.work.now a.text.now c.read.ensures c.in-Ok.n (ap as_sheet c.in-Ok.is) in
     omega (arith, room)
 
-pub slice_bounds-summed-end-in-Read : goal.slice_bounds-summed-end-in-Read
-slice_bounds-summed-end-in-Read c =
+pub slice_bounds-summed-end-in-Ok : goal.slice_bounds-summed-end-in-Ok
+slice_bounds-summed-end-in-Ok c =
     let a = c.args in
-    let few = read_few a.sheet.now a.numbers.now a.work.now a.text.now c.read.ensures c.in-Read.n c.in-Read.is in
+    let few = read_few a.sheet.now a.numbers.now a.work.now a.text.now c.read.ensures c.in-Ok.n (ap as_sheet c.in-Ok.is) in
     omega (arith, few)
 
 pub summed-requires : goal.summed-requires
 summed-requires c =
     let a = c.args in
-    let few = read_few a.sheet.now a.numbers.now a.work.now a.text.now c.read.ensures c.in-Read.n c.in-Read.is in
-    (simp length-take (omega (arith, few)), search rules)
+    let few = read_few a.sheet.now a.numbers.now a.work.now a.text.now c.read.ensures c.in-Ok.n (ap as_sheet c.in-Ok.is) in
+    (simp length-take (omega (arith, few)), rw (c.new-out.ensures.end, c.new-out.ensures.area) (omega arith))
 
-pub returns-in-Refused : goal.returns-in-Refused
-returns-in-Refused c =
+pub returns : goal.returns
+returns c =
     let a = c.args in
-    sheet_refused a.sheet.now a.numbers.now a.work.now a.text.now c.read.ensures _ _ c.in-Refused.is c.refused.ensures
-
-pub returns-in-Read : goal.returns-in-Read
-returns-in-Read c =
-    let a = c.args in
-    let z : c.in-Read.n - 0 ≡ c.in-Read.n = omega arith in
-    let e = rw z at c.summed.ensures in
-    rw z (sheet_accepted a.sheet.now a.numbers.now a.work.now a.text.now c.read.ensures _ c.in-Read.is e.left e.lines)
+    let out = c.match-read.out in
+    let same : out.area.ghost_name ≡ c.new-out.result.area.ghost_name =
+    elim c.match-read.branch [ in-Ok w ↦ rw w.out-is w.summed.ensures.lines.same | in-Err w ↦ rw w.out-is w.refused.ensures.same ] in
+    let told : printed out.end c.read.new.area c.match-read.work out.area.now ≡ lines_of a.sheet.now a.numbers.now a.work.now a.text.now =
+    elim c.match-read.branch [
+      | in-Ok w ↦
+          let z : w.in-Ok.n - 0 ≡ w.in-Ok.n = omega arith in
+          let e = rw z at w.summed.ensures in
+          rw (w.out-is, w.work-is, z)
+          (sheet_accepted a.sheet.now a.numbers.now a.work.now a.text.now c.read.ensures _ (ap as_sheet w.in-Ok.is) e.left
+          (put_first c.new-out.ensures.end c.new-out.ensures.area e.lines))
+      | in-Err w ↦
+          rw (w.out-is, w.work-is)
+          (sheet_refused a.sheet.now a.numbers.now a.work.now a.text.now c.read.ensures _ _ (ap as_sheet w.in-Err.is)
+          (put_first c.new-out.ensures.end c.new-out.ensures.area w.refused.ensures))
+    ] in
+    search rules

@@ -1,14 +1,10 @@
 -- `numerals::capitals` meets its contract: from the last place down to i the digits stand in the area. Assumes nothing.
-use mathlib.Core.Path.{◌≡◌}
-use native.Mathlib.Omega.{arith}
+use Rattle.std.proofs.Common.{◌≡◌, arith}
 use Rattle.numerals.proofs.NumeralLaws.{spelling_begins, spelling_goes_on, spelling_ends}
 use Rattle.numerals.proofs.capitals.Goals as goal
 
 pub loop-i-init : goal.loop-i-init
 loop-i-init c = let a = c.args in spelling_begins a.p a.digits.now
-
-pub bounds-digits-i : goal.bounds-digits-i
-bounds-digits-i c = let v = c.loop-i.invariant in omega (arith, v.long, v.inside)
 
 pub loop-i-preserved : goal.loop-i-preserved
 loop-i-preserved c = rw c.capital.ensures (spelling_goes_on c.loop-i.i c.loop-i.invariant c.loop-i-test.true)

@@ -10,7 +10,7 @@ use Rattle.sheet.proofs.LayoutLaws.{sheet_laid}
 use Rattle.sheet.specs.Sheet.{sheet_of, version_of, count_of, patterns_of}
 use Rattle.sheet.specs.Table.{Begun}
 use Rattle.rescue.specs.Rescue.{taken_of, entries_of, kept_of, mark_of, Rescuing, rescuing}
-use Rattle.rescue.specs.declared.Rescued.TheVariants.{Saved}
+use Rattle.rescue.specs.Rescued.{Saved}
 use Rattle.rescue.proofs.RescueLaws.{kept_few}
 use Rattle.rescue.proofs.RescueCases.{rescue_no_header, rescue_version, rescue_many, rescue_no_room, rescue_no_marks, rescue_saved}
 use Rattle.rescue.proofs.rescue.Goals as goal

@@ -5,7 +5,7 @@ use native.Mathlib.Omega.{arith}
 use lib.ListN.{drop}
 use Rattle.kinds.specs.Limits.{doubles}
 use Rattle.kinds.specs.Outcome.{outcome}
-use Rattle.kinds.specs.declared.Sheet.TheVariants.{Read}
+use Rattle.kinds.specs.Sheet.{Read}
 use Rattle.sheet.specs.Sheet.{version_of, count_of, patterns_of}
 use Rattle.sheet.proofs.SheetLaws.{read_no_header, read_version, read_many, read_short, read_long, read_no_room, read_all}
 use Rattle.sheet.proofs.read.Goals as goal

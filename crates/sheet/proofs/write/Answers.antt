@@ -5,7 +5,7 @@ use native.Mathlib.Omega.{arith}
 use lib.ListN.{length}
 use Rattle.kinds.specs.Limits.{doubles}
 use Rattle.kinds.specs.Outcome.{outcome}
-use Rattle.sheet.specs.declared.Written.TheVariants.{Wrote}
+use Rattle.sheet.specs.Written.{Wrote}
 use Rattle.sheet.proofs.WriteCases.{write_many, write_no_room, write_all}
 use Rattle.sheet.proofs.LayoutLaws.{sheet_laid}
 use Rattle.sheet.proofs.write.Goals as goal

@@ -1,40 +1,47 @@
 -- `sums::nearest` meets its contract: the words hold the sum of an allowed list, and are rounded; a refusal is the judge's. Assumes nothing.
-use borrow.Author.Rules.{rules}
-use mathlib.Core.Path.{refl, sym, ap, ◌∙◌}
-use mathlib.Core.Bool.{true}
+use Rattle.std.specs.Prelude.{◌≡◌, refl, true}
+use Rattle.std.proofs.Common.{rules, sym, ap, ◌∙◌}
+use Rattle.std.proofs.lemmas.Result.{err_from_is_err_and}
 use Rattle.ieee.specs.Units.{nearest_float}
-use Rattle.kinds.specs.Limits.{doubles}
-use Rattle.kinds.specs.declared.Nearest.TheVariants.{Sum}
+use Rattle.kinds.specs.Nearest.{Sum}
+use Rattle.kinds.specs.Verdict.{Good}
+use Rattle.kinds.specs.Answers.{as_verdict}
+use Rattle.kinds.proofs.Areas.{read_length}
+use Rattle.judge.specs.Judge.{judged}
 use Rattle.judge.proofs.JudgeLaws.{list_when, list_passed, list_allowed}
-use Rattle.kinds.specs.declared.Verdict.TheVariants.{Good}
 use Rattle.sums.specs.Sums.{sum_of}
-use Rattle.sums.proofs.SumLaws.{sums_doubles, sum_below_limit, sum_whole}
+use Rattle.sums.proofs.SumLaws.{sums_known, sum_below_limit, sum_whole}
 use Rattle.sums.proofs.AnswerLaws.{nearest_good, nearest_refused}
 use Rattle.sums.proofs.nearest.Goals as goal
 
+pub returns-in_err-judge : goal.returns-in_err-judge
+returns-in_err-judge g c =
+    let ps = g.F.Floating.patterns c.args.list.now in
+    let q = err_from_is_err_and c.from_residual.result c.from_residual.ensures.1 in
+    rw (q.1, q.2) (sym (nearest_refused g.F.Floating.width ps _ _ (sym c.judge.ensures ∙ ap as_verdict c.in_err-judge.was)))
+
 pub total-requires : goal.total-requires
-total-requires c =
-    let ps = c.args.list.now in
-    let v = (list_when doubles true true ps Good).0 (sym c.judge.ensures ∙ c.in-Good.is) in
-    (refl, list_allowed v, (list_passed v).few)
+total-requires g c =
+    let W = g.F.Floating.width in
+    let ps = g.F.Floating.patterns c.args.list.now in
+    let n = read_length g.F.Floating.pattern g.F.Floating.patterns g.met.F.Floating.each_pattern c.args.list.now in
+    let v = (list_when W true true ps Good).0 (sym c.judge.ensures ∙ ap as_verdict c.in_ok-judge.was) in
+    (refl, list_allowed v, rw n at (list_passed v).few)
 
-pub nearest_double-requires : goal.nearest_double-requires
-nearest_double-requires c =
-    let ps = c.args.list.now in
-    let v = (list_when doubles true true ps Good).0 (sym c.judge.ensures ∙ c.in-Good.is) in
-    let l = sum_below_limit sums_doubles (list_passed v).few (list_allowed v) in
-    (search rules, rw (sum_whole doubles.format (sum_of doubles.format ps) l c.total.ensures) l)
+pub nearest_float-requires : goal.nearest_float-requires
+nearest_float-requires g c =
+    let W = g.F.Floating.width in
+    let ps = g.F.Floating.patterns c.args.list.now in
+    let v = (list_when W true true ps Good).0 (sym c.judge.ensures ∙ ap as_verdict c.in_ok-judge.was) in
+    let l = sum_below_limit (sums_known g.met.F.Floating.known) (list_passed v).few (list_allowed v) in
+    (search rules, rw (sum_whole W.format (sum_of W.format ps) l c.total.ensures) l)
 
-pub returns-in-Refused : goal.returns-in-Refused
-returns-in-Refused c =
-    let ps = c.args.list.now in
-    sym (nearest_refused doubles ps _ _ (sym c.judge.ensures ∙ c.in-Refused.is))
-
-pub returns-in-Good : goal.returns-in-Good
-returns-in-Good c =
-    let ps = c.args.list.now in
-    let e = sym c.judge.ensures ∙ c.in-Good.is in
-    let v = (list_when doubles true true ps Good).0 e in
-    let l = sum_below_limit sums_doubles (list_passed v).few (list_allowed v) in
-    let w = sum_whole doubles.format (sum_of doubles.format ps) l c.total.ensures in
-    ap Sum (c.nearest_double.ensures ∙ (λ i. nearest_float doubles.format (c.zero_sign-zero.ensures i) (w i))) ∙ sym (nearest_good doubles ps e)
+pub returns : goal.returns
+returns g c =
+    let W = g.F.Floating.width in
+    let ps = g.F.Floating.patterns c.args.list.now in
+    let e : judged W true true ps ≡ Good = sym c.judge.ensures ∙ ap as_verdict c.in_ok-judge.was in
+    let v = (list_when W true true ps Good).0 e in
+    let l = sum_below_limit (sums_known g.met.F.Floating.known) (list_passed v).few (list_allowed v) in
+    let w = sum_whole W.format (sum_of W.format ps) l c.total.ensures in
+    ap Sum (c.nearest_float.ensures ∙ (λ i. nearest_float W.format (c.zero_sign-zero.ensures i) (w i))) ∙ sym (nearest_good W ps e)

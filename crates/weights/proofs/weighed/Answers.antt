@@ -1,73 +1,65 @@
 -- `weights::weighed` meets its contract: each return is a case of the definition. Assumes nothing.
-use mathlib.Core.Path.{◌≡◌, sym, ap, ◌∙◌}
-use Prim.Native.Nat.{◌+◌, ◌≤◌, ◌<◌}
-use native.Mathlib.Omega.{arith}
-use lib.ListN.{length, get_or, length-map}
+use Rattle.std.specs.Prelude.{◌≡◌, List, ℕ, ◌+◌, ◌<◌, length, get_or}
+use Rattle.std.proofs.Common.{sym, ap, ◌∙◌, arith}
+use Rattle.std.proofs.lemmas.List.{length-map}
 use Rattle.lists.proofs.Front.{map_at}
 use Rattle.kinds.specs.Limits.{doubles}
-use Rattle.kinds.specs.declared.Verdict.TheVariants.{Refused}
-use Rattle.weights.specs.Weights.{grains, bad_weight, weight_of, weights_of, total, staying}
+use Rattle.kinds.specs.Verdict.{Refused}
+use Rattle.weights.specs.Weights.{grains, weight_of, weights_of, total, staying}
 use Rattle.weights.proofs.WeightLaws.{good_below}
 use Rattle.weights.proofs.FieldLaws.{fine_doubles}
 use Rattle.weights.proofs.GrainLaws.{split}
 use Rattle.weights.proofs.HandedLaws.{all_weighed, weighed_14, weighed_15, weighed_16, weighed_17, weighed_good}
+use Rattle.weights.proofs.LoopLaws.{place_some, place_none}
 use Rattle.weights.proofs.weighed.Goals as goal
 
-pub returns-then-place-list : goal.returns-then-place-list
-returns-then-place-list c =
+pub returns-in-Some : goal.returns-in-Some
+returns-in-Some c =
     let a = c.args in
-    let h : bad_weight doubles a.list.now < length a.list.now = omega (arith, c.bad_weight-place.ensures) in
-    ap (Refused 14) c.bad_weight-place.ensures ∙ sym (weighed_14 doubles a.list.now a.leaver h)
+    let s = place_some c.in-Some.ensures in
+    ap (Refused 14) (sym s.0) ∙ sym (weighed_14 doubles a.list.now a.leaver s.1)
 
-pub total-requires : goal.total-requires
-total-requires c =
-    let none : (let ps = c.args.list.now in length ps ≤ bad_weight doubles ps) = omega (arith, c.bad_weight-place.ensures) in
+pub total-whole-requires : goal.total-whole-requires
+total-whole-requires c =
+    let none = place_none c.bad_weight.ensures c.in_default.not-Some in
     (c.requires, all_weighed doubles c.args.list.now none)
 
-pub returns-then-total-ne-GRAINS : goal.returns-then-total-ne-GRAINS
-returns-then-total-ne-GRAINS c =
-    let none : (let ps = c.args.list.now in length ps ≤ bad_weight doubles ps) = omega (arith, c.bad_weight-place.ensures) in
+pub returns-then-not-whole : goal.returns-then-not-whole
+returns-then-not-whole c =
     let a = c.args in
-    sym (weighed_15 doubles a.list.now a.leaver none (λ e. omega (arith, c.total.ensures, c.if-total-ne-GRAINS.true, e)))
+    let none = place_none c.bad_weight.ensures c.in_default.not-Some in
+    sym (weighed_15 doubles a.list.now a.leaver none (λ e. omega (arith, c.total-whole.ensures, c.if-not-whole.true, e)))
 
 pub returns-then-list-leaver : goal.returns-then-list-leaver
 returns-then-list-leaver c =
-    let none : (let ps = c.args.list.now in length ps ≤ bad_weight doubles ps) = omega (arith, c.bad_weight-place.ensures) in
     let a = c.args in
-    sym (weighed_16 doubles a.list.now a.leaver none (omega (arith, c.total.ensures, c.if-total-ne-GRAINS.false)) (omega arith))
+    let none = place_none c.bad_weight.ensures c.in_default.not-Some in
+    sym (weighed_16 doubles a.list.now a.leaver none (omega (arith, c.total-whole.ensures, c.if-not-whole.false)) (omega arith))
 
-pub grains_of-requires : goal.grains_of-requires
-grains_of-requires c =
-    let none : (let ps = c.args.list.now in length ps ≤ bad_weight doubles ps) = omega (arith, c.bad_weight-place.ensures) in
+pub grains_of-all-requires : goal.grains_of-all-requires
+grains_of-all-requires c =
     let a = c.args in
+    let none = place_none c.bad_weight.ensures c.in_default.not-Some in
     good_below doubles fine_doubles _ ((all_weighed doubles a.list.now none).each a.leaver (omega arith))
 
-pub returns-then-grains_of-eq-GRAINS : goal.returns-then-grains_of-eq-GRAINS
-returns-then-grains_of-eq-GRAINS c =
-    let parts : (let a = c.args in
-    total (weights_of doubles a.list.now) ≡ c.grains_of.result + total (staying a.leaver (weights_of doubles a.list.now))) = let a = c.args in
-    let ps = a.list.now in
-    let h : a.leaver < length ps = omega arith in
-    let e : c.grains_of.result ≡ get_or (weights_of doubles ps) a.leaver 0 =
-    c.grains_of.ensures.0 ∙ sym (map_at (weight_of doubles) ps a.leaver 0 0 h) in
-    rw e (split (weights_of doubles ps) a.leaver (rw (length-map ps (weight_of doubles)) h)) in
-    let none : (let ps = c.args.list.now in length ps ≤ bad_weight doubles ps) = omega (arith, c.bad_weight-place.ensures) in
+-- the leaver's grains and those of the others are the total
+parts : (ps : List ℕ) (at : ℕ) {n : ℕ} → at < length ps → n ≡ weight_of doubles (get_or ps at 0)
+    → total (weights_of doubles ps) ≡ n + total (staying at (weights_of doubles ps))
+parts ps at h e =
+    rw (e ∙ sym (map_at (weight_of doubles) ps at 0 0 h)) (split (weights_of doubles ps) at (rw (length-map ps (weight_of doubles)) h))
+
+pub returns-then-all : goal.returns-then-all
+returns-then-all c =
     let a = c.args in
-    let s : total (weights_of doubles a.list.now) ≡ grains = omega (arith, c.total.ensures, c.if-total-ne-GRAINS.false) in
-    sym (weighed_17 doubles a.list.now a.leaver none s (omega arith) (omega (arith, parts, s, c.if-grains_of-eq-GRAINS.true)))
+    let none = place_none c.bad_weight.ensures c.in_default.not-Some in
+    let p = parts a.list.now a.leaver (omega arith) c.grains_of-all.ensures.0 in
+    let s : total (weights_of doubles a.list.now) ≡ grains = omega (arith, c.total-whole.ensures, c.if-not-whole.false) in
+    sym (weighed_17 doubles a.list.now a.leaver none s (omega arith) (omega (arith, p, s, c.if-all.true)))
 
 pub returns : goal.returns
 returns c =
-    let parts : (let a = c.args in
-    total (weights_of doubles a.list.now) ≡ c.grains_of.result + total (staying a.leaver (weights_of doubles a.list.now))) = let a = c.args in
-    let ps = a.list.now in
-    let h : a.leaver < length ps = omega arith in
-    let e : c.grains_of.result ≡ get_or (weights_of doubles ps) a.leaver 0 =
-    c.grains_of.ensures.0 ∙ sym (map_at (weight_of doubles) ps a.leaver 0 0 h) in
-    rw e (split (weights_of doubles ps) a.leaver (rw (length-map ps (weight_of doubles)) h)) in
-    let none : (let ps = c.args.list.now in length ps ≤ bad_weight doubles ps) = omega (arith, c.bad_weight-place.ensures) in
     let a = c.args in
-    let s : total (weights_of doubles a.list.now) ≡ grains = omega (arith, c.total.ensures, c.if-total-ne-GRAINS.false) in
-    sym
-    (weighed_good doubles a.list.now a.leaver none s (omega arith)
-    (λ o. c.if-grains_of-eq-GRAINS.false (omega (arith, parts, s, o))))
+    let none = place_none c.bad_weight.ensures c.in_default.not-Some in
+    let p = parts a.list.now a.leaver (omega arith) c.grains_of-all.ensures.0 in
+    let s : total (weights_of doubles a.list.now) ≡ grains = omega (arith, c.total-whole.ensures, c.if-not-whole.false) in
+    sym (weighed_good doubles a.list.now a.leaver none s (omega arith) (λ o. c.if-all.false (omega (arith, p, s, o))))

@@ -1,26 +1,52 @@
 -- `addend::place::scaled` meets its contract: the magnitude by the pattern's fields. Assumes nothing.
-use mathlib.Core.Path.{sym, ◌∙◌}
-use Prim.Native.Nat.{◌*◌, ◌/◌, ◌%◌, ◌^◌, ◌<◌}
-use native.Mathlib.Nat.{mul-one}
-use native.Mathlib.Omega.{arith}
-use lib.Dec.{ltb→lt}
-use lib.Ieee.{ones, hid, top}
+use Rattle.std.specs.Prelude.{◌≡◌, ℕ, ◌+◌, ◌-◌, ◌*◌, ◌/◌, ◌%◌, ◌^◌, ◌<◌}
+use Rattle.std.proofs.Common.{sym, ◌∙◌, arith, mul-one, ltb→lt}
+use Rattle.std.specs.Float.{Format, binary32, binary64}
+use Rattle.std.specs.Float.Ieee.{prec, ones, hid, top}
 use Rattle.ieee.proofs.Pattern.{pattern_finite}
+use Rattle.kinds.proofs.KnownLaws.{figures}
 use Rattle.addend.specs.PatternFields.{pattern_subnormal, pattern_normal}
-use Rattle.kinds.specs.Limits.{doubles}
+use Rattle.addend.specs.Addend.{Scaled}
 use Rattle.addend.proofs.place.scaled.Goals as goal
 
+-- the digits of a significand, and how many fields a number may have
+digits_low : (f : Format) (m : ℕ) → m % hid f < 2 ^ prec f
+digits_low binary32 m = omega arith
+digits_low binary64 m = omega arith
+
+digits_high : (f : Format) (m : ℕ) → hid f + m % hid f < 2 ^ prec f
+digits_high binary32 m = omega arith
+digits_high binary64 m = omega arith
+
+fields : (f : Format) (m : ℕ) → m < ones f * hid f → m / hid f < ones f
+fields binary32 m h = omega arith
+fields binary64 m h = omega arith
+
+some : (f : Format) → 1 < ones f
+some binary32 = omega arith
+some binary64 = omega arith
+
 pub returns-then-field-eq0 : goal.returns-then-field-eq0
-returns-then-field-eq0 c =
-    let p = c.args.p in
-    let m = pattern_subnormal doubles.format p c.requires c.if-field-eq0.true in
-    let below : p % 2 ^ 63 % 2 ^ 52 < 2 ^ 53 = omega arith in
-    record { digits = below; shift = omega arith; units = mul-one (p % 2 ^ 63 % 2 ^ 52) ∙ sym m }
+returns-then-field-eq0 g c =
+    let f = g.F.Floating.width.format in
+    let p = g.F.Floating.pattern c.args.p in
+    let w : 1 * 2 ^ c.DIGITS.result % 2 ^ 64 ≡ hid f = rw c.DIGITS.ensures (figures g.met.F.Floating.known).weight in
+    let e : c.word-magnitude.result ≡ p % top f = c.word-magnitude.ensures.word ∙ c.unsigned.ensures in
+    let z : p % top f / hid f ≡ 0 = rw (w, e) at c.if-field-eq0.true in
+    let m = pattern_subnormal f p c.requires z in
+    let s : Scaled f p (p % top f % hid f) 0 =
+    record { digits = digits_low f (p % top f); shift = some f; units = mul-one (p % top f % hid f) ∙ sym m } in
+    rw (w, e) s
 
 pub returns : goal.returns
-returns c =
-    let field : c.args.p % 2 ^ 63 / 2 ^ 52 < 2047 = let f = doubles.format in
-    let h : c.args.p % top f < ones f * hid f = ltb→lt (c.args.p % top f) (ones f * hid f) (rw (pattern_finite f c.args.p) at c.requires) in
-    omega arith in
-    let m = pattern_normal doubles.format c.args.p c.requires (omega (arith, c.if-field-eq0.false)) in
-    record { digits = omega arith; shift = omega (arith, field); units = sym m }
+returns g c =
+    let f = g.F.Floating.width.format in
+    let p = g.F.Floating.pattern c.args.p in
+    let w : 1 * 2 ^ c.DIGITS.result % 2 ^ 64 ≡ hid f = rw c.DIGITS.ensures (figures g.met.F.Floating.known).weight in
+    let e : c.word-magnitude.result ≡ p % top f = c.word-magnitude.ensures.word ∙ c.unsigned.ensures in
+    let h : p % top f < ones f * hid f = ltb→lt (p % top f) (ones f * hid f) (rw (pattern_finite f p) at c.requires) in
+    let z : p % top f / hid f ≡ 0 → ⊥ = rw (w, e) at c.if-field-eq0.false in
+    let m = pattern_normal f p c.requires (omega (arith, z)) in
+    let s : Scaled f p (hid f + p % top f % hid f) (p % top f / hid f - 1) =
+    record { digits = digits_high f (p % top f); shift = omega (arith, fields f (p % top f) h); units = sym m } in
+    rw (w, e) s

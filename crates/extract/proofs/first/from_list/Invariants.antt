@@ -2,8 +2,8 @@
 -- are added up in rising order, and the greatest pattern stands for the largest magnitude among those. Assumes nothing.
 use mathlib.Core.Path.{◌≡◌}
 use mathlib.Core.List.{◌++◌, map}
-use Prim.Native.Nat.{◌+◌, ◌-◌, max}
-use lib.Ieee.{binary64, of_bits}
+use Prim.Native.Nat.{max}
+use lib.Ieee.{of_bits}
 use lib.ListN.{length, take, drop}
 use Rattle.ieee.specs.Units.{magnitude}
 use Rattle.extract.specs.Extract.{remainders, gathered, last_sum, largest}
@@ -11,12 +11,12 @@ use Rattle.extract.specs.LargestLaws.{Stands}
 use Rattle.extract.proofs.first.from_list.Given as goal
 
 abbrev pub invariant-loop-i : goal.invariant-loop-i
-invariant-loop-i l =
+invariant-loop-i g l =
+    let f = g.F.Floating.width.format in
+    let v = g.F.Floating.value in
+    let xs = map (of_bits f) (g.F.Floating.patterns l.list) in
     (length l.work ≡ length l.initial.work)
-    × (l.work ≡ remainders binary64 l.sigma (take l.i (map (of_bits binary64) l.list)) ++ drop l.i l.initial.work)
-    × (l.gathered ≡ gathered binary64 l.sigma l.tau (take l.i (map (of_bits binary64) l.list)))
-    × (l.sum ≡ last_sum binary64 (remainders binary64 l.sigma (take l.i (map (of_bits binary64) l.list))))
-    × Stands binary64 l.most (max (magnitude binary64 l.largest) (largest binary64 (remainders binary64 l.sigma (take l.i (map (of_bits binary64) l.list)))))
-
-abbrev pub decreases-loop-i : goal.decreases-loop-i
-decreases-loop-i l = length l.list - l.i
+    × (g.F.Floating.values l.work ≡ remainders f (v l.sigma) (take l.i xs) ++ drop l.i (g.F.Floating.values l.initial.work))
+    × (v l.gathered ≡ gathered f (v l.sigma) (v l.fn.tau) (take l.i xs))
+    × (v l.sum ≡ last_sum f (remainders f (v l.sigma) (take l.i xs)))
+    × Stands f (g.F.Floating.pattern l.most) (max (magnitude f (v l.fn.largest)) (largest f (remainders f (v l.sigma) (take l.i xs))))

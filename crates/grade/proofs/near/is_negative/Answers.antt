@@ -3,4 +3,4 @@ use Rattle.grade.proofs.WordLaws.{top_word}
 use Rattle.grade.proofs.near.is_negative.Goals as goal
 
 pub returns : goal.returns
-returns c = top_word c.args.words.now c.requires (record { below = λ i. (c.shared_slice_known-1.given i).fits })
+returns c = top_word c.args.words.now c.requires (record { below = λ i. (c.type_inv.words i).fits })

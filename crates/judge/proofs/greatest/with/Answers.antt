@@ -1,23 +1,29 @@
 -- `judge::greatest::with` meets its contract: the pattern kept is the greatest of the one handed in and the places passed. Assumes nothing.
-use mathlib.Core.Path.{ap, ◌∙◌}
-use Prim.Native.Nat.{◌-◌, ◌<◌}
-use native.Mathlib.Omega.{arith}
-use lib.ListN.{length, take, get_or}
-use lib.Seq.{take_all}
+use Rattle.std.specs.Prelude.{◌<◌, map, take, get_or, length}
+use Rattle.std.proofs.Common.{arith, ◌∙◌, ap}
+use Rattle.std.proofs.Math.Seq.{take_all}
+use Rattle.std.proofs.lemmas.List.{length-map}
 use Rattle.lists.proofs.Front.{take_next}
-use Rattle.kinds.specs.Limits.{doubles}
+use Rattle.kinds.proofs.Areas.{read_at}
 use Rattle.judge.specs.GreatestLaws.{greatest, greatest_none, greatest_next}
 use Rattle.judge.proofs.greatest.with.Goals as goal
 
-pub loop-j-init : goal.loop-j-init
-loop-j-init c = omega (arith, greatest_none doubles)
+pub loop-p-init : goal.loop-p-init
+loop-p-init g c = omega (arith, greatest_none g.F.Floating.width)
 
-pub loop-j-preserved : goal.loop-j-preserved
-loop-j-preserved c =
-    let ps = c.args.list.now in
-    let h : c.loop-j.j < length ps = omega arith in
-    let e = ap (greatest doubles) (take_next 0 ps c.loop-j.j h) ∙ greatest_next doubles (take c.loop-j.j ps) (get_or ps c.loop-j.j 0) in
-    omega (arith, c.larger-most.ensures, c.loop-j.invariant, e)
+pub loop-p-preserved : goal.loop-p-preserved
+loop-p-preserved g c =
+    let W = g.F.Floating.width in
+    let p = g.F.Floating.pattern in
+    let i = c.loop-p.p-index in
+    let ps = map p c.args.list.now in
+    let h : i < length ps = omega (arith, length-map c.args.list.now p) in
+    let x = read_at p c.args.list.now i c.p-item.result 0 c.p-item.is (omega arith) in
+    let e = ap (greatest W) (take_next 0 ps i h) ∙ greatest_next W (take i ps) (get_or ps i 0) in
+    rw (c.larger-most.ensures, c.unsigned.ensures, x) (omega (arith, c.loop-p.invariant, e))
 
 pub returns : goal.returns
-returns c = c.loop-j.invariant ∙ rw (take_all c.loop-j.j c.args.list.now (omega arith))
+returns g c =
+    let p = g.F.Floating.pattern in
+    c.loop-p.invariant ∙ rw
+    (g.met.F.Floating.each_pattern c.args.list.now, take_all c.loop-p.p-index (map p c.args.list.now) (omega (arith, length-map c.args.list.now p)))

@@ -1,14 +1,8 @@
 -- `lanes::carries::carry` meets its contract: at each turn the lowest i lanes hold their digits, and the carry is the one into the lane i. Assumes nothing.
-use mathlib.Core.Path.{◌≡◌}
-use Prim.Native.Nat.{◌-◌, ◌≤◌}
-use lib.ListN.{length}
+use Rattle.std.proofs.Common.{◌≡◌}
 use Rattle.lanes.specs.Settle.{carry_into}
 use Rattle.lanes.proofs.Carrying.{settled_to}
 use Rattle.lanes.proofs.carries.carry.Given as goal
 
 abbrev pub invariant-loop-i : goal.invariant-loop-i
-invariant-loop-i l =
-    (l.carry ≡ carry_into l.initial.lanes l.i) × (l.i ≤ 65) × (l.lanes ≡ settled_to l.initial.lanes l.i) × (length l.lanes ≡ length l.initial.lanes)
-
-abbrev pub decreases-loop-i : goal.decreases-loop-i
-decreases-loop-i l = 65 - l.i
+invariant-loop-i l = (l.carry ≡ carry_into l.initial.lanes l.i) × (l.lanes ≡ settled_to l.initial.lanes l.i)

@@ -9,12 +9,6 @@ use Rattle.lanes.proofs.TopLaws.{lanes_settled_lem}
 use Rattle.lanes.proofs.SettledLaws.{settled_words}
 use Rattle.lanes.proofs.inner.settle.Goals as goal
 
-pub carry-requires : goal.carry-requires
-carry-requires c = (c.requires.0.first, c.requires.1)
-
-pub write-requires : goal.write-requires
-write-requires c = (c.carry.auto.lanes ∙ c.requires.0.first, c.requires.0.second)
-
 pub returns : goal.returns
 returns c =
     let carried : c.carry.new.lanes ≡ settled_lanes (lane_sum c.args.lanes.now) =

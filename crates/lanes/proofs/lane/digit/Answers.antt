@@ -10,13 +10,6 @@ use Rattle.lanes.proofs.SettleLaws.{digit_lt}
 use Rattle.lanes.proofs.Signed64.{back}
 use Rattle.lanes.proofs.lane.digit.Goals as goal
 
-pub overflow_cast-result : goal.overflow_cast-result
-overflow_cast-result c =
-    let kept : to_z w64 (of_z w64 c.rest.result) ≡ pos (residue 32 c.args.t) = let t = c.args.t in
-    let e = rw (to_z-of_z w64 t c.ranges.t) at c.rest.ensures in
-    rw e (back (pos (residue 32 t)) (omega (arith, digit_lt t))) in
-    rw kept (tt, record { fits = omega (arith, digit_lt c.args.t) })
-
 pub returns : goal.returns
 returns c =
     let kept : to_z w64 (of_z w64 c.rest.result) ≡ pos (residue 32 c.args.t) = let t = c.args.t in

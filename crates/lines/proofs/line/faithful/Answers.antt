@@ -1,22 +1,27 @@
 -- `lines::line::faithful` meets its contract: its pieces, one behind the other, are the line. Assumes nothing.
-use Prim.Native.Nat.{◌≤◌}
-use native.Mathlib.Omega.{arith}
-use lib.ListN.{length}
+use Rattle.std.proofs.Common.{◌+◌, length, arith, rules}
 use Rattle.lines.specs.Lines.{faithful_line}
-use Rattle.numerals.proofs.TextLaws.{placed_behind}
+use Rattle.numerals.specs.Numerals.{decimal_of}
+use Rattle.numerals.specs.Put.{Put}
+use Rattle.numerals.proofs.TextLaws.{put_room, put_behind}
 use Rattle.lines.proofs.LineLaws.{hex_length}
 use Rattle.lines.proofs.line.faithful.Goals as goal
 
-pub decimal-counted-requires : goal.decimal-counted-requires
-decimal-counted-requires c = omega (arith, hex_length c.args.p)
+pub decimal-requires : goal.decimal-requires
+decimal-requires c =
+    let a = c.args in
+    rw c.from.ensures (omega (arith, put_room (8 + length (decimal_of a.rounds)) (omega (arith, hex_length a.p)) c.pattern.ensures.longer))
 
 pub put-requires : goal.put-requires
 put-requires c =
     let a = c.args in
-    omega (arith, hex_length a.p)
+    let room = put_room (9 + length (decimal_of a.rounds)) (omega (arith, hex_length a.p)) c.pattern.ensures.longer in
+    put_room 1 (omega (arith, room)) (rw c.from.ensures at c.decimal.ensures.longer)
 
 pub returns : goal.returns
 unfolding faithful_line
 returns c =
-    let h : c.args.end ≤ length c.args.text.now = omega (arith, c.requires) in
-    placed_behind h (placed_behind h c.pattern-summed.ensures c.decimal-counted.ensures) c.put.ensures
+    let a = c.args in
+    let all : Put (faithful_line a.p a.rounds) a.text.now c.put.result.now =
+    put_behind (omega arith) (put_behind (omega arith) c.pattern.ensures.longer (rw c.from.ensures at c.decimal.ensures.longer)) c.put.ensures.longer in
+    search rules

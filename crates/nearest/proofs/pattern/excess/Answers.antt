@@ -1,10 +1,13 @@
--- `nearest::pattern::excess` meets its contract: the digits beyond the 53rd. Assumes nothing.
+-- `nearest::pattern::excess` meets its contract: the digits beyond those of a significand. Assumes nothing.
+use Rattle.std.specs.Prelude.{◌≡◌}
 use Rattle.std.proofs.Common.{arith}
+use Rattle.std.specs.Float.Ieee.{prec}
+use Rattle.kinds.proofs.KnownLaws.{figures}
 use Rattle.nearest.specs.Sticky.{dropped_is}
 use Rattle.nearest.proofs.pattern.excess.Goals as goal
 
-pub returns-then-n-lt53 : goal.returns-then-n-lt53
-returns-then-n-lt53 c = rw (dropped_is 53 c.args.x, ← c.size-n.ensures) (omega arith)
-
 pub returns : goal.returns
-returns c = rw (dropped_is 53 c.args.x, ← c.size-n.ensures)
+returns g c =
+    let f = g.F.Floating.width.format in
+    let e : c.from.result ≡ prec f = omega (arith, c.from.ensures, c.DIGITS.ensures, (figures g.met.F.Floating.known).digits) in
+    rw (dropped_is (prec f) c.args.x, ← c.size.ensures, ← e) c.saturating_sub.ensures

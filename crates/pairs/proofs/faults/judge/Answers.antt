@@ -18,33 +18,26 @@ returns-then-a-b c =
 
 pub returns-then-a-b-2 : goal.returns-then-a-b-2
 returns-then-a-b-2 c =
-    let few : (let a = c.args in
-    (length a.a.now ≤ double_pairs.length) × (length a.b.now ≤ double_pairs.length)) = let a = c.args in
-    neither_above double_pairs.length (length a.a.now) (length a.b.now) c.if-a-b.false in
     let a = c.args in
+    let few = neither_above double_pairs.length (length a.a.now) (length a.b.now) c.if-a-b.false in
     sym (judged_22 double_pairs a.area a.a.now a.b.now few.0 few.1 c.if-a-b-2.true)
 
 pub returns-then-not-area : goal.returns-then-not-area
 returns-then-not-area c =
-    let few : (let a = c.args in
-    (length a.a.now ≤ double_pairs.length) × (length a.b.now ≤ double_pairs.length)) = let a = c.args in
-    neither_above double_pairs.length (length a.a.now) (length a.b.now) c.if-a-b.false in
     let a = c.args in
+    let few = neither_above double_pairs.length (length a.a.now) (length a.b.now) c.if-a-b.false in
     sym (judged_4 double_pairs a.area a.a.now a.b.now few.0 few.1 c.if-a-b-2.false (rw c.if-not-area.true tt))
 
 pub first_fault-requires : goal.first_fault-requires
 first_fault-requires c =
-    let few : (let a = c.args in
-    (length a.a.now ≤ double_pairs.length) × (length a.b.now ≤ double_pairs.length)) = let a = c.args in
-    neither_above double_pairs.length (length a.a.now) (length a.b.now) c.if-a-b.false in
+    let a = c.args in
+    let few = neither_above double_pairs.length (length a.a.now) (length a.b.now) c.if-a-b.false in
     (few.0, c.if-a-b-2.false)
 
 pub returns : goal.returns
 returns c =
-    let few : (let a = c.args in
-    (length a.a.now ≤ double_pairs.length) × (length a.b.now ≤ double_pairs.length)) = let a = c.args in
-    neither_above double_pairs.length (length a.a.now) (length a.b.now) c.if-a-b.false in
     let a = c.args in
+    let few = neither_above double_pairs.length (length a.a.now) (length a.b.now) c.if-a-b.false in
     c.first_fault.ensures
     ∙ sym (judged_passed double_pairs a.area a.a.now a.b.now few.0 few.1 c.if-a-b-2.false
     (rw c.if-not-area.false tt))

@@ -1,11 +1,6 @@
 -- `rescue::entries::write_kept` meets its contract: behind the five bytes of a header stand the first of the patterns that are kept, as many as the entries
 -- passed have. Assumes nothing.
-use mathlib.Core.Path.{◌≡◌, refl, sym, ◌∙◌}
-use Prim.Native.Nat.{◌-◌, ◌<◌}
-use native.Mathlib.Omega.{arith}
-use borrow.Author.Rules.{rules}
-use lib.ListN.{length, get_or, take, drop, take-append-drop}
-use lib.Seq.{take_all, length-take-le}
+use Rattle.std.proofs.Common.{◌≡◌, ◌<◌, sym, ◌∙◌, arith, length, get_or, take, drop, take-append-drop, take_all, length-take-le}
 use Rattle.lists.proofs.Filter.{sifted_none, sifted_inside, sifted_at, sifted_pass, sifted_fail, sifted_all}
 use Rattle.kinds.specs.Limits.{doubles}
 use Rattle.octets.specs.Octets.{big_endian, big}
@@ -19,7 +14,7 @@ use Rattle.rescue.proofs.entries.write_kept.Goals as goal
 pub loop-i-init : goal.loop-i-init
 loop-i-init c =
     let a = c.args in
-    (refl, omega arith, omega arith, sifted_none, rw (joined_none (big_endian 8)) (sym (take-append-drop 5 a.sheet.now)))
+    (omega arith, sifted_none, rw (joined_none (big_endian 8)) (sym (take-append-drop 5 a.sheet.now)))
 
 pub write_big_endian-requires : goal.write_big_endian-requires
 write_big_endian-requires c =
@@ -27,8 +22,8 @@ write_big_endian-requires c =
     let i = c.loop-i.i in
     let h : i < a.n = omega arith in
     let j : i < length (patterns_of a.n (drop 5 a.damaged.now)) = entry_inside a.damaged.now a.n i h in
-    let t = entry_kept a.damaged.now a.n i h c.big_endian-p.ensures c.fault.ensures c.if-fault-eq0.true in
-    let k : c.loop-i.kept < length (kept_of doubles (patterns_of a.n (drop 5 a.damaged.now))) = sifted_inside c.loop-i.invariant.3 0 j t in
+    let t = entry_kept a.damaged.now a.n i h c.big_endian-p.ensures c.fault.result c.fault.ensures c.is_none.ensures c.if-is_none.true in
+    let k : c.loop-i.kept < length (kept_of doubles (patterns_of a.n (drop 5 a.damaged.now))) = sifted_inside c.loop-i.invariant.1 0 j t in
     omega arith
 
 pub loop-i-preserved : goal.loop-i-preserved
@@ -42,18 +37,18 @@ loop-i-preserved c =
     let j : i < length ps = entry_inside a.damaged.now a.n i h in
     let r = c.big_endian-p.ensures in
     let f = c.fault.ensures in
-    elim c.if-fault-eq0.branch [
-      | goal.then-fault-eq0 g ↦
+    elim c.if-is_none.branch [
+      | goal.then-is_none g ↦
           let K = kept_of doubles ps in
-          let t = entry_kept a.damaged.now a.n i h r f g.if-fault-eq0.true in
-          let v : get_or K k 0 ≡ c.big_endian-p.result = sifted_at c.loop-i.invariant.3 0 j t ∙ entry_at a.damaged.now a.n i h r in
+          let t = entry_kept a.damaged.now a.n i h r c.fault.result f c.is_none.ensures g.if-is_none.true in
+          let v : get_or K k 0 ≡ c.big_endian-p.result = sifted_at c.loop-i.invariant.1 0 j t ∙ entry_at a.damaged.now a.n i h r in
           let b =
-          joined_behind (big_endian 8) (big_length 8) (take 5 s) 5 (length-take-le 5 s (omega arith)) K s k (sifted_inside c.loop-i.invariant.3 0 j t) in
+          joined_behind (big_endian 8) (big_length 8) (take 5 s) 5 (length-take-le 5 s (omega arith)) K s k (sifted_inside c.loop-i.invariant.1 0 j t) in
           rw (g.sheet-is, g.kept-is)
-          (search rules, omega arith, omega arith, sifted_pass c.loop-i.invariant.3 0 j t, g.write_big_endian.ensures ∙ rw (c.loop-i.invariant.4, ← v) b)
-      | goal.else-fault-eq0 g ↦
-          let t = entry_dropped a.damaged.now a.n i h r f g.if-fault-eq0.false in
-          rw (g.sheet-is, g.kept-is) (c.loop-i.invariant.0, omega arith, omega arith, sifted_fail c.loop-i.invariant.3 0 j t, c.loop-i.invariant.4)
+          (omega arith, sifted_pass c.loop-i.invariant.1 0 j t, g.write_big_endian.ensures ∙ rw (c.loop-i.invariant.2, ← v) b)
+      | goal.else-is_none g ↦
+          let t = entry_dropped a.damaged.now a.n i h r c.fault.result f c.is_none.ensures g.if-is_none.false in
+          rw (g.sheet-is, g.kept-is) (omega arith, sifted_fail c.loop-i.invariant.1 0 j t, c.loop-i.invariant.2)
     ]
 
 pub returns : goal.returns
@@ -61,5 +56,5 @@ returns c =
     let a = c.args in
     let ps = patterns_of a.n (drop 5 a.damaged.now) in
     let n : length ps ≡ a.n = eights_length big a.n (drop 5 a.damaged.now) in
-    let e : c.loop-i.kept ≡ length (kept_of doubles ps) = sifted_all c.loop-i.invariant.3 (omega arith) in
-    c.loop-i.invariant.4 ∙ rw (e, take_all (length (kept_of doubles ps)) (kept_of doubles ps) (omega arith))
+    let e : c.loop-i.kept ≡ length (kept_of doubles ps) = sifted_all c.loop-i.invariant.1 (omega arith) in
+    c.loop-i.invariant.2 ∙ rw (e, take_all (length (kept_of doubles ps)) (kept_of doubles ps) (omega arith))

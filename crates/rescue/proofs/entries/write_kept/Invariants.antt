@@ -1,9 +1,6 @@
 -- `rescue::entries::write_kept` meets its contract: behind the five bytes of a header stand the first of the patterns that are kept, as many as the entries
 -- passed have. Assumes nothing.
-use mathlib.Core.Path.{◌≡◌}
-use mathlib.Core.List.{◌++◌}
-use Prim.Native.Nat.{◌+◌, ◌*◌, ◌-◌, ◌≤◌}
-use lib.ListN.{length, take, drop}
+use Rattle.std.proofs.Common.{◌≡◌, ◌++◌, ◌+◌, ◌*◌, ◌≤◌, take, drop}
 use Rattle.lists.specs.Filter.{Sifted}
 use Rattle.kinds.specs.Limits.{doubles}
 use Rattle.judge.specs.Judge.{fault_free}
@@ -14,8 +11,5 @@ use Rattle.rescue.proofs.entries.write_kept.Given as goal
 abbrev pub invariant-loop-i : goal.invariant-loop-i
 invariant-loop-i l =
     let ps = patterns_of l.n (drop 5 l.damaged) in
-    (length l.sheet ≡ length l.initial.sheet) × (l.i ≤ l.n) × (l.kept ≤ l.i) × Sifted (fault_free doubles) ps l.kept l.i
+    (l.kept ≤ l.i) × Sifted (fault_free doubles) ps l.kept l.i
     × (l.sheet ≡ take 5 l.initial.sheet ++ (body (take l.kept (kept_of doubles ps)) ++ drop (5 + 8 * l.kept) l.initial.sheet))
-
-abbrev pub decreases-loop-i : goal.decreases-loop-i
-decreases-loop-i l = l.n - l.i

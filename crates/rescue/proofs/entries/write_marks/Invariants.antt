@@ -1,8 +1,5 @@
 -- `rescue::entries::write_marks` meets its contract: the places passed hold the marks of their entries, and the others what they held. Assumes nothing.
-use mathlib.Core.Path.{◌≡◌}
-use mathlib.Core.List.{◌++◌, map}
-use Prim.Native.Nat.{◌-◌, ◌≤◌}
-use lib.ListN.{length, take, drop}
+use Rattle.std.proofs.Common.{◌≡◌, ◌++◌, map, take, drop}
 use Rattle.kinds.specs.Limits.{doubles}
 use Rattle.sheet.specs.Sheet.{patterns_of}
 use Rattle.rescue.specs.Rescue.{mark_of}
@@ -10,8 +7,4 @@ use Rattle.rescue.proofs.entries.write_marks.Given as goal
 
 abbrev pub invariant-loop-i : goal.invariant-loop-i
 invariant-loop-i l =
-    (length l.marks ≡ length l.initial.marks) × (l.i ≤ l.n)
-    × (l.marks ≡ map (mark_of doubles) (take l.i (patterns_of l.n (drop 5 l.damaged))) ++ drop l.i l.initial.marks)
-
-abbrev pub decreases-loop-i : goal.decreases-loop-i
-decreases-loop-i l = l.n - l.i
+    l.marks ≡ map (mark_of doubles) (take l.i (patterns_of l.n (drop 5 l.damaged))) ++ drop l.i l.initial.marks

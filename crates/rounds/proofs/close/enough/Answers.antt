@@ -1,35 +1,41 @@
--- `rounds::close::enough` meets its contract: sigma's pattern is at most the least normal number's exactly where sigma is at most that number, and above it the
--- bound of rule W3 is a power of two. Assumes nothing.
-use mathlib.Core.Path.{◌≡◌, sym, subst, ◌∙◌}
-use mathlib.Core.Bool.{false}
-use native.Mathlib.Omega.{arith}
-use borrow.Author.Tests.{le-leb, lt-leb}
-use lib.Dec.{T}
-use lib.Ieee.{binary64, hid, to_bits, le}
+-- `rounds::close::enough` meets its contract: sigma's pattern is at most the least normal number's exactly where sigma is at most that number, and above it
+-- the bound of rule W3 is a power of two. Assumes nothing.
+use Rattle.std.proofs.Common.{arith, sym, ◌∙◌, le-leb}
+use Rattle.std.proofs.lemmas.Bool.{lt-leb}
 use Rattle.ieee.specs.Units.{Number}
 use Rattle.ieee.proofs.Finite.{finite_no_nan}
-use Rattle.rounds.specs.Round.{least_normal}
-use Rattle.rounds.proofs.PatternLaws.{normal_bits, power_above}
+use Rattle.kinds.proofs.Comparing.{at_most_is}
+use Rattle.rounds.proofs.PatternLaws.{power_above}
+use Rattle.rounds.proofs.WidthLaws.{least_word}
 use Rattle.rounds.proofs.close.enough.Goals as goal
 
-pub float_to_bits-sigma : goal.float_to_bits-sigma
-float_to_bits-sigma c = finite_no_nan c.args.sigma c.requires.1.fini
+pub bits-requires : goal.bits-requires
+bits-requires g c = finite_no_nan (g.F.Floating.value c.args.sigma) c.requires.1.fini
 
-pub returns-then-sigma-le-LEAST_NORMAL : goal.returns-then-sigma-le-LEAST_NORMAL
-returns-then-sigma-le-LEAST_NORMAL c =
-    let number : Number binary64 c.args.sigma = record { fit = subst T (sym c.well_formed.1.0.1) tt; fini = c.requires.1.fini } in
-    rw (sym (normal_bits binary64 number c.requires.1.positive) ∙ le-leb (to_bits binary64 c.args.sigma) (hid binary64) (omega arith))
+pub returns-then-least : goal.returns-then-least
+returns-then-least g c =
+    let f = g.F.Floating.width.format in
+    let v = g.F.Floating.value in
+    let X : Number f (v c.args.sigma) = record { fit = c.bits.ensures.held; fini = c.requires.1.fini } in
+    let test = least_word g.met.F.Floating.known X c.requires.1.positive c.DIGITS.ensures (c.word.ensures.word ∙ c.bits.ensures.bits) in
+    let least = le-leb _ _ c.if-least.true in
+    rw (least, sym test ∙ least)
 
 pub scaled-requires : goal.scaled-requires
-scaled-requires c =
-    let number : Number binary64 c.args.sigma = record { fit = subst T (sym c.well_formed.1.0.1) tt; fini = c.requires.1.fini } in
-    let above : le c.args.sigma (least_normal binary64) ≡ false =
-    sym (normal_bits binary64 number c.requires.1.positive) ∙ lt-leb (to_bits binary64 c.args.sigma) (hid binary64) (omega arith) in
-    (omega (arith, c.requires.0), power_above binary64 c.requires.1 number.fit above)
+scaled-requires g c =
+    let f = g.F.Floating.width.format in
+    let v = g.F.Floating.value in
+    let X : Number f (v c.args.sigma) = record { fit = c.bits.ensures.held; fini = c.requires.1.fini } in
+    let test = least_word g.met.F.Floating.known X c.requires.1.positive c.DIGITS.ensures (c.word.ensures.word ∙ c.bits.ensures.bits) in
+    let above = sym test ∙ lt-leb _ _ (omega (arith, c.if-least.false)) in
+    (omega (arith, c.requires.0), power_above f c.requires.1 X.fit above)
 
-pub returns : goal.returns
-returns c =
-    let number : Number binary64 c.args.sigma = record { fit = subst T (sym c.well_formed.1.0.1) tt; fini = c.requires.1.fini } in
-    let above : le c.args.sigma (least_normal binary64) ≡ false =
-    sym (normal_bits binary64 number c.requires.1.positive) ∙ lt-leb (to_bits binary64 c.args.sigma) (hid binary64) (omega arith) in
-    rw (c.absolute.ensures, c.scaled.ensures, above)
+pub returns-else-least : goal.returns-else-least
+returns-else-least g c =
+    let f = g.F.Floating.width.format in
+    let v = g.F.Floating.value in
+    let X : Number f (v c.args.sigma) = record { fit = c.bits.ensures.held; fini = c.requires.1.fini } in
+    let test = least_word g.met.F.Floating.known X c.requires.1.positive c.DIGITS.ensures (c.word.ensures.word ∙ c.bits.ensures.bits) in
+    let above = sym test ∙ lt-leb _ _ (omega (arith, c.if-least.false)) in
+    c.le.ensures ∙ at_most_is v g.F.PartialOrd.partial_cmp g.met.F.Floating.ordered c.scaled.result c.absolute.result
+    ∙ rw (c.absolute.ensures, c.scaled.ensures, above)

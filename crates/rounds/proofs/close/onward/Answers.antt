@@ -1,32 +1,42 @@
 -- `rounds::close::onward` meets its contract: each branch is a rule's, by the laws of the close. Assumes nothing.
-use mathlib.Core.Path.{sym, subst, ◌∙◌}
-use Prim.Native.Nat.{◌≤◌}
-use native.Mathlib.Omega.{arith}
-use borrow.Author.Rules.{rules}
-use lib.Dec.{T}
-use lib.Ieee.{binary64}
-use Rattle.kinds.specs.Limits.{doubles}
-use Rattle.kinds.proofs.LimitsLaws.{exponent_doubles}
-use Rattle.rounds.specs.ClosedLaws.{not_finishes, closed_zero, closed_further, ends_further}
+use Rattle.std.specs.Prelude.{◌≡◌, true, false}
+use Rattle.std.proofs.Common.{arith, rules, sym, ◌∙◌}
+use Rattle.std.specs.Float.Ieee.{eq}
+use Rattle.extract.specs.Extract.{plus_zero}
+use Rattle.kinds.specs.Answers.{as_state}
+use Rattle.kinds.proofs.KnownLaws.{figures}
+use Rattle.rounds.specs.Instances.{fit_of}
+use Rattle.rounds.specs.ClosedLaws.{tau1_of, not_finishes, closed_zero, closed_further, ends_further}
 use Rattle.rounds.proofs.PatternLaws.{power_above}
 use Rattle.rounds.proofs.ClosableLaws.{closable_power}
 use Rattle.rounds.proofs.close.onward.Goals as goal
 
-pub returns-then-tau1 : goal.returns-then-tau1
-returns-then-tau1 c xs =
-    let s = c.args.s in
-    c.from_mu.ensures ∙ sym (closed_zero doubles _ s xs c.if-tau1.true)
+pub returns-then-eq : goal.returns-then-eq
+returns-then-eq g c xs =
+    let W = g.F.Floating.width in
+    let s = as_state g.F.Floating.value c.args.s in
+    let none : eq (tau1_of W s) (plus_zero W.format) ≡ true = search rules in
+    c.from_mu.ensures ∙ rw c.zero-then-eq.ensures (sym (closed_zero W _ s xs none))
+
+pub exponent-m-requires : goal.exponent-m-requires
+exponent-m-requires g c = omega (arith, c.requires.0.counts.few, (figures g.met.F.Floating.known).few)
 
 pub scaled-requires : goal.scaled-requires
-scaled-requires c =
-    let few : c.exponent-m.result ≤ 12 = rw c.exponent-m.ensures (exponent_doubles c.of.result.n (search rules)) in
-    let h = (not_finishes doubles c.args.s (sym (ends_further doubles c.args.s c.if-tau1.false) ∙ c.requires.1)).0 in (
-      omega (arith, few),
-      power_above binary64 (closable_power c.requires.0) (subst T (sym c.well_formed.0.1.1.0.1) tt) h,
+scaled-requires g c =
+    let W = g.F.Floating.width in
+    let F = fit_of g.met.F.Floating.known in
+    let s = as_state g.F.Floating.value c.args.s in
+    let some : eq (tau1_of W s) (plus_zero W.format) ≡ false = search rules in
+    let above = (not_finishes W s (sym (ends_further W s some) ∙ c.requires.1)).0 in (
+      rw c.exponent-m.ensures (omega (arith, F.most_is s.n c.requires.0.counts.few, F.half)),
+      power_above W.format (closable_power F c.requires.0) c.held.ensures above,
     )
 
 pub returns : goal.returns
-returns c xs =
-    let s = c.args.s in
-    rw (c.begin.ensures, c.scaled.ensures, c.exponent-m.ensures, c.of.ensures)
-    (sym (closed_further doubles _ s xs c.if-tau1.false (sym (ends_further doubles s c.if-tau1.false) ∙ c.requires.1)))
+returns g c xs =
+    let W = g.F.Floating.width in
+    let s = as_state g.F.Floating.value c.args.s in
+    let some : eq (tau1_of W s) (plus_zero W.format) ≡ false = search rules in
+    let tau1 = g.met.F.Floating.added _ _ _ c.add-tau1.ensures in
+    rw (c.begin.ensures, c.scaled.ensures, c.exponent-m.ensures, tau1)
+    (sym (closed_further W _ s xs some (sym (ends_further W s some) ∙ c.requires.1)))

@@ -1,96 +1,92 @@
 -- `rounds::close::scaled` meets its contract: the product of two powers of two is the power of two at the sum of their exponents, and its pattern has a lower
 -- field, or one digit. Assumes nothing.
-use mathlib.Core.Path.{◌≡◌, sym, subst, ap, ◌∙◌}
-use Prim.Native.Nat.{ℕ, suc, ◌+◌, ◌-◌, ◌*◌, ◌/◌, ◌%◌, ◌<◌}
-use native.Mathlib.Omega.{arith}
-use lib.Dec.{T, lit≤}
-use lib.Ieee.{binary64, to_bits, fits}
+use Rattle.std.specs.Prelude.{◌≡◌, ◌+◌, ◌-◌, ◌*◌, ◌/◌, ◌%◌, ◌^◌, ◌<◌}
+use Rattle.std.proofs.Common.{arith, ap, ◌∙◌}
+use Rattle.std.specs.Float.Ieee.{prec}
 use Rattle.ieee.proofs.Finite.{finite_no_nan}
-use Rattle.ieee.proofs.Pattern.{pattern_no_nan}
 use Rattle.exponent.specs.Power.{powers, power_of}
 use Rattle.exponent.proofs.PowerLaws.{high_power}
-use Rattle.rounds.proofs.PatternLaws.{power_field, scaled_power}
+use Rattle.rounds.specs.Instances.{fit_of}
+use Rattle.rounds.proofs.PatternLaws.{scaled_power}
+use Rattle.rounds.proofs.WidthLaws.{fields_of}
 use Rattle.rounds.proofs.close.scaled.Goals as goal
 
-pub float_to_bits-p : goal.float_to_bits-p
-float_to_bits-p c = finite_no_nan c.args.sigma c.requires.1.fini
+pub bits-requires : goal.bits-requires
+bits-requires g c = finite_no_nan (g.F.Floating.value c.args.sigma) c.requires.1.fini
 
-pub float_from_bits-result : goal.float_from_bits-result
-float_from_bits-result c =
-    let fits_in : c.requires.1.k + c.args.j - 53 < powers binary64 = omega (arith, c.requires.1.to, c.requires.0) in
-    let fit : T (fits binary64 c.args.sigma) = subst T (sym c.well_formed.1.0.1) tt in
-    let pattern : to_bits binary64 c.args.sigma ≡ (c.requires.1.k - 51) * 4503599627370496 =
-    omega (arith, power_field binary64 c.requires.1 fit, c.requires.1.from) in
-    let lower : (y : ℕ)
-    × (to_bits binary64 c.args.sigma - (53 - c.args.j) * 4503599627370496 % 18446744073709551616 ≡ suc y * 4503599627370496)
-    × (52 + y ≡ c.requires.1.k + c.args.j - 53) = let k = c.requires.1.k in
-    let j = c.args.j in
-    (k + j - 105, omega (arith, pattern, c.if-down-p.true, c.requires.0), omega (arith, pattern, c.if-down-p.true, c.requires.0)) in
-    let L = lower in
-    rw L.1 (pattern_no_nan binary64 (omega (arith, L.2, fits_in)))
+pub from_bits-requires : goal.from_bits-requires
+from_bits-requires g c =
+    let D = fields_of g.met.F.Floating.known c.requires.1 c.bits.ensures.held c.DIGITS-digits.ensures c.requires.0
+    (c.word-p.ensures.word ∙ c.bits.ensures.bits) in
+    rw (c.from_word.ensures, c.from.ensures) (D.lower (rw c.from.ensures at c.if-down-p.true)).no_nan
 
 pub returns-then-down-p : goal.returns-then-down-p
-returns-then-down-p c =
-    let fits_in : c.requires.1.k + c.args.j - 53 < powers binary64 = omega (arith, c.requires.1.to, c.requires.0) in
-    let fit : T (fits binary64 c.args.sigma) = subst T (sym c.well_formed.1.0.1) tt in
-    let pattern : to_bits binary64 c.args.sigma ≡ (c.requires.1.k - 51) * 4503599627370496 =
-    omega (arith, power_field binary64 c.requires.1 fit, c.requires.1.from) in
-    let lower : (y : ℕ)
-    × (to_bits binary64 c.args.sigma - (53 - c.args.j) * 4503599627370496 % 18446744073709551616 ≡ suc y * 4503599627370496)
-    × (52 + y ≡ c.requires.1.k + c.args.j - 53) = let k = c.requires.1.k in
-    let j = c.args.j in
-    (k + j - 105, omega (arith, pattern, c.if-down-p.true, c.requires.0), omega (arith, pattern, c.if-down-p.true, c.requires.0)) in
-    let L = lower in
-    rw L.1
-    (high_power binary64 fits_in L.0 L.2 ∙ scaled_power binary64 c.args.j (lit≤ tt) c.requires.0 c.requires.1 fit)
+returns-then-down-p g c =
+    let f = g.F.Floating.width.format in
+    let P = c.requires.1 in
+    let D = fields_of g.met.F.Floating.known c.requires.1 c.bits.ensures.held c.DIGITS-digits.ensures c.requires.0
+    (c.word-p.ensures.word ∙ c.bits.ensures.bits) in
+    let L = D.lower (rw c.from.ensures at c.if-down-p.true) in
+    let inside : P.k + c.args.j - prec f < powers f = omega (arith, P.to, P.from, c.requires.0) in
+    c.from_bits.ensures
+    ∙ rw (c.from_word.ensures, c.from.ensures, L.pattern)
+    (high_power f inside L.y L.digit ∙ scaled_power f c.args.j (fit_of g.met.F.Floating.known).fine c.requires.0 P c.bits.ensures.held)
 
-pub overflow_cast-field : goal.overflow_cast-field
-overflow_cast-field c =
-    let fit : T (fits binary64 c.args.sigma) = subst T (sym c.well_formed.1.0.1) tt in
-    let pattern : to_bits binary64 c.args.sigma ≡ (c.requires.1.k - 51) * 4503599627370496 =
-    omega (arith, power_field binary64 c.requires.1 fit, c.requires.1.from) in
-    omega (arith, pattern, c.requires.1.to)
+pub overflow_shl-field : goal.overflow_shl-field
+overflow_shl-field g c =
+    let D = fields_of g.met.F.Floating.known c.requires.1 c.bits.ensures.held c.DIGITS-digits.ensures c.requires.0
+    (c.word-p.ensures.word ∙ c.bits.ensures.bits) in
+    D.few
+
+pub nonzero_div-field : goal.nonzero_div-field
+nonzero_div-field g c =
+    let D = fields_of g.met.F.Floating.known c.requires.1 c.bits.ensures.held c.DIGITS-digits.ensures c.requires.0
+    (c.word-p.ensures.word ∙ c.bits.ensures.bits) in
+    D.leading
+
+pub overflow_cast-field-2 : goal.overflow_cast-field-2
+overflow_cast-field-2 g c =
+    let D = fields_of g.met.F.Floating.known c.requires.1 c.bits.ensures.held c.DIGITS-digits.ensures c.requires.0
+    (c.word-p.ensures.word ∙ c.bits.ensures.bits) in
+    omega (arith, D.field, D.reach)
 
 pub overflow_add-field : goal.overflow_add-field
-overflow_add-field c =
-    let fit : T (fits binary64 c.args.sigma) = subst T (sym c.well_formed.1.0.1) tt in
-    let pattern : to_bits binary64 c.args.sigma ≡ (c.requires.1.k - 51) * 4503599627370496 =
-    omega (arith, power_field binary64 c.requires.1 fit, c.requires.1.from) in
-    omega (arith, pattern, c.requires.1.to)
+overflow_add-field g c =
+    let D = fields_of g.met.F.Floating.known c.requires.1 c.bits.ensures.held c.DIGITS-digits.ensures c.requires.0
+    (c.word-p.ensures.word ∙ c.bits.ensures.bits) in
+    omega (arith, D.field, D.reach)
 
 pub overflow_sub-field : goal.overflow_sub-field
-overflow_sub-field c =
-    let fit : T (fits binary64 c.args.sigma) = subst T (sym c.well_formed.1.0.1) tt in
-    let pattern : to_bits binary64 c.args.sigma ≡ (c.requires.1.k - 51) * 4503599627370496 =
-    omega (arith, power_field binary64 c.requires.1 fit, c.requires.1.from) in
-    omega (arith, pattern, c.requires.1.from)
+overflow_sub-field g c =
+    let D = fields_of g.met.F.Floating.known c.requires.1 c.bits.ensures.held c.DIGITS-digits.ensures c.requires.0
+    (c.word-p.ensures.word ∙ c.bits.ensures.bits) in
+    omega (arith, D.field)
 
 pub overflow_add-field-2 : goal.overflow_add-field-2
-overflow_add-field-2 c =
-    let fit : T (fits binary64 c.args.sigma) = subst T (sym c.well_formed.1.0.1) tt in
-    let pattern : to_bits binary64 c.args.sigma ≡ (c.requires.1.k - 51) * 4503599627370496 =
-    omega (arith, power_field binary64 c.requires.1 fit, c.requires.1.from) in
-    omega (arith, pattern, c.requires.1.to, c.requires.0)
+overflow_add-field-2 g c =
+    let D = fields_of g.met.F.Floating.known c.requires.1 c.bits.ensures.held c.DIGITS-digits.ensures c.requires.0
+    (c.word-p.ensures.word ∙ c.bits.ensures.bits) in
+    omega (arith, D.field, D.reach, D.digits, D.few, c.requires.0)
 
 pub overflow_sub-field-2 : goal.overflow_sub-field-2
-overflow_sub-field-2 c =
-    let fit : T (fits binary64 c.args.sigma) = subst T (sym c.well_formed.1.0.1) tt in
-    let pattern : to_bits binary64 c.args.sigma ≡ (c.requires.1.k - 51) * 4503599627370496 =
-    omega (arith, power_field binary64 c.requires.1 fit, c.requires.1.from) in
-    omega (arith, pattern, c.requires.1.from)
+overflow_sub-field-2 g c =
+    let D = fields_of g.met.F.Floating.known c.requires.1 c.bits.ensures.held c.DIGITS-digits.ensures c.requires.0
+    (c.word-p.ensures.word ∙ c.bits.ensures.bits) in
+    omega (arith, D.field, D.digits, c.requires.1.from)
 
 pub power-requires : goal.power-requires
-power-requires c =
-    let fit : T (fits binary64 c.args.sigma) = subst T (sym c.well_formed.1.0.1) tt in
-    let pattern : to_bits binary64 c.args.sigma ≡ (c.requires.1.k - 51) * 4503599627370496 =
-    omega (arith, power_field binary64 c.requires.1 fit, c.requires.1.from) in
-    omega (arith, pattern, c.requires.1.to, c.requires.0)
+power-requires g c =
+    let D = fields_of g.met.F.Floating.known c.requires.1 c.bits.ensures.held c.DIGITS-digits.ensures c.requires.0
+    (c.word-p.ensures.word ∙ c.bits.ensures.bits) in
+    omega (arith, D.field, D.digits, c.requires.1.from, c.requires.1.to, c.requires.0)
 
 pub returns : goal.returns
-returns c =
-    let fit : T (fits binary64 c.args.sigma) = subst T (sym c.well_formed.1.0.1) tt in
-    let pattern : to_bits binary64 c.args.sigma ≡ (c.requires.1.k - 51) * 4503599627370496 =
-    omega (arith, power_field binary64 c.requires.1 fit, c.requires.1.from) in
-    let k = c.requires.1.k in
-    let e : to_bits binary64 c.args.sigma / 4503599627370496 + 52 - 1 + c.args.j - 53 ≡ k + c.args.j - 53 = omega (arith, pattern, c.requires.1.from) in
-    c.power.ensures ∙ ap (power_of binary64) e ∙ scaled_power binary64 c.args.j (lit≤ tt) c.requires.0 c.requires.1 fit
+returns g c =
+    let f = g.F.Floating.width.format in
+    let P = c.requires.1 in
+    let D = fields_of g.met.F.Floating.known c.requires.1 c.bits.ensures.held c.DIGITS-digits.ensures c.requires.0
+    (c.word-p.ensures.word ∙ c.bits.ensures.bits) in
+    let d = c.DIGITS-digits.result in
+    let k : c.word-p.result / (1 * 2 ^ d % 2 ^ 64) + d - 1 + c.args.j - (d + 1) ≡ P.k + c.args.j - prec f = omega (arith, D.field, D.digits) in
+    c.power.ensures ∙ ap (power_of f) k
+    ∙ scaled_power f c.args.j (fit_of g.met.F.Floating.known).fine c.requires.0 P c.bits.ensures.held

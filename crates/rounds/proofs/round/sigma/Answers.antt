@@ -1,26 +1,18 @@
 -- `rounds::round::sigma` meets its contract: M + e is the exponent of a power of two of the format. Assumes nothing.
-use mathlib.Core.Path.{◌∙◌}
-use Prim.Native.Nat.{◌+◌, ◌<◌}
-use native.Mathlib.Omega.{arith}
-use borrow.Author.Rules.{rules}
-use lib.Ieee.{binary64}
-use Rattle.ieee.specs.Units.{magnitude}
-use Rattle.exponent.specs.Power.{powers}
-use Rattle.rounds.proofs.SigmaLaws.{sigma_exists}
-use Rattle.rounds.specs.Instances.{doubles_fit}
+use Rattle.std.proofs.Common.{arith}
+use Rattle.kinds.proofs.KnownLaws.{figures}
+use Rattle.sound.proofs.WidthLaws.{height_of}
+use Rattle.rounds.specs.Instances.{fit_of}
+use Rattle.rounds.proofs.SigmaLaws.{found_exists}
 use Rattle.rounds.proofs.round.sigma.Goals as goal
 
 pub overflow_add-exponent : goal.overflow_add-exponent
-overflow_add-exponent c =
-    let exists : c.exponent.result + c.ceiling.result < powers binary64 = rw (c.exponent.ensures, c.ceiling.ensures)
-    (sigma_exists doubles_fit c.of.result.n (magnitude binary64 c.args.mu) (search rules) c.requires.1.within) in
-    omega (arith, exists)
+overflow_add-exponent g c =
+    let K = g.met.F.Floating.known in
+    let exists = found_exists (fit_of K) c.exponent.ensures c.ceiling.ensures (omega (arith, (figures K).length)) c.requires.1.within in
+    omega (arith, exists, (height_of K).reach)
 
 pub power-requires : goal.power-requires
-power-requires c =
-    let exists : c.exponent.result + c.ceiling.result < powers binary64 = rw (c.exponent.ensures, c.ceiling.ensures)
-    (sigma_exists doubles_fit c.of.result.n (magnitude binary64 c.args.mu) (search rules) c.requires.1.within) in
-    omega (arith, exists)
-
-pub returns : goal.returns
-returns c = c.power.ensures ∙ rw (c.exponent.ensures, c.ceiling.ensures, c.of.ensures)
+power-requires g c =
+    let K = g.met.F.Floating.known in
+    found_exists (fit_of K) c.exponent.ensures c.ceiling.ensures (omega (arith, (figures K).length)) c.requires.1.within

@@ -1,24 +1,15 @@
 -- `rounds::round::take_list` meets its contract: the extraction is that of the whole list. Assumes nothing.
-use mathlib.Core.Path.{◌∙◌}
-use mathlib.Core.Bool.{not}
-use lib.Dec.{T}
-use lib.Ieee.{binary64, nan_bits}
+use Rattle.std.specs.Prelude.{not, T}
+use Rattle.std.specs.Float.Ieee.{nan_bits}
 use Rattle.lists.specs.Each.{each_from}
-use Rattle.kinds.specs.Limits.{doubles}
 use Rattle.judge.specs.FaultLaws.{allowed_no_nan}
 use Rattle.judge.proofs.FirstFaultLaws.{first_good}
-use Rattle.rounds.specs.Round.{in_round}
 use Rattle.rounds.proofs.round.take_list.Goals as goal
 
 pub from_list-taken-requires : goal.from_list-taken-requires
-from_list-taken-requires c =
+from_list-taken-requires g c =
+    let W = g.F.Floating.width in
     let p = c.requires.2 in
-    let ps = c.args.list.now in
-    let A = (first_good doubles ps).0 c.requires.1 in
-    (c.requires.0, p.fini, p.positive, each_from (λ q. T (not (nan_bits binary64 q))) ps 0 (λ i h. allowed_no_nan doubles _ (A.none i h)), p.remainders)
-
-pub returns : goal.returns
-returns c =
-    let e = c.from_list-taken.ensures in
-    let s = c.args.s in
-    (c.in_round-state.ensures ∙ (λ i. in_round s (e.0 i) (e.1 i) 0), e.2, e.3)
+    let ps = g.F.Floating.patterns c.args.list.now in
+    let A = (first_good W ps).0 c.requires.1 in
+    (c.requires.0, p.fini, p.positive, each_from (λ q. T (not (nan_bits W.format q))) ps 0 (λ i h. allowed_no_nan W _ (A.none i h)), p.remainders)

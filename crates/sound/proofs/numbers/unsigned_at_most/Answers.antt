@@ -1,46 +1,38 @@
 -- `sound::numbers::unsigned_at_most` meets its contract: of a number, the sign is the greatest digit of its pattern. Assumes nothing.
-use mathlib.Core.Path.{◌≡◌, sym, ap, subst, ◌∙◌}
-use mathlib.Core.Bool.{Bool, true, false, not, ◌&&◌}
-use lib.Dec.{T, ltb, leb, ltb→lt, lt→ltb, nleb→lt}
+use Rattle.std.specs.Prelude.{◌≡◌, Bool, true, not, ◌&&◌, ltb, leb}
+use Rattle.std.specs.Float.Ieee.{top, to_bits}
+use Rattle.std.proofs.Common.{ap, sym, ◌∙◌}
+use Rattle.std.proofs.Math.Dec.{ltb→lt, lt→ltb, nleb→lt}
 use lib.Arith.{lt→nleb}
-use lib.Ieee.{binary64, top, to_bits}
 use Rattle.ieee.specs.Units.{Number, negative, magnitude}
 use Rattle.ieee.proofs.Finite.{finite_no_nan}
 use Rattle.ieee.proofs.Fractions.{same_test}
 use Rattle.ieee.proofs.PatternBounds.{bits_units}
-use Rattle.kinds.specs.Limits.{doubles}
+use Rattle.kinds.proofs.KnownLaws.{figures}
 use Rattle.sound.specs.Sound.{at_most}
 use Rattle.sound.proofs.SoundLaws.{at_most_holds}
 use Rattle.sound.proofs.numbers.unsigned_at_most.Goals as goal
 
-pub float_to_bits-result : goal.float_to_bits-result
-float_to_bits-result c =
-    let number : Number binary64 c.args.x = record {
-      fit = subst T (sym c.well_formed.0.1) tt;
-      fini = (at_most_holds doubles (magnitude binary64 c.args.limit) c.args.x (sym c.at_most.ensures ∙ c.if-at_most.true)).fini;
-    } in
-    finite_no_nan _ number.fini
+pub bits-requires : goal.bits-requires
+bits-requires g c =
+    let v = g.F.Floating.value in
+    let W = g.F.Floating.width in
+    finite_no_nan (v c.args.x) (at_most_holds W (magnitude W.format (v c.args.limit)) (v c.args.x) (sym c.at_most.ensures ∙ c.if-at_most.true)).fini
 
 pub returns-then-at_most : goal.returns-then-at_most
-returns-then-at_most c =
-    let decided : (b : Bool) → c.at_most.result ≡ b → let a = c.args in
-    (b && not (negative a.x))
-    ≡ (at_most doubles (magnitude binary64 a.limit) a.x && not (negative a.x)) = λ b e. ap (λ (t : Bool). t && not (negative c.args.x))
-    (sym e ∙ c.at_most.ensures) in
-    let number : Number binary64 c.args.x = record {
-      fit = subst T (sym c.well_formed.0.1) tt;
-      fini = (at_most_holds doubles (magnitude binary64 c.args.limit) c.args.x (sym c.at_most.ensures ∙ c.if-at_most.true)).fini;
-    } in
-    let p = to_bits binary64 c.args.x in
-    let t = top binary64 in
-    same_test (ltb p t) (not (leb t p)) (λ h. lt→nleb t p (ltb→lt p t h)) (λ h. lt→ltb p t (nleb→lt t p h))
+returns-then-at_most g c =
+    let W = g.F.Floating.width in
+    let f = W.format in
+    let v = g.F.Floating.value in
+    let K = figures g.met.F.Floating.known in
+    let x = v c.args.x in
+    let most = magnitude f (v c.args.limit) in
+    let test : true ≡ at_most W most x = sym c.if-at_most.true ∙ c.at_most.ensures in
+    let number : Number f x = record { fit = c.bits.ensures.held; fini = (at_most_holds W most x (sym test)).fini } in
+    let p = to_bits f x in
+    let t = top f in
+    let e : c.word.result ≡ p = c.word.ensures.word ∙ c.bits.ensures.bits in
+    let s : c.SIGN.result ≡ t = c.SIGN.ensures ∙ K.sign in
+    rw (e, s) (same_test (ltb p t) (not (leb t p)) (λ h. lt→nleb t p (ltb→lt p t h)) (λ h. lt→ltb p t (nleb→lt t p h))
     ∙ ap not (sym (bits_units number).0)
-    ∙ decided true c.if-at_most.true
-
-pub returns : goal.returns
-returns c =
-    let decided : (b : Bool) → c.at_most.result ≡ b → let a = c.args in
-    (b && not (negative a.x))
-    ≡ (at_most doubles (magnitude binary64 a.limit) a.x && not (negative a.x)) = λ b e. ap (λ (t : Bool). t && not (negative c.args.x))
-    (sym e ∙ c.at_most.ensures) in
-    decided false c.if-at_most.false
+    ∙ ap (λ (b : Bool). b && not (negative x)) test)

@@ -1,17 +1,10 @@
--- `sound::places::bad_place` meets its contract: where no number is above the limit, the answer is the length. Assumes nothing.
-use borrow.Author.Tests.{eqb-true}
-use mathlib.Core.Path.{sym, ◌∙◌}
+-- `sound::places::bad_place` meets its contract: where no number is above the limit, there is no such place. Assumes nothing.
+use Rattle.std.proofs.Common.{sym, ◌∙◌, eqb-true}
+use Rattle.kinds.proofs.Areas.{read_length}
 use Rattle.sound.proofs.PlacesLaws.{none_above}
 use Rattle.sound.proofs.places.bad_place.Goals as goal
 
-pub within-requires : goal.within-requires
-within-requires c = c.requires
-
-pub returns-then-within : goal.returns-then-within
-returns-then-within c = sym (eqb-true _ _ (sym (none_above _ _ _) ∙ sym c.within.ensures ∙ c.if-within.true))
-
-pub first_above-requires : goal.first_above-requires
-first_above-requires c = c.requires
-
-pub returns : goal.returns
-returns c = c.first_above.ensures
+pub returns-then-within-clause-first : goal.returns-then-within-clause-first
+returns-then-within-clause-first g c =
+    let n = read_length g.F.Floating.value g.F.Floating.values g.met.F.Floating.each_value c.args.work.now in
+    sym n ∙ sym (eqb-true _ _ (sym (none_above _ _ _) ∙ sym c.within.ensures ∙ c.if-within.true))

@@ -1,21 +1,21 @@
--- `sound::places::first_above` meets its contract: the places passed are at most the limit, so the first that isn't is the answer. Assumes nothing.
-use mathlib.Core.Path.{sym, ◌∙◌}
-use Prim.Native.Nat.{◌-◌}
-use native.Mathlib.Omega.{arith}
-use Rattle.sound.proofs.PlacesLaws.{before_none, before_next, before_found, before_end}
+-- `sound::places::first_above` meets its contract: the search ends at the first number above the limit. Assumes nothing.
+use Rattle.std.specs.Prelude.{◌≡◌, not, length, position, unwrap_or}
+use Rattle.std.proofs.Common.{ap, rules, tests, sym, ◌∙◌}
+use Rattle.std.proofs.lemmas.Iterator.{YieldsList-from_slice}
+use Rattle.std.proofs.lemmas.Iterator.Search.{position_from_yields_List}
+use Rattle.ieee.specs.Units.{magnitude}
+use Rattle.sound.specs.Sound.{at_most}
+use Rattle.sound.specs.Places.{first_above}
+use Rattle.sound.proofs.PlacesLaws.{position_above}
 use Rattle.sound.proofs.places.first_above.Goals as goal
 
-pub loop-place-init : goal.loop-place-init
-loop-place-init c = before_none
-
-pub at_most-requires : goal.at_most-requires
-at_most-requires c = c.requires
-
-pub returns-then-not-at_most : goal.returns-then-not-at_most
-returns-then-not-at_most c = before_found c.loop-place.invariant _ (omega arith) (sym c.at_most.ensures ∙ c.if-not-at_most.true)
-
-pub loop-place-preserved : goal.loop-place-preserved
-loop-place-preserved c = before_next c.loop-place.invariant _ (omega arith) (sym c.at_most.ensures ∙ c.if-not-at_most.false)
-
-pub returns : goal.returns
-returns c = before_end c.loop-place.invariant (omega arith)
+pub returns-clause-first : goal.returns-clause-first
+returns-clause-first g c =
+    let v = g.F.Floating.value in
+    let W = g.F.Floating.width in
+    let most = magnitude W.format (v c.args.limit) in
+    let xs = c.args.work.now in
+    let e : c.position.result ≡ position (λ x. not (at_most W most (v x))) xs =
+    position_from_yields_List (λ x. not (at_most W most (v x))) _ _ c.position.result c.position.ensures.ran (YieldsList-from_slice xs cc)
+    (λ x b q k. search (rules, tests)) in
+    ap (λ o. unwrap_or o (length xs)) e ∙ position_above v W most xs ∙ ap (first_above W most) (sym (g.met.F.Floating.each_value xs))

@@ -1,41 +1,14 @@
--- `sums::exact::is_zero` meets its contract: the words passed are zero, and one that isn't makes the number positive. Assumes nothing.
+-- `sums::exact::is_zero` meets its contract: words are the number 0 where each is 0. Assumes nothing.
 use borrow.Author.Rules.{rules}
-use borrow.Author.Tests.{eq-eqb, ne_eqb}
-use mathlib.Core.Path.{◌≡◌, sym, ◌∙◌}
-use Prim.Native.Nat.{◌-◌, ◌<◌}
-use native.Mathlib.Numerals.{add-one}
-use native.Mathlib.Omega.{arith}
-use lib.ListN.{length, take, get_or}
-use lib.Seq.{take_all}
-use Rattle.lists.specs.Digits.{number}
-use Rattle.lists.specs.DigitLaws.{number_nil}
-use Rattle.lists.specs.LowestDigits.{number_next, number_some}
-use Rattle.words.specs.Words.{word_bits}
+use borrow.Author.Tests.{tests}
+use mathlib.Core.Path.{sym, ◌∙◌}
+use lib.Dec.{eqb}
+use Rattle.std.proofs.lemmas.Iterator.{YieldsList-from_slice}
+use Rattle.std.proofs.lemmas.Iterator.Search.{all_from_yields_List}
+use Rattle.sums.proofs.SumLaws.{zero_words}
 use Rattle.sums.proofs.exact.is_zero.Goals as goal
-
-pub loop-i-init : goal.loop-i-init
-loop-i-init c = (search rules, number_nil word_bits)
-
-pub returns-then-words-i-ne0 : goal.returns-then-words-i-ne0
-returns-then-words-i-ne0 c =
-    let ws = c.args.words.now in
-    let i = c.loop-i.i in
-    let h : i < length ws = c.loop-i-test.true in
-    let d : get_or ws i 0 ≡ 0 → ⊥ = c.if-words-i-ne0.true in
-    let p : 0 < get_or ws i 0 = omega arith in
-    let s : 0 < number word_bits ws = number_some word_bits ws h p in
-    sym (ne_eqb (number word_bits ws) 0 (λ (e : number word_bits ws ≡ 0). omega arith))
-
-pub loop-i-preserved : goal.loop-i-preserved
-loop-i-preserved c =
-    let ws = c.args.words.now in
-    let i = c.loop-i.i in
-    let h : i < length ws = c.loop-i-test.true in
-    let z : get_or ws i 0 ≡ 0 = c.if-words-i-ne0.false in
-    (search rules, rw (add-one i) (number_next word_bits ws h ∙ rw (c.loop-i.invariant.1, z) (omega arith)))
 
 pub returns : goal.returns
 returns c =
-    let ws = c.args.words.now in
-    let a : take c.loop-i.i ws ≡ ws = take_all c.loop-i.i ws c.loop-i-test.false in
-    sym (eq-eqb (number word_bits ws) 0 (rw a at c.loop-i.invariant.1))
+    all_from_yields_List (λ w. eqb w 0) _ _ _ c.all.ensures.ran (YieldsList-from_slice c.args.words.now cc) (λ x b q k. search (rules, tests))
+    ∙ sym (zero_words c.args.words.now)

@@ -1,31 +1,43 @@
 -- `sums::few::total` meets its contract: after i numbers the words are those of the start and the sum of the first i. Assumes nothing.
-use borrow.Author.Rules.{rules}
-use mathlib.Core.Path.{◌≡◌, ◌∙◌}
-use Prim.Native.Nat.{◌-◌}
-use lib.ListN.{take}
-use lib.Seq.{take_all}
-use Rattle.kinds.specs.Limits.{doubles}
+use Rattle.std.proofs.Common.{◌∙◌}
+use Rattle.std.proofs.Math.Seq.{take_all}
+use Rattle.kinds.proofs.Areas.{read_length, read_place}
 use Rattle.judge.specs.FaultLaws.{allowed_number}
 use Rattle.words.specs.Words.{whole_of}
 use Rattle.addend.proofs.RegisterWords.{held}
 use Rattle.sums.proofs.SumLaws.{total_begins, total_goes_on}
 use Rattle.sums.proofs.few.total.Goals as goal
 
-pub loop-i-init : goal.loop-i-init
-loop-i-init c = (c.requires.0, search rules, total_begins doubles c.args.list.now (held c.requires.0 c.slice_known-1.given))
+pub loop-p-init : goal.loop-p-init
+loop-p-init g c =
+    (c.requires.0, total_begins g.F.Floating.width (g.F.Floating.patterns c.args.list.now) (held c.requires.0 c.type_inv.words))
 
 pub add-requires : goal.add-requires
-add-requires c = (c.loop-i.invariant.0, (allowed_number doubles _ (c.requires.1.none c.loop-i.i c.loop-i-test.true)).fini)
+add-requires g c =
+    let W = g.F.Floating.width in
+    let p = g.F.Floating.pattern in
+    let read = g.F.Floating.patterns in
+    let each = g.met.F.Floating.each_pattern in
+    let i = c.loop-p.p-index in
+    let x = read_place p read each c.args.list.now i c.p-item.result 0 c.p-item.is c.loop-p-test.true in
+    let n = read_length p read each c.args.list.now in
+    (c.loop-p.invariant.0, rw x (allowed_number W _ (c.requires.1.none i (rw n c.loop-p-test.true))).fini)
 
-pub loop-i-preserved : goal.loop-i-preserved
-loop-i-preserved c =
-    let h = c.loop-i-test.true in (
-      c.add.auto.words ∙ c.loop-i.invariant.0,
-      search rules,
-      c.add.ensures ∙ total_goes_on doubles (whole_of c.args.words.now) c.args.list.now c.loop-i.i h c.loop-i.invariant.2,
+pub loop-p-preserved : goal.loop-p-preserved
+loop-p-preserved g c =
+    let W = g.F.Floating.width in
+    let p = g.F.Floating.pattern in
+    let read = g.F.Floating.patterns in
+    let each = g.met.F.Floating.each_pattern in
+    let i = c.loop-p.p-index in
+    let x = read_place p read each c.args.list.now i c.p-item.result 0 c.p-item.is c.loop-p-test.true in
+    let n = read_length p read each c.args.list.now in (
+      c.add.auto.words ∙ c.loop-p.invariant.0,
+      c.add.ensures ∙ rw x (total_goes_on W (whole_of c.args.words.now) (read c.args.list.now) i (rw n c.loop-p-test.true) c.loop-p.invariant.1),
     )
 
 pub returns : goal.returns
-returns c =
-    let e : take c.loop-i.i c.args.list.now ≡ c.args.list.now = take_all c.loop-i.i c.args.list.now c.loop-i-test.false in
-    rw e at c.loop-i.invariant.2
+returns g c =
+    let read = g.F.Floating.patterns in
+    let n = read_length g.F.Floating.pattern read g.met.F.Floating.each_pattern c.args.list.now in
+    c.loop-p.invariant.1 ∙ rw (take_all c.loop-p.p-index (read c.args.list.now) (rw n c.loop-p-test.false))

@@ -8,4 +8,4 @@ use Rattle.sums.proofs.settle.settle.Goals as goal
 pub returns : goal.returns
 returns c =
     settle_words (lane_sides c.args.low.now c.args.above.now) c.subtract.result
-    (held (c.subtract.auto.words ∙ c.requires.2) c.slice_known-2-1.given) c.subtract.ensures
+    (held (c.subtract.auto.words ∙ c.requires.2) c.type_inv.words) c.subtract.ensures

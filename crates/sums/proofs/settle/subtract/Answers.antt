@@ -2,36 +2,22 @@
 -- into the lanes there and borrowed from them. Assumes nothing.
 use native.Mathlib.Omega.{arith}
 use mathlib.Core.Path.{◌∙◌}
-use Prim.Native.Nat.{◌-◌}
 use lib.ListN.{length-set}
 use Rattle.sums.proofs.SettleLaws.{settle_begins, settle_next, settle_ends}
 use Rattle.sums.proofs.settle.subtract.Goals as goal
 
 pub loop-i-init : goal.loop-i-init
-loop-i-init c = (c.requires.2, omega arith, omega arith, omega arith, settle_begins c.args.low.now c.args.above.now c.args.words.now)
-
-pub pair-up-requires : goal.pair-up-requires
-pair-up-requires c = (c.requires.0, c.requires.1, omega (arith, c.loop-i-test.true), c.loop-i.invariant.2)
-
-pub pair-down-requires : goal.pair-down-requires
-pair-down-requires c = (c.requires.0, c.requires.1, omega (arith, c.loop-i-test.true), c.loop-i.invariant.3)
-
-pub sub_word-left-requires : goal.sub_word-left-requires
-sub_word-left-requires c = c.loop-i.invariant.4.small
+loop-i-init c = (c.requires.2, omega arith, omega arith, settle_begins c.args.low.now c.args.above.now c.args.words.now)
 
 pub loop-i-preserved : goal.loop-i-preserved
 loop-i-preserved c =
-    let inv = c.loop-i.invariant in (
-      length-set c.loop-i.words c.loop-i.i c.sub_word-left.result.word ∙ inv.0,
-      omega (arith, c.loop-i-test.true),
+    let v = c.loop-i.invariant in (
+      length-set c.loop-i.words c.loop-i.i c.sub_word-left.result.word ∙ v.0,
       c.pair-up.ensures.small,
       c.pair-down.ensures.small,
-      settle_next c.requires.0 inv.0 c.loop-i-test.true inv.4 c.pair-up.ensures c.pair-down.ensures c.sub_word-left.ensures,
+      settle_next c.requires.0 v.0 c.loop-i-test.true v.3 c.pair-up.ensures c.pair-down.ensures c.sub_word-left.ensures,
     )
-
-pub sub_word-left-requires-2 : goal.sub_word-left-requires-2
-sub_word-left-requires-2 c = c.loop-i.invariant.4.small
 
 pub returns : goal.returns
 returns c =
-    settle_ends c.requires.0 c.loop-i.invariant.0 (omega (arith, c.loop-i.invariant.1, c.loop-i-test.false)) c.loop-i.invariant.4 c.sub_word-left-2.ensures
+    settle_ends c.requires.0 c.loop-i.invariant.0 (omega arith) c.loop-i.invariant.3 c.sub_word-left-2.ensures

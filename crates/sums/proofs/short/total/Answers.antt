@@ -10,4 +10,4 @@ pub gather-requires : goal.gather-requires
 gather-requires c = (search rules, nothing, c.requires.1, c.requires.2)
 
 pub returns : goal.returns
-returns c = c.settle.ensures ∙ ap words_of (settled_sides sums_doubles c.requires.2 c.requires.1 c.both-2-1.given c.gather.ensures.1 c.gather.ensures.0)
+returns c = c.settle.ensures ∙ ap words_of (settled_sides sums_doubles c.requires.2 c.requires.1 (search rules) c.gather.ensures.1 c.gather.ensures.0)

@@ -1,14 +1,9 @@
 -- `walk::opening::copy` meets its contract: the places passed are the list's floats, and no allowed pattern is a NaN's. Assumes nothing.
-use mathlib.Core.Path.{◌≡◌}
-use mathlib.Core.List.{◌++◌}
-use Prim.Native.Nat.{◌-◌}
-use lib.ListN.{length, take, drop}
-use Rattle.kinds.specs.Limits.{doubles}
+use Rattle.std.specs.Prelude.{◌≡◌, ◌++◌, take, drop, length}
 use Rattle.judge.specs.Judge.{floats}
 use Rattle.walk.proofs.opening.copy.Given as goal
 
 abbrev pub invariant-loop-i : goal.invariant-loop-i
-invariant-loop-i l = (length l.work ≡ length l.initial.work) × (l.work ≡ floats doubles (take l.i l.list) ++ drop l.i l.initial.work)
-
-abbrev pub decreases-loop-i : goal.decreases-loop-i
-decreases-loop-i l = length l.list - l.i
+invariant-loop-i g l =
+    (length l.work ≡ length l.initial.work)
+    × (g.F.Floating.values l.work ≡ floats g.F.Floating.width (take l.i (g.F.Floating.patterns l.list)) ++ drop l.i (g.F.Floating.values l.initial.work))

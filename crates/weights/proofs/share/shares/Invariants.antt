@@ -1,8 +1,8 @@
 -- `weights::share::shares` meets its contract: the shares of the places passed and of those to come add up to no more than the leaver had. Assumes nothing.
 use mathlib.Core.Path.{◌≡◌}
 use mathlib.Core.List.{List, map}
-use Prim.Native.Nat.{ℕ, ◌+◌, ◌-◌, ◌≤◌}
-use lib.ListN.{length, drop}
+use Prim.Native.Nat.{ℕ, ◌+◌}
+use lib.ListN.{drop}
 use Rattle.kinds.specs.Limits.{doubles}
 use Rattle.weights.specs.Weights.{weights_of, total, share, staying}
 use Rattle.weights.proofs.share.shares.Given as goal
@@ -14,7 +14,4 @@ abbrev pub all : List ℕ → ℕ → ℕ → List ℕ
 all ps at w = map (share w) (stay ps at)
 
 abbrev pub invariant-loop-i : goal.invariant-loop-i
-invariant-loop-i l = (l.i ≤ length l.list) × (total (all l.list l.leaver l.w) ≡ l.sum + total (drop l.i (all l.list l.leaver l.w)))
-
-abbrev pub decreases-loop-i : goal.decreases-loop-i
-decreases-loop-i l = length l.list - l.i
+invariant-loop-i l = total (all l.list l.leaver l.w) ≡ l.sum + total (drop l.i (all l.list l.leaver l.w))

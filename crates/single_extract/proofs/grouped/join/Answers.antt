@@ -1,9 +1,0 @@
--- scripts/singles writes this file, from crates/extract/proofs/grouped/join/Answers.antt.
--- `single_extract::grouped::join` meets its contract: its additions are those of the definition. Assumes nothing.
-use mathlib.Core.Path.{refl}
-use Rattle.extract.specs.Grouped.{joined}
-use Rattle.single_extract.proofs.grouped.join.Goals as goal
-
-pub returns : goal.returns
-unfolding joined
-returns c = refl

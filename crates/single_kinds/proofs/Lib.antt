@@ -1,2 +1,0 @@
--- The crate's theorems and lemmas.
-pub mod WideLaws

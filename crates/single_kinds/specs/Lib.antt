@@ -1,2 +1,0 @@
--- The walk's state and the answers at binary32, as the definitions' own.
-pub mod Wide

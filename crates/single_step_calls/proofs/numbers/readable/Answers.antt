@@ -1,6 +1,0 @@
--- scripts/singles writes this file, from crates/step_calls/proofs/numbers/readable/Answers.antt.
--- `single_step_calls::numbers::readable` meets its contract: each pattern is looked at. Assumes nothing.
-use Rattle.single_step_calls.proofs.numbers.readable.Goals as goal
-
-pub returns : goal.returns
-returns c = rw (c.number-4.ensures, c.number-3.ensures, c.number-2.ensures, c.number.ensures)

@@ -1,9 +1,0 @@
--- `step_calls::numbers::state_numbers` meets its contract: each double goes as its pattern. Assumes nothing.
-use mathlib.Core.List.{[], ◌∷◌}
-use Rattle.step_calls.proofs.numbers.state_numbers.Goals as goal
-
-pub returns : goal.returns
-returns c =
-    let s = c.args.s in
-    λ i. 1 ∷ c.pattern-sigma.ensures i ∷ c.pattern-t.ensures i ∷ c.pattern-tau.ensures i ∷ s.n ∷ s.pending ∷ s.rounds ∷ s.ensemble
-    ∷ c.pattern-largest.ensures i ∷ c.pattern-shown.ensures i ∷ []

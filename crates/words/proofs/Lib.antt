@@ -1,0 +1,2 @@
+-- What the proofs of the words share.
+pub mod WaysLaws
