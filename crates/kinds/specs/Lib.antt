@@ -12,5 +12,6 @@ pub mod Entry
 pub mod Sheet
 pub mod Answers
 pub mod Known
+pub mod ItselfLaws
 pub mod Heard
 pub mod HeardLaws

@@ -1,17 +1,21 @@
 // The limits on lists, at each width of float.
-ghost use Rattle.std.specs.Prelude.{◌≡◌, ◌+◌, ◌^◌, ◌<◌};
+ghost use Rattle.std.specs.Prelude.{◌≡◌, ◌+◌, ◌^◌, ◌<◌, ◌≤◌};
 ghost use Rattle.kinds.specs.Limits.{doubles, singles, exponent_of, blocks_of, Tied};
 
-// Rule L8: how many numbers a block holds, at either width.
-pub const BLOCK: usize = 64;
+// How many numbers a block holds, for code that serves both widths.
+pub const BLOCK: usize = Doubles::BLOCK;
 
-// Lists of binary64 patterns. Rules L6 and F3: the limits on lists, and those on sound states, are constants of this type.
+// A list of binary64 patterns, by its length. Rules L6 and F3: the limits on lists, and those on sound states, are constants of this type.
 #[derive(Drop)]
-pub struct Doubles;
+pub struct Doubles {
+    pub n: usize,
+}
 
-// Lists of binary32 patterns, in the same way: rule Y2.
+// A list of binary32 patterns, in the same way: rule Y2.
 #[derive(Drop)]
-pub struct Singles;
+pub struct Singles {
+    pub n: usize,
+}
 
 // The same limits as values.
 #[derive(Drop)]
@@ -31,6 +35,9 @@ impl Doubles {
     // rule L5: the pattern of 2^1000
     pub const MAGNITUDE: u64 = 0x7E70_0000_0000_0000;
 
+    // rule L8
+    pub const BLOCK: usize = 64;
+
     // rule L10: the most
     pub const PARTS: usize = 8;
 
@@ -47,11 +54,33 @@ impl Doubles {
         Limits {
             length: Self::LENGTH,
             magnitude: Self::MAGNITUDE,
-            block: BLOCK,
+            block: Self::BLOCK,
             parts: Self::PARTS,
             carried: Self::CARRIED,
             rounds: Self::ROUNDS,
         }
+    }
+
+    pub fn of(n: usize) -> Self
+        ensures { result.n ≡ n }
+    {
+        Doubles { n }
+    }
+
+    // rule L7: M
+    pub fn exponent(self) -> u32
+        requires { self.n ≤ doubles.length }
+        ensures { result ≡ exponent_of self.n }
+    {
+        exponent(self.n)
+    }
+
+    // rule L9: B
+    pub fn blocks(self) -> usize
+        requires { self.n ≤ doubles.length }
+        ensures { result ≡ blocks_of doubles self.n }
+    {
+        blocks(self.n)
     }
 }
 
@@ -62,6 +91,9 @@ impl Singles {
     // rule Y1: the pattern of 2^100
     pub const MAGNITUDE: u32 = 0x7180_0000;
 
+    // rule L8
+    pub const BLOCK: usize = Doubles::BLOCK;
+
     // the limits are one record for both widths; no call gives parts of singles
     pub const PARTS: usize = Doubles::PARTS;
 
@@ -71,6 +103,9 @@ impl Singles {
     // rule Y2
     pub const ROUNDS: u32 = 19;
 
+    // The pattern of 2^-126, the least normal single.
+    pub const LEAST_NORMAL: u32 = 1 << 23;
+
     // Ties the constants to the definitions: where one of either moves, this is refused.
     pub fn limits() -> Limits
         ensures { Tied singles result }
@@ -78,11 +113,33 @@ impl Singles {
         Limits {
             length: Self::LENGTH,
             magnitude: u64::from(Self::MAGNITUDE),
-            block: BLOCK,
+            block: Self::BLOCK,
             parts: Self::PARTS,
             carried: u64::from(Self::CARRIED),
             rounds: Self::ROUNDS,
         }
+    }
+
+    pub fn of(n: usize) -> Self
+        ensures { result.n ≡ n }
+    {
+        Singles { n }
+    }
+
+    // rule L7: M
+    pub fn exponent(self) -> u32
+        requires { self.n ≤ singles.length }
+        ensures { result ≡ exponent_of self.n }
+    {
+        exponent(self.n)
+    }
+
+    // rule L9: B
+    pub fn blocks(self) -> usize
+        requires { self.n ≤ singles.length }
+        ensures { result ≡ blocks_of singles self.n }
+    {
+        blocks(self.n)
     }
 }
 

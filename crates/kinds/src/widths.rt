@@ -1,7 +1,8 @@
 // binary64 and binary32, each as the trait asks. The operators and comparisons are the language's own.
 ghost use Rattle.std.proofs.Common.{rules};
 ghost use Rattle.kinds.specs.Limits.{doubles, singles};
-ghost use Rattle.kinds.specs.Known.{is_doubles, is_singles, each_itself};
+ghost use Rattle.kinds.specs.Known.{is_doubles, is_singles};
+ghost use Rattle.kinds.specs.ItselfLaws.{each_itself};
 
 use crate::floating::Floating;
 use crate::limits::{Doubles, Singles};
