@@ -2,7 +2,7 @@
 -- Assumes nothing.
 use Rattle.std.specs.Prelude.{◌≡◌, refl, List, ℕ, zero, suc, ◌+◌, ◌*◌, ◌^◌, ◌≤◌, ◌<◌, T, pos, neg_ℤ, ◌-ℤ◌, length, take, drop}
 use Rattle.std.proofs.Math.Path.{sym, ap}
-use Rattle.std.proofs.Common.{◌∙◌, inl, inr, mul-add, length-take-le, pow-add}
+use Rattle.std.proofs.Common.{◌∙◌, inl, inr, mul-add, length-drop, take_all, length-take-le, pow-add}
 use native.Mathlib.Omega.{arith}
 use Rattle.std.specs.Float.Ieee.{of_bits, top}
 use Rattle.std.specs.Float.Ieee.Scale.{finite}
@@ -65,8 +65,13 @@ module _ (W : Width) {p k lo hi : ℕ} (F : T (finite (of_bits W.format p))) (P 
 
 -- the words of one side less those of the other: what is left, with a borrow out of the top, is the difference cut off
 module _ {ws es : List ℕ} (long : length ws ≡ word_count + word_count) (below : Digits word_bits ws) (E : Held es) {r : ℕ} where
-  pub side_less : Carried word_bits es (number word_bits (drop word_count ws)) (take word_count ws) (length (take word_count ws)) r
+  pub side_left : Carried word_bits es (number word_bits (drop word_count ws)) (take word_count ws) (length (take word_count ws)) r
       → es ≡ words_of (whole_of (take word_count ws) -ℤ pos (number word_bits (drop word_count ws)))
-  side_less C =
+  side_left C =
       let h : Held (take word_count ws) = record { long = length-take-le word_count ws (omega arith); below = digits_take word_bits word_count ws below } in
       falls h E C
+
+  -- the same where the other side is cut to its words, of which there are no more
+  pub side_less : Carried word_bits es (number word_bits (take word_count (drop word_count ws))) (take word_count ws) (length (take word_count ws)) r
+      → es ≡ words_of (whole_of (take word_count ws) -ℤ pos (number word_bits (drop word_count ws)))
+  side_less C = side_left (rw (take_all word_count (drop word_count ws) (omega (arith, length-drop word_count ws))) at C)

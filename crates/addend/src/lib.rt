@@ -21,7 +21,7 @@ pub fn add<F: Floating>(words: &mut [u64], p: F::Pattern)
     requires { (length words.old ≡ word_count) × T (finite (of_bits F.width.format (F.pattern p))) }
     ensures { words.new ≡ words_of (whole_of words.old +ℤ units_of F.width (F.pattern p)) }
 {
-    let at = place::<F>(p);
+    let at = place::<F>(F::word(p));
     if F::word(p) < F::SIGN {
         add_at(words, at.word, at.lo, at.hi);
     } else {

@@ -14,13 +14,13 @@ pub struct Shift {
     pub by: u64,
 }
 
-// The magnitude of a finite number in units. A NaN or an infinity has none.
-pub fn scaled<F: Floating>(p: F::Pattern) -> Shift
-    requires { T (finite (of_bits F.width.format (F.pattern p))) }
-    ensures { Scaled F.width.format (F.pattern p) result.significand result.by }
+// The magnitude of a finite number in units. A NaN or an infinity has none. A pattern is looked at in a word.
+pub fn scaled<F: Floating>(p: u64) -> Shift
+    requires { T (finite (of_bits F.width.format p)) }
+    ensures { Scaled F.width.format p result.significand result.by }
 {
     let least_normal = 1u64 << F::DIGITS;
-    let magnitude = F::word(F::unsigned(p));
+    let magnitude = p % F::SIGN;
     let field = magnitude / least_normal;
     let digits = magnitude % least_normal;
     if field == 0 {
@@ -56,9 +56,9 @@ pub fn shifted(m: u64, e: u64) -> Pair
 }
 
 // The words of a finite number's magnitude. What is required is as above.
-pub fn place<F: Floating>(p: F::Pattern) -> Pair
-    requires { T (finite (of_bits F.width.format (F.pattern p))) }
-    ensures { AtWord F.width.format (F.pattern p) result.word result.lo result.hi }
+pub fn place<F: Floating>(p: u64) -> Pair
+    requires { T (finite (of_bits F.width.format p)) }
+    ensures { AtWord F.width.format p result.word result.lo result.hi }
 {
     let number = scaled::<F>(p);
     shifted(number.significand, number.by)

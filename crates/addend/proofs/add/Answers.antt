@@ -10,12 +10,12 @@ pub returns-then-word-SIGN : goal.returns-then-word-SIGN
 returns-then-word-SIGN g c =
     let h : g.F.Floating.pattern c.args.p < top g.F.Floating.width.format =
     omega (arith, (figures g.met.F.Floating.known).sign, c.SIGN.ensures, c.word.ensures.word, c.if-word-SIGN.true) in
-    rw (units_plus g.F.Floating.width c.requires.1 c.place-at.ensures h)
+    rw (units_plus g.F.Floating.width c.requires.1 (rw c.word.ensures.word at c.place-at.ensures) h)
     (rises (held c.requires.0 c.slice_known-1.given) (held (c.add_at.auto.words ∙ c.requires.0) c.type_inv.words) c.add_at.ensures)
 
 pub returns-else-word-SIGN : goal.returns-else-word-SIGN
 returns-else-word-SIGN g c =
     let h : top g.F.Floating.width.format ≤ g.F.Floating.pattern c.args.p =
     omega (arith, (figures g.met.F.Floating.known).sign, c.SIGN.ensures, c.word.ensures.word, c.if-word-SIGN.false) in
-    rw (units_minus g.F.Floating.width c.requires.1 c.place-at.ensures h)
+    rw (units_minus g.F.Floating.width c.requires.1 (rw c.word.ensures.word at c.place-at.ensures) h)
     (falls (held c.requires.0 c.slice_known-1.given) (held (c.sub_at.auto.words ∙ c.requires.0) c.type_inv.words) c.sub_at.ensures)

@@ -29,9 +29,9 @@ some binary64 = omega arith
 pub returns-then-field-eq0 : goal.returns-then-field-eq0
 returns-then-field-eq0 g c =
     let f = g.F.Floating.width.format in
-    let p = g.F.Floating.pattern c.args.p in
+    let p = c.args.p in
     let w : 1 * 2 ^ c.DIGITS.result % 2 ^ 64 ≡ hid f = rw c.DIGITS.ensures (figures g.met.F.Floating.known).weight in
-    let e : c.word-magnitude.result ≡ p % top f = c.word-magnitude.ensures.word ∙ c.unsigned.ensures in
+    let e : c.SIGN.result ≡ top f = c.SIGN.ensures ∙ (figures g.met.F.Floating.known).sign in
     let z : p % top f / hid f ≡ 0 = rw (w, e) at c.if-field-eq0.true in
     let m = pattern_subnormal f p c.requires z in
     let s : Scaled f p (p % top f % hid f) 0 =
@@ -41,9 +41,9 @@ returns-then-field-eq0 g c =
 pub returns : goal.returns
 returns g c =
     let f = g.F.Floating.width.format in
-    let p = g.F.Floating.pattern c.args.p in
+    let p = c.args.p in
     let w : 1 * 2 ^ c.DIGITS.result % 2 ^ 64 ≡ hid f = rw c.DIGITS.ensures (figures g.met.F.Floating.known).weight in
-    let e : c.word-magnitude.result ≡ p % top f = c.word-magnitude.ensures.word ∙ c.unsigned.ensures in
+    let e : c.SIGN.result ≡ top f = c.SIGN.ensures ∙ (figures g.met.F.Floating.known).sign in
     let h : p % top f < ones f * hid f = ltb→lt (p % top f) (ones f * hid f) (rw (pattern_finite f p) at c.requires) in
     let z : p % top f / hid f ≡ 0 → ⊥ = rw (w, e) at c.if-field-eq0.false in
     let m = pattern_normal f p c.requires (omega (arith, z)) in
