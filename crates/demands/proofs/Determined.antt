@@ -1,5 +1,5 @@
--- Rule K1: any two results that meet a public contract are equal, the answer and what every lent area holds afterwards. Each contract is one equation with
--- the result on one side; the hypotheses here are the contracts. Assumes nothing.
+-- Rule K1, of the definitions' answers: any two that meet a public contract are equal, the answer and what every lent area holds afterwards. Each contract is
+-- one equation with the answer on one side; Results says the same of what the code gives, and there the hypotheses are the contracts. Assumes nothing.
 use Rattle.std.specs.Prelude.{◌≡◌, List, ℕ, Float}
 use Rattle.kinds.specs.Limits.{doubles}
 use Rattle.kinds.specs.Outcome.{outcome}

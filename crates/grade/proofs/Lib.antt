@@ -13,3 +13,4 @@ pub mod Reordered
 pub mod SideLaws
 pub mod TableLaws
 pub mod GradedSame
+pub mod Results

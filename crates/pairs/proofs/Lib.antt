@@ -12,3 +12,4 @@ pub mod TotalLaws
 pub mod WriteLaws
 pub mod ZipLaws
 pub mod PairedSame
+pub mod Results

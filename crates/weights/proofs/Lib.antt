@@ -10,3 +10,4 @@ pub mod ShareLaws
 pub mod TableLaws
 pub mod WeightLaws
 pub mod HandedSame
+pub mod Results
