@@ -1,5 +1,5 @@
 -- `exponent::power` meets its contract: a power of two is one digit of its pattern, and from the stored digits on a field over no digit. Assumes nothing.
-use mathlib.Core.Path.{◌∙◌}
+use mathlib.Core.Path.{◌∙◌, sym}
 use Prim.Native.Nat.{◌-◌}
 use native.Mathlib.Omega.{arith}
 use Rattle.ieee.proofs.Pattern.{pattern_no_nan}
@@ -22,7 +22,7 @@ returns-then-k-digits g c =
 
 pub from_word-requires-2 : goal.from_word-requires-2
 from_word-requires-2 g c = let H = high_word g.met.F.Floating.known c.args.k (omega (arith, c.DIGITS-digits.ensures)) c.requires in rw
-    (c.from.ensures, c.DIGITS-digits.ensures, H.word) H.fits
+    (c.from.ensures, c.DIGITS-digits.ensures) (rw (sym H.word) at H.fits)
 
 pub from_bits-requires-2 : goal.from_bits-requires-2
 from_bits-requires-2 g c =

@@ -4,7 +4,7 @@ use Rattle.std.proofs.Common.{◌∙◌, sym, ap, arith}
 use Rattle.std.specs.List.{take-map, drop-map}
 use Rattle.std.proofs.Math.Seq.{take_all}
 use Rattle.std.proofs.Math.ListN.{length-drop}
-use Rattle.judge.specs.GreatestLaws.{greatest, greatest_quarters}
+use Rattle.judge.specs.GreatestLaws.{greatest, greatest_of_four, greatest_quarters}
 use Rattle.judge.proofs.greatest.greatest.Goals as goal
 
 pub returns : goal.returns
@@ -25,15 +25,10 @@ returns g c =
     let left : read (take (length xs - 4 * k) (drop (4 * k) xs)) ≡ drop (4 * k) ps =
     each (take (length xs - 4 * k) (drop (4 * k) xs))
     ∙ rw (take_all (length xs - 4 * k) (drop (4 * k) xs) (rw (length-drop (4 * k) xs) (omega arith))) (sym (drop-map p (4 * k) xs)) in
+    let part = λ (n m : ℕ). read (take n (drop m xs)) in
+    let quarters : greatest_of_four W (part (k - 0) 0) (part (2 * k - k) k) (part (3 * k - 2 * k) (2 * k)) (part (4 * k - 3 * k) (3 * k))
+    ≡ greatest_of_four W (take k ps) (take k (drop k ps)) (take k (drop (2 * k) ps)) (take k (drop (3 * k) ps)) =
+    rw (quarter (k - 0) 0 first, quarter (2 * k - k) k second, quarter (3 * k - 2 * k) (2 * k) third, quarter (4 * k - 3 * k) (3 * k) fourth) in
     c.with.ensures
-    ∙ rw (
-      c.of_four-four.ensures,
-      quarter (k - 0) 0 first,
-      quarter (2 * k - k) k second,
-      quarter (3 * k - 2 * k) (2 * k) third,
-      quarter
-          (4 * k - 3 * k) (3 * k) fourth,
-      left,
-    )
-    (greatest_quarters W k ps)
+    ∙ rw (c.of_four-four.ensures ∙ quarters, left) (greatest_quarters W k ps)
     ∙ ap (greatest W) (sym (each xs))

@@ -1,6 +1,7 @@
 -- `judge::greatest::with` meets its contract: the pattern kept is the greatest of the one handed in and the places passed. Assumes nothing.
-use Rattle.std.specs.Prelude.{◌<◌, map, take, get_or, length}
+use Rattle.std.specs.Prelude.{◌≡◌, ℕ, ◌%◌, ◌<◌, map, take, get_or, length}
 use Rattle.std.proofs.Common.{arith, ◌∙◌, ap}
+use Rattle.std.specs.Float.Ieee.{top}
 use Rattle.std.proofs.Math.Seq.{take_all}
 use Rattle.std.proofs.lemmas.List.{length-map}
 use Rattle.lists.proofs.Front.{take_next}
@@ -20,7 +21,8 @@ loop-p-preserved g c =
     let h : i < length ps = omega (arith, length-map c.args.list.now p) in
     let x = read_at p c.args.list.now i c.p-item.result 0 c.p-item.is (omega arith) in
     let e = ap (greatest W) (take_next 0 ps i h) ∙ greatest_next W (take i ps) (get_or ps i 0) in
-    rw (c.larger-most.ensures, c.unsigned.ensures, x) (omega (arith, c.loop-p.invariant, e))
+    let m : p c.unsigned.result ≡ get_or ps i 0 % top W.format = c.unsigned.ensures ∙ ap (λ (q : ℕ). q % top W.format) x in
+    omega (arith, c.larger-most.ensures, m, c.loop-p.invariant, e)
 
 pub returns : goal.returns
 returns g c =

@@ -25,4 +25,4 @@ loop-i-preserved c =
     digits_take 8 8 rest (digits_drop 8 (8 * i) bs (record { below = λ j. omega (arith, c.type_inv.bytes j) })) in
     let read : c.from_le_bytes.result ≡ little (bytes_at bs (8 * i) 8) =
     c.from_le_bytes.ensures ∙ ap (from_le_bytes w64) chunk ∙ from_kit _ bytes long in
-    rw (read, c.loop-i.invariant, eights_more little i bs) (store_front 0 (unpacked i bs) ns i (eights_length little i bs) (omega arith) _)
+    rw (c.loop-i.invariant, eights_more little i bs, ← read) (store_front 0 (unpacked i bs) ns i (eights_length little i bs) (omega arith) _)

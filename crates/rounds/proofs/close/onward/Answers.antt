@@ -2,6 +2,7 @@
 use Rattle.std.specs.Prelude.{◌≡◌, true, false}
 use Rattle.std.proofs.Common.{arith, rules, sym, ◌∙◌}
 use Rattle.std.specs.Float.Ieee.{eq}
+use Rattle.ieee.specs.Units.{magnitude}
 use Rattle.extract.specs.Extract.{plus_zero}
 use Rattle.kinds.specs.Answers.{as_state}
 use Rattle.kinds.proofs.KnownLaws.{figures}
@@ -16,7 +17,7 @@ returns-then-eq g c xs =
     let W = g.F.Floating.width in
     let s = as_state g.F.Floating.value c.args.s in
     let none : eq (tau1_of W s) (plus_zero W.format) ≡ true = search rules in
-    c.from_mu.ensures ∙ rw c.zero-then-eq.ensures (sym (closed_zero W _ s xs none))
+    c.from_mu.ensures ∙ (rw (sym c.zero-then-eq.ensures) at (sym (closed_zero W (magnitude W.format s.largest) s xs none)))
 
 pub exponent-m-requires : goal.exponent-m-requires
 exponent-m-requires g c = omega (arith, c.requires.0.counts.few, (figures g.met.F.Floating.known).few)
@@ -38,5 +39,5 @@ returns g c xs =
     let s = as_state g.F.Floating.value c.args.s in
     let some : eq (tau1_of W s) (plus_zero W.format) ≡ false = search rules in
     let tau1 = g.met.F.Floating.added _ _ _ c.add-tau1.ensures in
-    rw (c.begin.ensures, c.scaled.ensures, c.exponent-m.ensures, tau1)
-    (sym (closed_further W _ s xs some (sym (ends_further W s some) ∙ c.requires.1)))
+    rw (c.begin.ensures, c.scaled.ensures, c.exponent-m.ensures)
+    (rw (sym tau1) at (sym (closed_further W (magnitude W.format s.largest) s xs some (sym (ends_further W s some) ∙ c.requires.1))))
